@@ -65,6 +65,7 @@ are_events_read T b a ks read same right =
     subst (λ (ls : List Part). AreEventsOf (map contents_of ls) (taken_events T a)) (sym (read ∙ ap (λ (x : State). x.parts) same))
     (are_events T a right)
 
+-- the events of the taken keys of a trace have sequences of their own
 pub own_sequences : (T : Trace) (a : State) → IsTrace T → HaveOwnSequences (taken_events T a)
 own_sequences T a trace = sequences_stay_apart T trace (keys a)
 
@@ -101,6 +102,7 @@ no_event_of_base_0 T a right process e h of_zero =
     let fit = event_fits (r.0).version 0 (r.0).events fits.events e r.3 in
     kinds_open_no_base_0 e.kind e.handle e.object e.tag of_zero.kind fit.fields of_zero.handle
 
+-- no event of the taken keys opens or closes base handle 0, so none is its latest
 pub latest_of_base_0 : (T : Trace) (a : State) → IsRight a T → (process handle : ℕ) (r : Option (Bor Event)) → base_of handle ≡ 0 → IsNone r
     → LatestIs (Contains (taken_events T a)) process (base_of handle) (option_copied r)
 latest_of_base_0 T a right process handle None zero_is none =

@@ -57,6 +57,7 @@ module _ {S E : Type 0} (a b d : State) (n : ℕ) (was : AreCompacted a b n) whe
   standing_after (Ok value) standing = λ T right. standing T (was.right T right)
   standing_after (Err fault) standing = tt
 
+  -- a compaction of what the first processors' compaction left is one of the state before both
   pub compacted_after : (result : Result S E) → Compacts b d result → Compacts a d result
   compacted_after result now = record {
     keys = λ p m. (λ h. (was.keys p m).0 ((now.keys p m).0 h), λ h. (now.keys p m).1 ((was.keys p m).1 h));

@@ -1,4 +1,4 @@
--- The runs of all processors folded, one after another.
+-- The runs of all processors can be folded one after another, and then no front can move.
 use Rattle.std.proofs.Common.{◌≡◌, ℕ, ◌+◌, ◌*◌, ◌<◌, ◌≤◌, List, ◌++◌, length, take, drop, slice_set, append-nil, refl, sym, ap, ◌∙◌}
 use Rattle.std.proofs.Common.{subst, arith, inl, inr}
 use Rattle.std.specs.Prelude.{Contains, ◌↔◌}
@@ -57,6 +57,7 @@ pub record AreCompacted (a b : State) (n : ℕ) : Type 0 where
   pub number : number_taken b ≡ number_taken a
   pub least : (p : ℕ) → p < n → HasTaken b p (front_at b.taken p) → ⊥
 
+-- before the first processor, the state is compacted as it is
 pub AreCompacted-none : (a : State) → IsState a → AreCompacted a a 0
 AreCompacted-none a is = record {
   state = is;
@@ -74,6 +75,7 @@ AreCompacted-none a is = record {
 settled_least : (q : Numbers) → (Has q (reach_of q) → ⊥) → Has (settled q) (settled q).front → ⊥
 settled_least q absent h = absent ((Has-settled q (reach_of q)).0 h)
 
+-- with the next processor's run folded, one processor more is compacted
 pub AreCompacted-more : (a b d : State) (n : ℕ) → AreCompacted a b n → n < b.processors → IsCompactedAt b d n → AreCompacted a d (n + 1)
 AreCompacted-more a b d n old lt f = record {
   state = IsState-compacted b d n old.state lt f;
@@ -117,5 +119,6 @@ fronts_are_least a b n c le p =
           subst (λ (q : Numbers). Has q q.front → ⊥) (sym (numbers_at-past b.taken p out)) (Has-no_numbers 0)
     ]
 
+-- once all processors are compacted, a state that is right about a trace stands
 pub IsStanding-compacted : (a b : State) (n : ℕ) → AreCompacted a b n → a.processors ≤ n → (T : Trace) → IsRight a T → IsStanding b T
 IsStanding-compacted a b n c le T right = record { right = c.right T right; least = fronts_are_least a b n c le }

@@ -1,4 +1,4 @@
--- How many segments are taken after a step.
+-- A take of a new segment takes one segment more, and a compaction takes as many as there were.
 use Rattle.std.proofs.Common.{◌≡◌, ℕ, suc, ◌+◌, ◌-◌, ◌<◌, List, [], ◌∷◌, length, sum_by, refl, sym, ap, ◌∙◌, arith}
 use Rattle.std.proofs.lemmas.List.{length-drop}
 use Rattle.std.proofs.lemmas.List.Edits.{length-insert}
@@ -22,6 +22,7 @@ size-with_loose q n =
     let len = length-insert q.loose (gap_of n q.loose) n (gap_within n q.loose) in
     omega (arith, len)
 
+-- with a new segment held, one segment more is taken
 pub number-with_segment : (a : State) (s : Content) → IsState a → s.processor < a.processors
     → number_taken (with_segment a s) ≡ number_taken a + 1
 number-with_segment a s is lt =
@@ -42,6 +43,7 @@ size-settled id count p q k is =
     ap length (sym (settled-drop q is.proper)) ∙ length-drop (reach_of q - q.front) q.loose in
     omega (arith, ge, within, same, len, rest)
 
+-- folding a processor's run leaves the number of taken segments as it is
 pub number-compacted : (a b : State) (p : ℕ) → IsState a → p < a.processors → IsCompactedAt a b p → number_taken b ≡ number_taken a
 number-compacted a b p is lt f =
     let q : Numbers = numbers_at a.taken p in

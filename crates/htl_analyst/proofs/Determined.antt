@@ -47,6 +47,7 @@ part_same T a b trace ra rb p q r k l e x y u v = record {
       (subst (λ (z : Numbers). IsFolded l.folded (run_events T p z.front)) (sym e) v.folded);
 }
 
+-- two states that are right about a trace, with the same fronts and loose numbers, are the same
 pub determined : IsDetermined
 determined T a b trace ra rb same =
     let n : a.processors ≡ b.processors = sym ra.processors ∙ rb.processors in

@@ -38,6 +38,7 @@ number_from T a right p (k ∷ ks) same len =
     let all = ap length (events_from T a right p lt) in
     omega (arith, others, own, both, more, sum, all)
 
+-- the events that the parts keep are as many as those of the taken keys
 pub number_kept : (T : Trace) (a : State) → IsRight a T → sum_by events_kept a.parts ≡ length (taken_events T a)
 number_kept T a right =
     number_from T a right 0 a.parts (λ i lt. (let e : i ≡ 0 + i = omega arith in ap (λ (n : ℕ). part_at a.parts n) e))

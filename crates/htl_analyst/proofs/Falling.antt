@@ -1,4 +1,4 @@
--- The least of the last folded sequences: what it says of a trace, and that it never falls.
+-- The least of the last folded sequences says up to which moment a trace is complete, and it never falls.
 use Rattle.std.proofs.Common.{◌≡◌, ℕ, ◌+◌, ◌<◌, ◌≤◌, min, ltb, eqb, sym, ap, ◌∙◌, subst, arith, inl, inr}
 use Rattle.std.specs.Prelude.{Contains}
 use Rattle.std.proofs.lemmas.Bool.{cases_Bool, false≢true, cases_lt, lt-ltb, ltb-true, and_from, and_parts, eqb-true, eq-eqb}
@@ -24,12 +24,14 @@ use Rattle.htl_analyst.proofs.Takes.{of_trace}
 
 -- ---- the least of the first n
 
+-- the number is the least of the first n values of a function
 pub record LeastOf (f : ℕ → ℕ) (n m : ℕ) : Type 0 where
   pub bound : (p : ℕ) → p < n → m ≤ f p
   pub place : ℕ
   pub within : place < n
   pub reached : m ≡ f place
 
+-- the first value is the least of the first one
 pub LeastOf-first : (f : ℕ → ℕ) (m : ℕ) → m ≡ f 0 → LeastOf f 1 m
 LeastOf-first f m e = record {
   bound = λ p lt. (let z : p ≡ 0 = omega (arith, lt) in let g : f p ≡ f 0 = ap f z in omega (arith, g, e));
@@ -38,6 +40,7 @@ LeastOf-first f m e = record {
   reached = e;
 }
 
+-- the lesser of the least so far and the next value is the least of one value more
 pub LeastOf-more : (f : ℕ → ℕ) (n old here new : ℕ) → LeastOf f n old → here ≡ f n → new ≡ min old here → LeastOf f (n + 1) new
 LeastOf-more f n old here new least e is =
     elim (cases_lt here old) [
@@ -59,6 +62,7 @@ LeastOf-more f n old here new least e is =
 
 -- ---- what it says of a trace
 
+-- the least of the kept sequences is that of the last folded sequences of the trace
 pub complete : (T : Trace) (a : State) (n : ℕ) → IsRight a T → IsLeastKept a n → IsLeastLastFolded T a n
 complete T a n right kept = record {
   bound = λ p m lt last.
@@ -79,6 +83,7 @@ below_front T p front x h =
     let both = and_parts (eqb (r.0).processor p) (ltb (r.0).number front) r.2 in
     (r.0, r.1, eqb-true (r.0).processor p both.0, ltb-true (r.0).number front both.1, r.3)
 
+-- no segment that wasn't taken has an event at or below the least of the kept sequences
 pub nothing_missing : (T : Trace) (a : State) (n : ℕ) → IsRight a T → IsLeastKept a n → SequencesRise T.segments → NothingMissing T a n
 nothing_missing T a n right kept rise s h absent e is =
     let fits = at_member Fits T.segments s right.collection.fit h in
@@ -130,6 +135,7 @@ last_rises T p f g n m le x y =
           omega (arith, b, same)
     ]
 
+-- where no front is lower in the second state, the least of the kept sequences isn't either
 pub never_falls : (T : Trace) (a b : State) → IsRight a T → IsRight b T → ((p : ℕ) → front_at a.taken p ≤ front_at b.taken p)
     → NeverFalls a b
 never_falls T a b ra rb rise n m x y =
@@ -142,8 +148,10 @@ never_falls T a b ra rb rise n m x y =
     let r = y.reached in
     omega (arith, low, up, r)
 
+-- from a state to itself the least of the kept sequences doesn't fall
 pub never_falls-same : (T : Trace) (a : State) → IsRight a T → NeverFalls a a
 never_falls-same T a right = never_falls T a a right right (λ p. omega arith)
 
+-- from a state to its merge with another the least of the kept sequences doesn't fall
 pub never_falls-merged : (T : Trace) (a b c : State) → IsRight a T → IsRight c T → IsMerge a b c → NeverFalls a c
 never_falls-merged T a b c ra rc is = never_falls T a c ra rc (λ p. (let f = (is.taken p).front in omega (arith, f)))

@@ -1,4 +1,4 @@
--- The run of one processor folded.
+-- The run of one processor can be folded, which keeps the state right and its keys as they are.
 use Rattle.std.proofs.Common.{◌≡◌, ◌≢◌, ℕ, ◌+◌, ◌-◌, ◌*◌, ◌^◌, ◌<◌, ◌≤◌, List, [], ◌∷◌, ◌++◌, length, length-append, take, drop}
 use Rattle.std.proofs.Common.{sym, ap, ◌∙◌, subst, arith, inl, inr}
 use Rattle.std.specs.Prelude.{Contains, ◌↔◌}
@@ -40,6 +40,7 @@ run_is id count p q k is =
     run_taken p q.front (reach_of q - q.front) k.held (owned_by id count p k.held is.owned)
     (run_reaches q ∙ ap (λ (ns : List ℕ). reach_from q.front ns) (sym is.numbers))
 
+-- no run is longer than the list of held segments
 pub run_within : (id count p : ℕ) (q : Numbers) (k : Part) → IsPart id count p q k → reach_of q - q.front ≤ length k.held
 run_within id count p q k is =
     let r = (run_is id count p q k is).1 in
@@ -96,6 +97,7 @@ module _ (a : State) (p : ℕ) (is : IsState a) (lt : p < a.processors) (folded 
   run : IsRunFrom p q.front (take k hs) × (length (take k hs) ≡ k)
   run = run_is a.trace_id a.processors p q (part_at a.parts p) was
 
+  -- a part without its run, over a fold that is within bounds, belongs to the settled numbers
   pub settled_part : IsWithin (4096 * reach_of q) folded → IsPart a.trace_id a.processors p (settled q) (part (drop k hs) folded)
   settled_part bounded = record {
     proper = IsProper-settled q was.proper;
@@ -104,6 +106,7 @@ module _ (a : State) (p : ℕ) (is : IsState a) (lt : p < a.processors) (folded 
     bounded = bounded;
   }
 
+  -- a state whose front moved to its reach, over a fold that is within bounds, is a state
   pub IsState-settled : IsWithin (4096 * reach_of q) folded → IsState (settled_with a p folded)
   IsState-settled bounded = IsState-updated a p (settled q) (part (drop k hs) folded) is lt (settled_part bounded)
 
@@ -133,6 +136,7 @@ module _ (a : State) (p : ℕ) (is : IsState a) (lt : p < a.processors) (folded 
     none_below : q.front ≡ 0 → run_events T p q.front ≡ []
     none_below e = ap (λ (f : ℕ). run_events T p f) e ∙ run_events-0 p T.segments
 
+    -- what is right about a processor stays so where its run is folded and its front moved
     pub IsRightAt-settled : ((events : List Event) → (q.front ≡ 0 → events ≡ []) → IsFolded (folded_at a.parts p) events
         → IsFolded folded (events ++ run_of a p))
         → IsRightAt T p (settled q) (part (drop k hs) folded)
@@ -165,9 +169,11 @@ module _ (a b : State) (p : ℕ) (is : IsState a) (lt : p < a.processors) (f : I
   bounded : IsWithin (4096 * reach_of (numbers_at a.taken p)) f.folded
   bounded = within_reach a p is lt f.folded f.bounded
 
+  -- a state with one processor's run folded is a state
   pub IsState-compacted : IsState b
   IsState-compacted = subst IsState (sym f.is) (IsState-settled a p is lt f.folded bounded)
 
+  -- a state with one processor's run folded stays right about each trace
   pub IsRight-compacted : (T : Trace) → IsRight a T → IsRight b T
   IsRight-compacted T right = subst (λ (x : State). IsRight x T) (sym f.is) (IsRight-settled a p is lt f.folded T right bounded f.joins)
 
@@ -177,9 +183,11 @@ module _ (a b : State) (p : ℕ) (is : IsState a) (lt : p < a.processors) (f : I
   in_parts : p < length a.parts
   in_parts = let e = is.parts in omega (arith, e)
 
+  -- the numbers of the folded processor are settled
   pub place-compacted : numbers_at b.taken p ≡ settled (numbers_at a.taken p)
   place-compacted = ap (λ (x : State). numbers_at x.taken p) f.is ∙ numbers_at-set_same a.taken p (settled (numbers_at a.taken p)) in_places
 
+  -- the numbers of each other processor stay
   pub place-compacted_other : (r : ℕ) → r ≢ p → numbers_at b.taken r ≡ numbers_at a.taken r
   place-compacted_other r ne =
       ap (λ (x : State). numbers_at x.taken r) f.is ∙ place-set_other a.taken p r (settled (numbers_at a.taken p)) ne
@@ -205,6 +213,7 @@ module _ (a b : State) (p : ℕ) (is : IsState a) (lt : p < a.processors) (f : I
         | inr ne ↦ subst (λ (k : Part). Contains k.held s) (part-compacted_other r ne) h
       ]
 
+  -- folding a run leaves which segments are taken as it is
   pub HasTaken-compacted : (r n : ℕ) → HasTaken b r n ↔ HasTaken a r n
   HasTaken-compacted r n =
       elim (cases_eq r p) [

@@ -1,4 +1,4 @@
--- A state with nothing taken.
+-- A new state has taken nothing, and is right about every collection of its trace id and processor count.
 use Rattle.std.proofs.Common.{◌≡◌, ℕ, ◌<◌, ◌≤◌, eqb, ltb, List, [], ◌∷◌, replicate, get_or, refl, sym}
 use Rattle.std.proofs.Common.{◌∙◌, subst, arith, inl, inr}
 use Rattle.std.proofs.lemmas.List.{get_or_past, length-replicate, get_or-replicate}
@@ -49,6 +49,7 @@ IsPart-no_part id count p = record {
   bounded = record { counts = omega arith; events = omega arith };
 }
 
+-- a new state of 1 to 256 processors is a state
 pub IsState-new : (id n : ℕ) → 0 < n → n ≤ 256 → IsState (new_state id n)
 IsState-new id n some few = record {
   some = some;
@@ -58,6 +59,7 @@ IsState-new id n some few = record {
   each = λ p lt. rw (get_or_any-replicate n p no_numbers, get_or_any-replicate n p no_part) (IsPart-no_part id n p);
 }
 
+-- a new state is right about each collection of its trace id and processor count
 pub IsRight-new : (T : Trace) (id n : ℕ) → 0 < n → n ≤ 256 → IsCollection T → T.id ≡ id → T.processors ≡ n → IsRight (new_state id n) T
 IsRight-new T id n some few collection ei en = record {
   collection = collection;
@@ -71,6 +73,7 @@ IsRight-new T id n some few collection ei en = record {
   });
 }
 
+-- a new state has taken no segment
 pub HasTaken-new : (id n p m : ℕ) → HasTaken (new_state id n) p m → ⊥
 HasTaken-new id n p m h =
     let e : numbers_at (replicate n no_numbers) p ≡ no_numbers = get_or_any-replicate n p no_numbers in

@@ -1,4 +1,4 @@
--- Segments by their keys: in a trace, and in the held list of one processor.
+-- A key has one segment in a trace, and a number has one in the held list of a processor.
 use Rattle.std.proofs.Common.{◌≡◌, ℕ, zero, suc, ◌+◌, ◌<◌, List, [], ◌∷◌, length, map, get_or, refl, sym, ap, ◌∙◌, arith, inl}
 use Rattle.std.proofs.Common.{inr}
 use Rattle.std.specs.Prelude.{Contains}
@@ -10,11 +10,13 @@ use Rattle.htl_taken.specs.Rising.{Rises}
 use Rattle.htl_taken.proofs.Rising.{Rises-member}
 use Rattle.htl_event.proofs.Members.{Contains-nil, Contains-cases, Contains-map, at_member}
 
+-- the number of a segment
 abbrev pub number : Content → ℕ
 number s = s.number
 
 -- ---- in a trace
 
+-- each trace is a collection
 pub collection_of : TracesAreCollections
 collection_of T trace = record { in_order = trace.in_order; fit = trace.fit; same = trace.same }
 
@@ -79,11 +81,13 @@ one_held low high (x ∷ xs) rises s t h k e =
       ]
     ]
 
+-- the number at a place of the list of numbers is that of the segment at this place
 pub number_at : (xs : List Content) (i : ℕ) (d : Content) → i < length xs → get_or (map number xs) i 0 ≡ (get_or xs i d).number
 number_at [] i d lt = absurd (omega arith)
 number_at (x ∷ xs) zero d lt = refl
 number_at (x ∷ xs) (suc i) d lt = number_at xs i d (omega arith)
 
+-- there are as many numbers as segments
 pub length-numbers : (xs : List Content) → length (map number xs) ≡ length xs
 length-numbers [] = refl
 length-numbers (x ∷ xs) = ap suc (length-numbers xs)

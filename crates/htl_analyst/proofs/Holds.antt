@@ -1,4 +1,4 @@
--- What the code of taking and settling makes, in the words of the steps.
+-- What the code of taking and settling makes of a state is what the steps make of it.
 use Rattle.std.proofs.Common.{◌≡◌, ◌≤◌, ◌<◌, ℕ, Bool, true, false, if◌then◌else◌, List, length, slice_set, insert}
 use Rattle.std.proofs.Common.{drop, get_or, Result, Ok, Err, IfOk, is_err, not, refl, sym, ap, ◌∙◌, arith}
 use Rattle.std.proofs.lemmas.Bool.{false≢true}
@@ -34,6 +34,7 @@ gap_inside id count p q k is n =
     let len = length-numbers k.held in
     omega (arith, within, same, len)
 
+-- the loose number put in its gap, with the segment at the same place of the held list, makes the state with the segment
 pub hold_made : (a now : State) (s : Content) (p i n place : ℕ) (read : Part) (held kept more : List Content) (folded : Folded)
     (ts : List Numbers)
     → a ≡ now → p ≡ s.processor → i ≡ p → n ≡ s.number → p < length a.parts → read ≡ get_or a.parts i read → part held folded ≡ read

@@ -1,4 +1,4 @@
--- What was folded of events, put together.
+-- What was folded of two lists of events, put together, is folded of both lists.
 use Rattle.std.proofs.Common.{List, ◌++◌, refl, sym, ◌∙◌}
 use Rattle.htl_event.specs.Events.{Event}
 use Rattle.htl_event.specs.Tallies.{has_stack}

@@ -1,4 +1,4 @@
--- The events of the taken keys, processor by processor: those below the front, and then those of the held segments.
+-- The events of the taken keys are, processor by processor, those below the front, and then those of the held segments.
 use Rattle.std.proofs.Common.{◌≡◌, ℕ, ◌+◌, ◌<◌, ◌≤◌, Bool, true, false, eqb, ltb, List, [], ◌∷◌, ◌++◌, map}
 use Rattle.std.proofs.Common.{eqb-true, eq-eqb, refl, sym, ap, ◌∙◌, subst, arith, inl, inr}
 use Rattle.std.specs.Prelude.{Contains, ◌==◌, nat_lt, if◌then◌else◌, filter}
@@ -44,6 +44,7 @@ any-of_Contains (m ∷ ms) n h =
       | inr there ↦ or_right (eqb m n) (list_any (λ k. k == n) ms) (any-of_Contains ms n there)
     ]
 
+-- a key that passes the test was taken
 pub keys_taken : (a : State) (p n : ℕ) → keys a p n ≡ true → HasTaken a p n
 keys_taken a p n e =
     elim (or_cases (ltb n (front_at a.taken p)) (list_any (λ m. m == n) (loose_at a.taken p)) e) [
@@ -51,6 +52,7 @@ keys_taken a p n e =
       | inr loose ↦ inr (Contains-of_any (loose_at a.taken p) n loose)
     ]
 
+-- a key that was taken passes the test
 pub taken_keys : (a : State) (p n : ℕ) → HasTaken a p n → keys a p n ≡ true
 taken_keys a p n (inl lt) =
     or_left (ltb n (front_at a.taken p)) (list_any (λ m. m == n) (loose_at a.taken p)) (lt-ltb n (front_at a.taken p) lt)
@@ -130,6 +132,7 @@ held_ordered p low high (h ∷ hs) rises owner = (
 
 -- ---- the keys of the processors from p on
 
+-- the keys of a set whose processor is p or a later one
 abbrev pub from_on : ℕ → (ℕ → ℕ → Bool) → ℕ → ℕ → Bool
 from_on p S q n = if nat_lt q p then false else S q n
 
@@ -270,6 +273,7 @@ none_from S p (s ∷ ss) low =
     events_of-skip (from_on p S) s ss (rw (lt-ltb s.processor p (low s (Contains-here s ss))) refl)
     ∙ none_from S p ss (λ t h. low t (Contains-there s ss t h))
 
+-- from the last processor's end on no key is left, so there are no events
 pub events_past : (T : Trace) (a : State) → IsRight a T → (p : ℕ) → a.processors ≤ p → events_of (from_on p (keys a)) T.segments ≡ []
 events_past T a right p le = none_from (keys a) p T.segments (λ s h.
     let fits = (at_member Fits T.segments s right.collection.fit h).processor in

@@ -1,4 +1,4 @@
--- An element put into a list, and parts of lists.
+-- What is so of a list is so with one element put in, and of each part of the list, and what is made of it goes along.
 use Rattle.std.proofs.Common.{◌≡◌, ℕ, zero, suc, ◌≤◌, List, [], ◌∷◌, length, take, drop, map, insert, refl, ap, subst}
 use Rattle.std.proofs.Common.{arith, inl, inr}
 use Rattle.std.specs.Prelude.{Contains}

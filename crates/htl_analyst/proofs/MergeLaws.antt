@@ -1,4 +1,4 @@
--- The laws of merge and of standing states.
+-- Merges commute, associate and change nothing when repeated, and standing states with the same keys are the same.
 use Rattle.std.proofs.Common.{◌≡◌, ℕ, ◌≤◌, length, sym, ◌∙◌, subst, arith, inl, inr}
 use Rattle.std.proofs.lemmas.Bool.{cases_lt}
 use Rattle.htl_segment.specs.Traces.{Trace}

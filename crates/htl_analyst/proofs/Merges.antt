@@ -1,4 +1,4 @@
--- Two states merged.
+-- A merge of two states is a state, is right about their trace, and has the keys of both.
 use Rattle.std.proofs.Common.{◌≡◌, ℕ, ◌<◌, ◌≤◌, ◌*◌, ltb, List, length, map, get_or, refl, sym, ap, ◌∙◌, subst, arith, inl, inr, ◌⊎◌}
 use Rattle.std.specs.Prelude.{Contains, nat_lt, if◌then◌else◌}
 use Rattle.std.specs.List.{AllByRecursion}
@@ -61,6 +61,7 @@ module _ (q r u : Numbers) (k l m : Part) (un : IsUnion q r u) (is : IsMergedPar
   }
 
 module _ (a b c : State) (one : AreOfOne a b) (is : IsMerge a b c) where
+  -- a merge of two states is a state
   pub IsState-merged : IsState a → IsState b → IsState c
   IsState-merged own theirs =
       let n = is.processors in
@@ -80,6 +81,7 @@ module _ (a b c : State) (one : AreOfOne a b) (is : IsMerge a b c) where
             (part_at c.parts p) (is.taken p) (is.each p lt)
             a.trace_id a.processors p (own.each p lt) theirs_at)
 
+  -- a merge of two states that are right about a trace is right about it
   pub IsRight-merged : (T : Trace) → IsRight a T → IsRight b T → IsRight c T
   IsRight-merged T ra rb = record {
     collection = ra.collection;
@@ -94,6 +96,7 @@ module _ (a b c : State) (one : AreOfOne a b) (is : IsMerge a b c) where
         T p (ra.each p (omega (arith, lt, n))) (rb.each p (omega (arith, lt, n, e)));
   }
 
+-- the keys of a merge are those of both states
 pub HasTaken-merged : UnitesKeys
 HasTaken-merged a b c is p = Has-union (numbers_at a.taken p) (numbers_at b.taken p) (numbers_at c.taken p) (is.taken p)
 
@@ -126,6 +129,7 @@ IsMerge-made a b taken theirs incoming new places union held greater len made = 
 
 -- ---- refusals
 
+-- two states that are right about one trace have one trace id and one processor count
 pub of_one_trace : (T : Trace) (a b : State) → IsRight a T → IsRight b T → AreOfOne a b
 of_one_trace T a b ra rb = record { trace_id = sym ra.id ∙ rb.id; processors = sym ra.processors ∙ rb.processors }
 
@@ -144,6 +148,7 @@ HoldTwo-within a b is p n two =
           two.here))
     ]
 
+-- a merge of two states that are right about one trace is refused for want of memory alone
 pub merge_lawful : (T : Trace) (a b : State) → IsRight a T → IsRight b T → (fault : MergeFault) → MergeRefused a b fault → fault ≡ NoMemory
 merge_lawful T a b ra rb OtherTrace r = absurd (r (of_one_trace T a b ra rb).trace_id)
 merge_lawful T a b ra rb OtherProcessors r = absurd (r.1 (of_one_trace T a b ra rb).processors)

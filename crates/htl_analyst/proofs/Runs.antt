@@ -1,4 +1,4 @@
--- A run of segments that goes on from a front without a gap.
+-- A run of segments that goes on from a front without a gap ends at the reach.
 use Rattle.std.proofs.Common.{◌≡◌, ℕ, zero, suc, ◌+◌, ◌<◌, ◌≤◌, List, [], ◌∷◌, ◌++◌, length, take, map, refl, sym, ap, ◌∙◌, subst}
 use Rattle.std.proofs.Common.{arith, append_assoc, append-nil, inl, inr}
 use Rattle.std.specs.Prelude.{Contains}

@@ -1,4 +1,4 @@
--- Which segments a state has taken after each step, and that their events are all that it answers about.
+-- After each step a state has taken exactly the segments that reached it, and it answers about their events alone.
 use Rattle.std.proofs.Common.{◌≡◌, ℕ, Bool, true, List, [], ◌∷◌, ◌++◌, refl, sym, ap, ◌∙◌, subst, inl, inr, ◌⊎◌}
 use Rattle.std.specs.Prelude.{Contains, ◌↔◌, filter}
 use Rattle.std.specs.List.{AllByRecursion}

@@ -1,4 +1,4 @@
--- A segment taken.
+-- A segment can be taken, which keeps the state right and adds its key.
 use Rattle.std.proofs.Common.{◌≡◌, ℕ, ◌<◌, ◌≤◌, List, length, map, insert, refl, sym, ap, ◌∙◌, subst, arith, inl, inr, ◌⊎◌}
 use Rattle.std.specs.Prelude.{Contains, ◌↔◌}
 use Rattle.std.proofs.lemmas.Bool.{cases_eq}
@@ -26,6 +26,7 @@ use Rattle.htl_taken.proofs.NumberSets.{numbers_at-set_same}
 
 module _ (a : State) (s : Content) (is : IsState a) (fits : Fits s) (of_state : IsOfState a s) (new : HasTaken a s.processor s.number
     → ⊥) where
+  -- the segment's processor is one of the state's
   pub here : s.processor < a.processors
   here = let lt = fits.processor in let e = of_state.processors in omega (arith, lt, e)
 
@@ -55,9 +56,11 @@ module _ (a : State) (s : Content) (is : IsState a) (fits : Fits s) (of_state : 
         not_below : (s.number < q.front → ⊥) → q.front ≤ s.number
         not_below never = omega (arith, never)
 
+  -- a state with a new segment held is a state
   pub IsState-with_segment : IsState (with_segment a s)
   IsState-with_segment = IsState-updated a s.processor (with_loose q s.number) with_held is here part_with
 
+  -- a state that holds a new segment of a trace, about which it is right, stays right about it
   pub IsRight-with_segment : (T : Trace) → IsRight a T → Contains T.segments s → IsRight (with_segment a s) T
   IsRight-with_segment T right in_trace =
       let old = right.each s.processor here in
@@ -98,11 +101,13 @@ module _ (a : State) (s : Content) (is : IsState a) (fits : Fits s) (of_state : 
 
 -- ---- a segment of a trace that the state is right about
 
+-- a segment of a trace that the state is right about has the state's trace id and processor count
 pub of_trace : (a : State) (T : Trace) → IsRight a T → (s : Content) → Contains T.segments s → IsOfState a s
 of_trace a T right s in_trace =
     let same = at_member (λ (x : Content). (x.trace_id ≡ T.id) × (x.processors ≡ T.processors)) T.segments s right.collection.same in_trace in
     record { trace_id = same.0 ∙ right.id; processors = same.1 ∙ right.processors }
 
+-- a segment of a trace that the state is right about fits the format
 pub fits_of_trace : (a : State) (T : Trace) → IsRight a T → (s : Content) → Contains T.segments s → Fits s
 fits_of_trace a T right s in_trace = at_member Fits T.segments s right.collection.fit in_trace
 
@@ -119,12 +124,14 @@ agrees a T right s in_trace other =
 
 -- ---- what is held
 
+-- a held segment's number is at or above the front, and leaves room for a front above it
 pub held_above : (id count p : ℕ) (q : Numbers) (k : Part) → IsPart id count p q k → (s : Content) → Contains k.held s
     → (q.front ≤ s.number) × (s.number < MAX_FRONT)
 held_above id count p q k is s h =
     Rises-member q.front MAX_FRONT q.loose s.number is.proper.rises
     (subst (λ (ns : List ℕ). Contains ns s.number) is.numbers (Contains-map number k.held s h))
 
+-- two held segments with one number are one
 pub held_once : (id count p : ℕ) (q : Numbers) (k : Part) → IsPart id count p q k → (s t : Content) → Contains k.held s
     → Contains k.held t → s.number ≡ t.number → s ≡ t
 held_once id count p q k is s t =
@@ -137,6 +144,7 @@ pub not_loose_not_held : (id count p : ℕ) (q : Numbers) (k : Part) → IsPart 
 not_loose_not_held id count p q k is n absent s h e =
     absent (subst (λ (ns : List ℕ). Contains ns n) is.numbers (subst (Contains (map number k.held)) e (Contains-map number k.held s h)))
 
+-- no more segments are held than the greatest front
 pub held_few : (id count p : ℕ) (q : Numbers) (k : Part) → IsPart id count p q k → length k.held ≤ MAX_FRONT
 held_few id count p q k is =
     let long = length-Rises q.front MAX_FRONT q.loose is.proper.rises in
@@ -146,6 +154,7 @@ held_few id count p q k is =
 
 -- ---- refusals and repeats
 
+-- taking a segment of a trace that the state is right about is refused for want of memory alone
 pub take_lawful : (a : State) (T : Trace) → IsRight a T → (s : Content) → Contains T.segments s → (fault : TakeFault)
     → TakeRefused a s fault
     → fault ≡ NoMemory
@@ -154,6 +163,7 @@ take_lawful a T right s in_trace OtherProcessors r = absurd (r.1 (of_trace a T r
 take_lawful a T right s in_trace (Conflict p n) r = absurd (agrees a T right s in_trace r.3)
 take_lawful a T right s in_trace NoMemory r = refl
 
+-- a repeat of a segment that was taken adds no key
 pub repeat_keys : (a : State) (s : Content) → HasTaken a s.processor s.number → (p n : ℕ)
     → HasTaken a p n ↔ (HasTaken a p n ⊎ ((p ≡ s.processor) × (n ≡ s.number)))
 repeat_keys a s taken p n = (

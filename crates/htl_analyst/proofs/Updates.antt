@@ -1,4 +1,4 @@
--- One processor's place and part exchanged.
+-- Where the place and the part of one processor are exchanged, those of each other stay.
 use Rattle.std.proofs.Common.{◌≡◌, ◌≢◌, ℕ, ◌<◌, List, length, slice_set, sym, ◌∙◌, subst, arith, inl, inr, length-set}
 use Rattle.std.proofs.Common.{get_or-set_same, get_or-set_other}
 use Rattle.std.proofs.lemmas.Bool.{cases_eq}
@@ -9,12 +9,15 @@ use Rattle.htl_analyst.specs.Right.{IsPart, IsState, IsRightAt, IsRight}
 use Rattle.htl_analyst.specs.Steps.{updated}
 use Rattle.htl_taken.proofs.NumberSets.{numbers_at-set_same}
 
+-- where one processor's numbers are set, those of each other stay
 pub place-set_other : (ps : List Numbers) (p r : ℕ) (q : Numbers) → r ≢ p → numbers_at (slice_set ps p q) r ≡ numbers_at ps r
 place-set_other ps p r q ne = get_or-set_other ps p r q no_numbers ne
 
+-- where a processor's part is set, that part is there
 pub part-set_same : (ls : List Part) (p : ℕ) (k : Part) → p < length ls → part_at (slice_set ls p k) p ≡ k
 part-set_same ls p k lt = get_or-set_same ls p k no_part lt
 
+-- where one processor's part is set, that of each other stays
 pub part-set_other : (ls : List Part) (p r : ℕ) (k : Part) → r ≢ p → part_at (slice_set ls p k) r ≡ part_at ls r
 part-set_other ls p r k ne = get_or-set_other ls p r k no_part ne
 
@@ -35,6 +38,7 @@ module _ (a : State) (p : ℕ) (q : Numbers) (k : Part) (is : IsState a) (lt : p
         | inr ne ↦ rw (place-set_other a.taken p r q ne, part-set_other a.parts p r k ne) (old r in_r)
       ]
 
+  -- a state with a proper place and part of one processor put in is a state
   pub IsState-updated : IsPart a.trace_id a.processors p q k → IsState (updated a p q k)
   IsState-updated here = record {
     some = is.some;
@@ -44,6 +48,7 @@ module _ (a : State) (p : ℕ) (q : Numbers) (k : Part) (is : IsState a) (lt : p
     each = each_part (IsPart a.trace_id a.processors) is.each here;
   }
 
+  -- a state that is right about a trace stays so with a place and a part of one processor that are right about it
   pub IsRight-updated : (T : Trace) → IsRight a T → IsPart a.trace_id a.processors p q k → IsRightAt T p q k → IsRight (updated a p q k) T
   IsRight-updated T right sound here = record {
     collection = right.collection;

@@ -33,12 +33,14 @@ can_fold id count p q k is = record {
 
 -- the run and the fold that were read of the state's fields are those of the state
 module _ {old : State} (a : State) (p reach front : ℕ) where
+  -- the distance of a reach and a front that were read of the state is the length of the run
   pub run_read : old ≡ a → reach ≡ reach_of (numbers_at old.taken p) → front ≡ front_at old.taken p → reach - front ≡ run_length a p
   run_read is r f =
       ap (λ (n : ℕ). n - front) r ∙ ap (λ (n : ℕ). reach_of (numbers_at old.taken p) - n) f
       ∙ ap (λ (x : State). run_length x p) is
 
 module _ {old : State} (a : State) (p reach front : ℕ) (k : Part) (d : Folded) where
+  -- a fold of what was read of the state is the fold of the processor's run
   pub fold_read : old ≡ a → reach ≡ reach_of (numbers_at old.taken p) → front ≡ front_at old.taken p → k ≡ part_at a.parts p
       → IsFoldedWith front (reach - front) k d → IsFoldedWith (front_at a.taken p) (run_length a p) (part_at a.parts p) d
   fold_read is r f ek w =
@@ -122,6 +124,7 @@ module _ (a b : State) (is : IsState a) (f : IsFurther a b) where
             rw (more.1, more.2.is) (settled_part a p is lt d (within_reach a p is lt d more.2.with_run.bounded))
       ]
 
+  -- a state some of whose runs were folded and whose fronts moved over them is a state
   pub IsState-further : IsState b
   IsState-further =
       let same = f.processors in

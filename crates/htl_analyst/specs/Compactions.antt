@@ -8,7 +8,7 @@ use Rattle.htl_analyst.specs.Keys.{HasTaken, number_taken}
 use Rattle.htl_analyst.specs.Right.{IsRight, IsStanding}
 use Rattle.htl_analyst.specs.Moments.{NeverFalls}
 
--- An analyst is compacted, and this comes of it. After refused memory some fronts may have moved.
+-- What comes of compacting an analyst. After refused memory some fronts may have moved.
 pub record Compacts {S E : Type 0} (old new : State) (result : Result S E) : Type 0 where
   pub keys : (p n : ℕ) → HasTaken new p n ↔ HasTaken old p n
   -- Each front is the least number that wasn't taken.

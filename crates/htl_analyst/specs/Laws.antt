@@ -41,17 +41,17 @@ abbrev pub AreEqualOnceCompacted : Type 0
 AreEqualOnceCompacted = (T : Trace) (a b : State) → IsTrace T → IsStanding a T → IsStanding b T
     → KeysAreIn a b → KeysAreIn b a → IsSame a b
 
--- states that the same segments reached have the same events, whose answers every answer is
+-- states that took the same segments have the same events, and every answer is about the state's events
 abbrev pub Agree : Type 0
 Agree = (T : Trace) (a b : State) → IsRight a T → IsRight b T → KeysAreIn a b → KeysAreIn b a
     → events_of (keys a) T.segments ≡ events_of (keys b) T.segments
 
--- the keys of a merge are those of both
+-- a merge has taken what either state has taken
 abbrev pub UnitesKeys : Type 0
 UnitesKeys = (a b c : State) → IsMerge a b c → (p n : ℕ) → HasTaken c p n ↔ (HasTaken a p n ⊎ HasTaken b p n)
 
--- No later take or merge brings an event at or below the moment up to which a state is complete: what any other
--- state has taken of the trace there, the state has taken.
+-- No later take or merge brings an event at or below the moment up to which a state is complete: each such event that any
+-- other state has taken, this state has taken.
 abbrev pub NothingComesLater : Type 0
 NothingComesLater = (T : Trace) (a b : State) (n : ℕ) → IsRight a T → SequencesRise T.segments → IsLeastKept a n
     → (e : Event) → Contains (taken_events T b) e → e.sequence ≤ n → Contains (taken_events T a) e

@@ -32,6 +32,6 @@ abbrev pub NothingMissing : Trace → State → ℕ → Type 0
 NothingMissing T a n =
     (s : Content) → Contains T.segments s → (HasTaken a s.processor s.number → ⊥) → (e : Event) → Contains s.events e → n < e.sequence
 
--- the least of the kept sequences doesn't fall from the one state to the other
+-- the least of the kept sequences is no lower in the second state than in the first
 abbrev pub NeverFalls : State → State → Type 0
 NeverFalls a b = (n m : ℕ) → IsLeastKept a n → IsLeastKept b m → n ≤ m

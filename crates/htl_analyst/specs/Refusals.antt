@@ -21,7 +21,7 @@ pub record IsOfState (a : State) (s : Content) : Type 0 where
   pub trace_id : s.trace_id ≡ a.trace_id
   pub processors : s.processors ≡ a.processors
 
--- Why a segment isn't taken: the first cause in this order. Memory is asked for where the key is new alone.
+-- Why a segment isn't taken: the first cause in this order. Memory is asked for only where the key is new.
 abbrev pub TakeRefused : State → Content → TakeFault → Type 0
 TakeRefused a s takes.OtherTrace = s.trace_id ≢ a.trace_id
 TakeRefused a s takes.OtherProcessors = (s.trace_id ≡ a.trace_id) × (s.processors ≢ a.processors)
@@ -32,14 +32,14 @@ pub record TakeAccepted (a : State) (s : Content) : Type 0 where
   pub of_state : IsOfState a s
   pub agrees : HoldsOther a s → ⊥
 
--- both hold a segment of this key, with two contents
+-- both hold a segment of this key, and the two differ
 pub record HoldTwo (a b : State) (p n : ℕ) : Type 0 where
   pub segment : Content
   pub here : Contains (held_at b.parts p) segment
   pub number : segment.number ≡ n
   pub other : HoldsOther a segment
 
--- both states have one trace id and one processor count
+-- both states have the same trace id and the same processor count
 pub record AreOfOne (a b : State) : Type 0 where
   pub trace_id : a.trace_id ≡ b.trace_id
   pub processors : a.processors ≡ b.processors

@@ -43,8 +43,8 @@ pub record IsState (a : State) : Type 0 where
 
 -- ---- what is right about a trace
 
--- Each key has one segment, which has the trace's id and processor count. A trace is this and has an own
--- sequence for each event, which nothing that takes segments can test.
+-- A collection of segments: one for each key, all with the trace's id and processor count. If also no two events have one
+-- sequence, it is a trace; nothing that takes segments can test that.
 pub record IsCollection (T : Trace) : Type 0 where
   pub in_order : AreInOrder T.segments
   pub fit : AllByRecursion Fits T.segments
@@ -67,7 +67,7 @@ pub record IsRightAt (T : Trace) (p : ℕ) (q : Numbers) (k : Part) : Type 0 whe
 
 -- Right about the segments of a trace: the state has the trace's id and processor count, all numbers below the
 -- fronts are numbers of its segments, what is held are segments of it, and what was folded are the events below
--- the front. Whether sequences differ is no part of it.
+-- the front. It says nothing of whether sequences differ.
 pub record IsRight (a : State) (T : Trace) : Type 0 where
   pub collection : IsCollection T
   pub id : T.id ≡ a.trace_id

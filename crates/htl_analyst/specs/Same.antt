@@ -1,4 +1,4 @@
--- When two states are the same: in all that a state which is right about a trace names.
+-- When two states are the same: their numbers and held segments are, and their folds have the same counts and rows.
 use Rattle.std.specs.Prelude.{◌≡◌, ℕ, ◌<◌}
 use Rattle.htl_tree.specs.Trees.{IsSameTally}
 use Rattle.htl_tables.specs.Latest.{event_at}

@@ -33,11 +33,11 @@ pub record AreGreaterOf (a b : State) (parts : List Part) (n : ℕ) : Type 0 whe
 abbrev pub run_length : State → ℕ → ℕ
 run_length a p = reach_of (numbers_at a.taken p) - front_at a.taken p
 
--- their events
+-- the events of these segments
 abbrev pub run_of : State → ℕ → List Event
 run_of a p = all_events (take (run_length a p) (held_at a.parts p))
 
--- the front moved to its reach, over what was folded by then
+-- the state with this fold, the front moved over all segments that are in it, and these no longer held
 abbrev pub settled_with : State → ℕ → Folded → State
 settled_with a p folded =
     updated a p (settled (numbers_at a.taken p)) (part (drop (run_length a p) (held_at a.parts p)) folded)
@@ -56,8 +56,8 @@ pub record IsCompactedAt (a b : State) (p : ℕ) : Type 0 where
 abbrev pub run_at : Numbers → ℕ
 run_at q = reach_of q - q.front
 
--- What a fold of the first held segments asks: so many are held, of 4,096 events each at most, and no count outgrows
--- 64 bits.
+-- What a fold of the first `run` held segments asks: there are as many, each has 4,096 events at most, and no count
+-- outgrows 64 bits.
 pub record CanFold (run : ℕ) (k : Part) : Type 0 where
   pub within : run ≤ length k.held
   pub few : length (all_events (take run k.held)) ≤ 4096 * run
@@ -86,7 +86,7 @@ IsWorked q k l = (l ≡ k) ⊎ IsRunFolded q k l
 abbrev pub moved : Numbers → Part → Numbers
 moved q l = if nat_lt (length l.held) (length q.loose) then settled q else q
 
--- of one processor: the run is folded and the front moved over it, or all is as it was
+-- of one processor: the run is folded and the front moved over it, or nothing changed
 abbrev pub IsFurtherAt : Numbers → Part → Numbers → Part → Type 0
 IsFurtherAt q k r l = ((r ≡ q) × (l ≡ k)) ⊎ ((r ≡ settled q) × IsRunFolded q k l)
 

@@ -8,12 +8,12 @@ use Rattle.htl_analyst.specs.declared.fault.Took.{Took}
 use Rattle.htl_analyst.specs.declared.fault.Took.TheVariants.{New, Repeat}
 use Rattle.htl_analyst.specs.States.{Part, part, no_part, part_at, held_at, folded_at, State, state}
 
--- nothing taken
+-- the state that has taken nothing
 abbrev pub new_state : ℕ → ℕ → State
 new_state trace_id processors =
     state trace_id processors (replicate processors no_numbers) (replicate processors no_part)
 
--- one processor's place and part exchanged
+-- the state with other numbers and another part of one processor
 abbrev pub updated : State → ℕ → Numbers → Part → State
 updated a p q k = state a.trace_id a.processors (slice_set a.taken p q) (slice_set a.parts p k)
 

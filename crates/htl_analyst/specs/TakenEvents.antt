@@ -10,7 +10,7 @@ use Rattle.htl_analyst.specs.Keys.{keys}
 abbrev pub taken_events : Trace → State → List Event
 taken_events T a = events_of (keys a) T.segments
 
--- what is kept of a processor, as a part of an answer
+-- what is kept of a processor, as the contents of a part over which `htl_answers` answers
 abbrev pub contents_of : Part → Contents
 contents_of k = record {
   tree = k.folded.tree;
@@ -20,6 +20,6 @@ contents_of k = record {
   held = all_events k.held;
 }
 
--- how many events were folded of a processor, and are held of it
+-- the number of a processor's events, of those that were folded and those that are held
 abbrev pub events_kept : Part → ℕ
 events_kept k = k.folded.events + length (all_events k.held)

@@ -1,4 +1,4 @@
--- One row more, joined to the last sum or put after it.
+-- One row more is joined to the last sum or put after it, and the sums are still those of the rows.
 use Rattle.std.proofs.Common.{◌≡◌, suc, ◌+◌, ◌-◌, ◌<◌, true, false, List, [], ◌∷◌, ◌++◌, length, get_or, take, set}
 use Rattle.std.proofs.Common.{refl, sym, ap, subst, ◌∙◌, arith, inl, inr}
 use Rattle.std.specs.Prelude.{Contains}

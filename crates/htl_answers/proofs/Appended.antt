@@ -1,4 +1,4 @@
--- The latest event and the greatest sequence over lists put together.
+-- The latest event and the greatest sequence over lists put together are the later and the greater of theirs.
 use Rattle.std.proofs.Common.{◌≡◌, ℕ, List, ◌++◌, Option, Bool, true, false, cond, refl, inl, inr, arith}
 use Rattle.std.specs.Prelude.{Contains, max}
 use Rattle.std.specs.Ordering.{nat_cmp, ord_max, is_lt}

@@ -1,4 +1,4 @@
--- The bad references of a process, from the rows of slots.
+-- The bad references of a process follow from the rows of its slots.
 use Rattle.std.proofs.Common.{◌≡◌, ℕ, ◌<◌, Bool, true, false, cond, List, [], ◌∷◌, Option, Some, None, refl, sym, ap, subst, ◌∙◌, arith, ◌&&◌}
 use Rattle.std.specs.Prelude.{Contains, ◌==◌}
 use Rattle.std.specs.List.{filter_map}
@@ -30,6 +30,7 @@ use Rattle.htl_answers.proofs.SlotLists.{IsCount}
 
 -- ---- a row
 
+-- the bad reference row of a slot's row, if that is one of the process
 abbrev pub row_of : ℕ → (Slot × List ℕ) × Count → Option (ℕ × List ℕ × ℕ)
 row_of process row = bad_row process row.0.0 row.0.1 row.1
 
@@ -137,6 +138,7 @@ module _ (events : List Event) (process : ℕ) (counts : List ((Slot × List ℕ
       then_nothing Equal = refl
       then_nothing Greater = refl
 
+  -- the rows that are of the process's bad references are its bad references, by handle and stack
   pub bad_listed : IsBad events process (filter_map (row_of process) counts)
   bad_listed = record {
     rising = IsRising-filter_map (ByKey row_cmp) ByHandleAndStack (row_of process) rows_rise counts listed.rising;

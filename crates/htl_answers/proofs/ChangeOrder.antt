@@ -1,4 +1,4 @@
--- The order of changes: by handle, those of one handle by sequence.
+-- The order of changes, by handle and of one handle by sequence, is strict.
 use Rattle.std.proofs.Common.{◌≡◌, ◌<◌, ◌≤◌, ◌⊎◌, arith}
 use Rattle.std.specs.Cmp.{IsTotalOrder}
 use Rattle.std.specs.declared.cmp.Ordering.{Ordering}
@@ -13,9 +13,11 @@ use Rattle.htl_answers.specs.contracts.lives.ChangeOrd.TheImpl.Laws.{total-law}
 abbrev pub change_cmp : Change → Change → Ordering
 change_cmp = cmp-value.it
 
+-- the first change is of a lower handle, or of the same one and earlier
 abbrev pub ComesFirst : Change → Change → Type 0
 ComesFirst a b = change_cmp a b ≡ Less
 
+-- the order of changes is strict
 pub change_order : IsStrictOrder ComesFirst
 change_order = let total : IsTotalOrder change_cmp = total-law in strict_from_total total
 

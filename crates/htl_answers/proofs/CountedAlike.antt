@@ -1,4 +1,4 @@
--- Rows that count what others do, while more is counted in them.
+-- Rows still count what others do where the same is counted in both.
 use Rattle.std.proofs.Common.{◌≡◌, ℕ, suc, ◌+◌, ◌<◌, true, false, cond, List, [], ◌∷◌, ◌++◌, length, get_or, take, drop, set}
 use Rattle.std.proofs.Common.{refl, sym, ap, subst, ◌∙◌, arith, inl, inr}
 use Rattle.std.specs.List.{sum_by}
@@ -13,6 +13,7 @@ use Rattle.htl_event.proofs.Members.{Contains-here, Contains-there, Contains-cas
 use Rattle.htl_answers.specs.Rows.{at_key, count_of, EachPositive, CountAlike}
 use Rattle.htl_answers.proofs.RowCounts.{plus_side, minus_side, count_of-append}
 
+-- where no row of two lists counts zero, none of both together does
 pub positive_both : {K : Type 0} (xs ys : List (K × Count)) → EachPositive xs → EachPositive ys → EachPositive (xs ++ ys)
 positive_both xs ys of_xs of_ys row h = elim (Contains-append_cases xs ys row h) [
   | inl left ↦ of_xs row left
@@ -20,6 +21,7 @@ positive_both xs ys of_xs of_ys row h = elim (Contains-append_cases xs ys row h)
 ]
 
 module _ {K : Type 0} (cmp : K → K → Ordering) where
+  -- rows count what they count
   pub alike_itself : (rows : List (K × Count)) → CountAlike cmp rows rows
   alike_itself rows = record { counts = λ k. refl; total = refl; positive = λ each. each }
 
@@ -67,6 +69,7 @@ module _ {K : Type 0} (cmp : K → K → Ordering) where
     more : (c d : Count) → IsPositive c → IsPositive (plus_count c d)
     more c d some = omega (arith, some)
 
+    -- a row joined to one of its key counts what both did apart
     pub joined_alike : CountAlike cmp ((front ++ x ∷ back) ++ row ∷ []) (front ++ sum ∷ back)
     joined_alike = record {
       counts = λ k.

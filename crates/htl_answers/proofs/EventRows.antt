@@ -109,6 +109,7 @@ module _ {K : Type 0} (cmp : K → K → Ordering) (key : Slot → List ℕ → 
       go true is = let counts : one_count x.1 ≡ row.1 = cc in ap total_of (sym counts) ∙ own_count x.1
       go false is = absurd cc
 
+  -- no row of an event counts zero
   pub rows_positive : (events : List Event) → EachPositive (rows_of key slots events)
   rows_positive events row h =
       let from = Contains-from_filter_map (row_of key slots) events row h in
@@ -119,6 +120,7 @@ module _ {K : Type 0} (cmp : K → K → Ordering) (key : Slot → List ℕ → 
   at_most_one None h = omega arith
   at_most_one (Some row) h = let one = h row refl in omega (arith, one)
 
+  -- the rows of events count no more in all than there are events
   pub rows_few : (events : List Event) → total_in (rows_of key slots events) ≤ length events
   rows_few [] = omega arith
   rows_few (e ∷ es) =
@@ -161,10 +163,12 @@ stack_counts slots slot stack events =
 
 -- ---- lists of events
 
+-- the rows of two lists of events are those of the first, and then those of the second
 pub rows_of-append : {K : Type 0} (key : Slot → List ℕ → K) (slots : Slots) (xs ys : List Event)
     → rows_of key slots (xs ++ ys) ≡ rows_of key slots xs ++ rows_of key slots ys
 rows_of-append key slots xs ys = filter_map-append (row_of key slots) xs ys
 
+-- where an option is none, there is no row of it
 pub no_row : {X Y : Type 0} (f : X → Y) (o p : Option X) → o ≡ p → ((x : X) → o ≡ Some x → ⊥) → (y : Y) → option_map f p ≡ Some y → ⊥
 no_row f o None is none y e = cc
 no_row f o (Some x) is none y e = none x is

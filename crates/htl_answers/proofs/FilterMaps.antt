@@ -1,4 +1,4 @@
--- What an optional row of each element comes to: its members, its order, and one element more.
+-- The optional rows of elements, put in a list, have the order of the elements, and one element more adds its row.
 use Rattle.std.proofs.Common.{◌≡◌, ℕ, ◌+◌, ◌<◌, List, [], ◌∷◌, ◌++◌, length, take, get_or, Option, Some, None, refl, sym, ap, ◌∙◌}
 use Rattle.std.proofs.Common.{append-nil, append_assoc, inl, inr}
 use Rattle.std.proofs.lemmas.List.{take_more}
@@ -44,6 +44,7 @@ Contains-from_filter_map {X} {Y} f (z ∷ xs) y h = go (Contains-from_filter_map
 
 module _ {X Y : Type 0} (before : X → X → Type 0) (after : Y → Y → Type 0) (f : X → Option Y)
     (into : (x z : X) (y w : Y) → before x z → f x ≡ Some y → f z ≡ Some w → after y w) where
+  -- where the rows of two elements in order are in order, the rows of a rising list rise
   pub IsRising-filter_map : (xs : List X) → IsRising before xs → IsRising after (filter_map f xs)
   IsRising-filter_map [] rising = tt
   IsRising-filter_map (z ∷ xs) rising = go (f z) refl (IsRising-filter_map xs rising.1)

@@ -1,4 +1,4 @@
--- What passes a test, of a list with one element more.
+-- One element more, which passes a test or doesn't, comes to what passes or is left out.
 use Rattle.std.proofs.Common.{◌≡◌, ℕ, ◌+◌, ◌<◌, Bool, true, false, List, [], ◌∷◌, ◌++◌, length, take, get_or, sym, ap, ◌∙◌}
 use Rattle.std.proofs.Common.{append-nil, append_assoc}
 use Rattle.std.specs.Prelude.{filter}

@@ -27,6 +27,7 @@ use Rattle.htl_answers.specs.Rows.{count_of, total_in, rows_of}
 use Rattle.htl_answers.proofs.RowCounts.{count_of-listed, total_upto}
 use Rattle.htl_answers.proofs.EventRows.{slot_counts, stack_counts}
 
+-- the order of rows, by slot and then by stack, is total
 pub row_total : IsTotalOrder row_cmp
 row_total = then_total (on_total (λ (x : Slot × List ℕ). x.0) slot_total) (on_total (λ (x : Slot × List ℕ). x.1) stack_total)
 
@@ -45,6 +46,7 @@ At = (List ℕ × Slot) × Count
 sums_apart : (a b : Slot × Count) → BySlot a.0 b.0 → a.0 ≢ b.0
 sums_apart a b less = less_differs slot_total a.0 b.0 less
 
+-- a tree's sums of slots count what the rows of its events do
 pub sums_count : (tree : Tree) (slots : Slots) (sums : List (Slot × Count)) → IsTree tree → ListsSums tree slots sums → (events : List Event)
     → HasTally tree events → (k : Slot) → count_of slot_cmp k sums ≡ count_of slot_cmp k (rows_of (λ s stack. s) slots events)
 sums_count tree slots sums is listed events tallied k =
@@ -65,6 +67,7 @@ under_upto (row ∷ tree) s =
     ap (λ b. cond b (total_of row.1) 0) (same_slot_tied s row.0.1) in
     omega (arith, rest, both, one, tied)
 
+-- a tree's sums of slots count no more in all than the tree
 pub sums_few : (tree : Tree) (slots : Slots) (sums : List (Slot × Count)) → ListsSums tree slots sums → total_in sums ≤ total_count tree
 sums_few tree slots sums listed =
     total_upto slot_total slot_same sums_apart (λ (t : At). t.0.1) (λ (t : At). total_of t.1) tree sums listed.rising
@@ -75,6 +78,7 @@ sums_few tree slots sums listed =
 rows_apart : (a b : (Slot × List ℕ) × Count) → ByStackAndSlot a b → a.0 ≢ b.0
 rows_apart a b less same = less_differs key_total (a.0.1, a.0.0) (b.0.1, b.0.0) less (ap (λ (x : Slot × List ℕ). (x.1, x.0)) same)
 
+-- a tree's rows of slots and stacks count what the rows of its events do
 pub rows_count : (tree : Tree) (slots : Slots) (rows : List ((Slot × List ℕ) × Count)) → ListsRowsOf tree slots rows → (events : List Event)
     → HasTally tree events → (k : Slot × List ℕ) → count_of row_cmp k rows ≡ count_of row_cmp k (rows_of (λ s stack. (s, stack)) slots events)
 rows_count tree slots rows listed events tallied k =
@@ -110,6 +114,7 @@ at_upto (row ∷ tree) k =
     [ true ↦ omega arith | false ↦ omega arith ] in
     omega (arith, rest, both, tied, one)
 
+-- a tree's rows of slots and stacks count no more in all than the tree
 pub rows_few : (tree : Tree) (slots : Slots) (rows : List ((Slot × List ℕ) × Count)) → ListsRowsOf tree slots rows → total_in rows ≤ total_count tree
 rows_few tree slots rows listed =
     total_upto row_total row_same rows_apart (λ (t : At). (t.0.1, t.0.0)) (λ (t : At). total_of t.1) tree rows listed.rising

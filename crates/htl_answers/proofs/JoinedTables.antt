@@ -1,4 +1,4 @@
--- Tables of events that are put together, and of no events.
+-- Tables of events put together have the later and the greater of both, and those of no events have nothing.
 use Rattle.std.proofs.Common.{◌≡◌, ℕ, max, List, [], ◌++◌, refl, inl}
 use Rattle.htl_event.specs.Events.{Event}
 use Rattle.htl_event.specs.declared.kind.Kind.TheVariants.{Snapshot, Exited}
@@ -24,6 +24,7 @@ tables_joined xs ys latest left right marks left_marks right_marks exits left_ex
   exit_at = λ process. rw (is_exits process) (greatest_append (IsOf Exited process) xs ys _ _ (one.exit_at process) (two.exit_at process));
 }
 
+-- empty tables are those of no events
 pub tables_none : AreTablesOf [] [] [] []
 tables_none = record {
   latest_at = λ process base x h c. Contains-nil x h;

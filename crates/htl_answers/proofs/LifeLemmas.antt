@@ -1,4 +1,4 @@
--- Which changes opened a handle that is open as of a moment: their number is that of the lives that began less those that ended.
+-- The handles that are open as of a moment are as many as the lives that began up to it, less those that ended.
 use Rattle.std.proofs.Common.{◌≡◌, ℕ, ◌+◌, ◌<◌, ◌≤◌, Bool, true, false, cond, leb, ltb, not, ◌&&◌, List, [], ◌∷◌}
 use Rattle.std.proofs.Common.{Option, Some, None, refl, sym, ap, ◌∙◌, arith, inl, inr, ◌⊎◌}
 use Rattle.std.specs.Prelude.{min, option_and_then}
@@ -62,6 +62,7 @@ end_at exits change later n at = ap (option_and_then (λ start. earlier_of (next
 no_end : (exits : List ℕ) (change : Change) (later : List Change) → start_of change ≡ None → end_of exits change later ≡ None
 no_end exits change later at = ap (option_and_then (λ start. earlier_of (next_of change later) (first_after exits start))) at
 
+-- where the test says that a change's handle is open as of a moment, it is a fact
 pub goes_on-parts : (m : ℕ) (exits : List ℕ) (change : Change) (later : List Change) → goes_on m exits change later ≡ true
     → GoesOn m exits change later
 goes_on-parts m exits change later test = go (start_of change) refl
@@ -86,6 +87,7 @@ goes_on-parts m exits change later test = go (start_of change) refl
           exit = ap (λ (s : ℕ). is_past m (first_after exits s)) same ∙ both.1;
         }
 
+-- where it is a fact that a change's handle is open as of a moment, the test says so
 pub goes_on-from : (m : ℕ) (exits : List ℕ) (change : Change) (later : List Change) → GoesOn m exits change later
     → goes_on m exits change later ≡ true
 goes_on-from m exits change later is =
@@ -180,9 +182,11 @@ module _ (changes : List Change) (rising : IsRising ComesFirst changes) (exits :
       let both = number_begun m exits rise changes rising in
       omega (arith, began, ended, both)
 
+  -- the lives that began up to a moment, less those that ended, are the handles that are open as of it
   pub number_at-on : (m : ℕ) → number_at starts ends m ≡ number_on m exits changes
   number_at-on m = let both = number_sorted m in omega (arith, both)
 
+  -- up to no moment more lives end than begin, so sorted starts and ends are in order
   pub in_order : IsNonDecreasing starts → IsNonDecreasing ends → AreInOrder starts ends
   in_order starts_rise ends_rise = record {
     starts_rise = starts_rise;

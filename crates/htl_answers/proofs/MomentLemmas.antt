@@ -1,4 +1,4 @@
--- The greatest sequence over one part more.
+-- The greatest sequence over one part more is the greater of that so far and the part's.
 use Rattle.std.proofs.Common.{◌≡◌, ℕ, ◌+◌, ◌<◌, List, ◌++◌, length, map, take, get_or, sym, subst}
 use Rattle.std.specs.Prelude.{Contains, max}
 use Rattle.htl_event.specs.Events.{Event}

@@ -1,4 +1,4 @@
--- How many of some numbers come no later than a moment, and the first of them after it, where they are in order.
+-- Of numbers in order, so many come no later than a moment, and the next one is the first after it.
 use Rattle.std.proofs.Common.{◌≡◌, ℕ, suc, ◌+◌, ◌<◌, ◌≤◌, Bool, true, false, cond, leb, List, [], ◌∷◌, length, get_or}
 use Rattle.std.proofs.Common.{slice_get, Option, Some, None, refl, sym, ap, ◌∙◌, arith, inl, inr}
 use Rattle.std.specs.Prelude.{Contains}

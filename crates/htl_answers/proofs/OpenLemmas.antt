@@ -1,4 +1,4 @@
--- The latest events of a process's handles over several lists, and the opens among them.
+-- The latest events of a process's handles over several lists are the later of theirs, and the opens among them are its open handles.
 use Rattle.std.proofs.Common.{◌≡◌, ℕ, ◌<◌, Bool, true, List, [], ◌∷◌, ◌++◌, map, take, drop, append-nil, length, slice_get, Some, refl, sym, ap, ◌∙◌}
 use Rattle.std.proofs.Common.{subst, arith, inl, inr}
 use Rattle.std.specs.Prelude.{Contains, filter, max}
@@ -81,6 +81,7 @@ rising-filter before p (x ∷ xs) rising =
       | inr fails ↦ rw (filter-skip p x xs fails) (rising-filter before p xs rising.1)
     ]
 
+-- a kind that passes the test of opens is an open
 pub opened : (kind : Kind) → is_open_kind kind ≡ true → kind ≡ Opened
 opened Opened e = refl
 opened kind e = absurd cc
@@ -119,6 +120,7 @@ module _ (events : List Event) (process since exit moment : ℕ) (latest rows : 
       Contains-filter (is_opened_after moment) rows x ((listed.members x).1 (owner, kept))
       (and_from _ _ (ap is_open_kind o.opens) (lt-ltb moment x.sequence after))
 
+  -- the opens after the later of a moment and the last exit, of the latest events of handles, are the difference
   pub opened_after_is_diff : HaveOwnSequences events → IsDiff (Contains events) process since (filter (is_opened_after moment) rows)
   opened_after_is_diff own = record {
     rising = rising-filter ByBase (is_opened_after moment) rows listed.rising;

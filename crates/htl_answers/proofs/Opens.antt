@@ -1,4 +1,4 @@
--- How often stacks opened handles, over events that each open a handle of one process.
+-- Over events that each open a handle of one process, a stack's count is how many handles it opened.
 use Rattle.std.proofs.Common.{◌≡◌, ℕ, ◌<◌, ◌≤◌, Bool, true, false, cond, List, [], ◌∷◌, map, refl, sym, ap, subst, ◌∙◌, arith, ◌&&◌}
 use Rattle.std.specs.Prelude.{Contains, ◌↔◌, count_by, filter, Option, Some, None}
 use Rattle.std.specs.Ordering.{nat_cmp, ordering_then}
@@ -77,6 +77,7 @@ pub opens_tally : (process : ℕ) (es : List Event) → AllOpen process es → (
     → tally es (Handles process) stack ≡ record { plus = count_by (has_stack stack) es; minus = 0 }
 opens_tally process es all stack = rw (opened_times process es all stack, closed_times process es all stack) refl
 
+-- where a function keeps the order of elements, it maps a rising list to a rising one
 pub IsRising-map : {X Y : Type 0} (before : X → X → Type 0) (after : Y → Y → Type 0) (f : X → Y)
     → ((x y : X) → before x y → after (f x) (f y)) → (xs : List X)
     → IsRising before xs → IsRising after (map f xs)
@@ -163,6 +164,7 @@ all_open among process None opens are = record { each = λ e h. (let o = (are.me
 all_open among process (Some moment) opens are =
     record { each = λ e h. (let o = (are.members e).0 h in (o.0.opens, o.0.latest.of_handle.owner)) }
 
+-- the sums of the open handles, of so many opens at least, sorted and turned, are the leaking stacks
 pub leaks_listed : (events : List Event) (process : ℕ) (since : Option ℕ) (least : ℕ) (opens : List Event)
     → AreOpenSince (Contains events) process since opens
     → (rows : List ((Slot × List ℕ) × Count)) → AreSums row_cmp (rows_of (λ s stack. (s, stack)) (One (Handles process)) opens) rows

@@ -1,4 +1,4 @@
--- The outermost addresses of a stack.
+-- The outermost addresses of a stack are the first ones of its path.
 use Rattle.std.proofs.Common.{◌≡◌, ℕ, ◌+◌, List, ◌++◌, length, take, drop, reverse, sym}
 use Rattle.std.proofs.Common.{ap, ◌∙◌, arith, length-drop}
 use Rattle.std.proofs.Math.Seq.{take-append_seam}

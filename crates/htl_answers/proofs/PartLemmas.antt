@@ -1,4 +1,4 @@
--- The events of parts, one part after the other.
+-- The events of parts are those of each part, one part after the other.
 use Rattle.std.proofs.Common.{◌≡◌, ℕ, ◌+◌, ◌<◌, ◌≤◌, List, [], ◌∷◌, ◌++◌, length, map, take, get_or, refl, sym, ap, ◌∙◌, append-nil, append_assoc, arith}
 use Rattle.std.specs.List.{take-map}
 use Rattle.std.proofs.lemmas.List.Sums.{sum_by-cons, sum_by-append, sum_by-take-drop}
@@ -14,6 +14,7 @@ pub record EndsWith (parts : List Contents) (last : Contents) (events : List Eve
   pub fold : IsFoldOf last folded
   pub is : events ≡ before ++ (folded ++ last.held)
 
+-- the events of parts are those of all but the last, then what the last folded, and then what it holds
 pub last_part : (parts : List Contents) (last : Contents) (events : List Event) → AreEventsOf (parts ++ last ∷ []) events
     → EndsWith parts last events
 last_part [] last events (folded, others, fold, none, is) = record {
@@ -53,6 +54,7 @@ size_more contents parts i part lt is =
     ∙ sum_by-append size_of (map contents (take i parts)) (contents part ∷ []) in
     omega (arith, one, both)
 
+-- the first parts and one more count no more events than all
 pub size_most : {X : Type 0} (contents : X → Contents) (parts : List X) (i : ℕ) (part : X) → i < length parts → part ≡ get_or parts i part
     → size_of_all (map contents (take i parts)) + size_of (contents part) ≤ size_of_all (map contents parts)
 size_most contents parts i part lt is =
@@ -69,6 +71,7 @@ pub record Joins (front back : List Contents) (events : List Event) : Type 0 whe
   pub of_back : AreEventsOf back second
   pub is : events ≡ first ++ second
 
+-- the events of two lists of parts together are those of the first, and then those of the second
 pub split_parts : (front back : List Contents) (events : List Event) → AreEventsOf (front ++ back) events → Joins front back events
 split_parts [] back events are = record { first = []; second = events; of_front = refl; of_back = are; is = refl }
 split_parts (part ∷ front) back events (folded, others, fold, rest, is) =

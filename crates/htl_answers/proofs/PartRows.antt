@@ -1,4 +1,4 @@
--- The rows of a part more count its events.
+-- The rows so far, with those of one part more, count the events of all these parts.
 use Rattle.std.proofs.Common.{◌≡◌, ℕ, ◌+◌, ◌≤◌, List, ◌++◌, length, sym, ap, ◌∙◌, arith}
 use Rattle.std.specs.declared.cmp.Ordering.{Ordering}
 use Rattle.std.proofs.lemmas.List.Sums.{sum_by-append}
@@ -17,6 +17,7 @@ module _ {K : Type 0} (cmp : K → K → Ordering) (key : Slot → List ℕ → 
   abbrev rows : List Event → List (K × Count)
   rows events = rows_of key slots events
 
+  -- at each key, the rows before, those that the part folded and those that it holds count the events of all
   pub part_counted : (k : K) → count_of cmp k before ≡ count_of cmp k (rows xs) → count_of cmp k folded ≡ count_of cmp k (rows ys)
       → count_of cmp k ((before ++ folded) ++ rows held) ≡ count_of cmp k (rows (xs ++ (ys ++ held)))
   part_counted k of_before of_folded =
@@ -28,6 +29,7 @@ module _ {K : Type 0} (cmp : K → K → Ordering) (key : Slot → List ℕ → 
       ∙ ap (plus_count (count_of cmp k (rows xs))) (sym (ap (count_of cmp k) (rows_of-append key slots ys held) ∙ count_of-append cmp k (rows ys) (rows held)))
       ∙ sym (ap (count_of cmp k) (rows_of-append key slots xs (ys ++ held)) ∙ count_of-append cmp k (rows xs) (rows (ys ++ held)))
 
+  -- the rows so far and those of one part more count no more in all than the bounds of both together
   pub part_total : (most size : ℕ) → total_in before ≤ most → total_in folded ≤ size
       → total_in ((before ++ folded) ++ rows held) ≤ most + (size + length held)
   part_total most size of_before of_folded =

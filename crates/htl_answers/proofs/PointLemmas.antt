@@ -1,4 +1,4 @@
--- The moments of a span as a list, and the points of these moments as its growth.
+-- The moments of a span are listed, and the points of these moments are its growth.
 use Rattle.std.proofs.Common.{◌≡◌, ℕ, ◌<◌, List, length, get_or, map, sym, ap, subst, ◌∙◌, arith}
 use Rattle.std.specs.Prelude.{Contains, ◌↔◌, Some}
 use Rattle.std.specs.List.{range_with_len}
@@ -32,6 +32,7 @@ below_into n i lt =
     let is : get_or (range_with_len 0 n) i 0 ≡ i = omega (arith, at) in
     subst (Contains (range_with_len 0 n)) is here
 
+-- the computed moments are those of the span
 pub moments_are : (span : Span) (points moment : ℕ)
     → Contains (map (moment_at span points) (range_with_len 0 points)) moment ↔ IsMomentOf span points moment
 moments_are span points moment = (
@@ -69,6 +70,7 @@ module _ (span : Span) (points : ℕ) (events : List Event) (process : ℕ) (mom
       let point : point_at starts ends m ≡ row = λ i. record { sequence = row.sequence; outstanding = same i } in
       subst (Contains (map (point_at starts ends) moments)) point here
 
+  -- the points of a span's moments are its growth
   pub points_are_growth : IsGrowth (Some span) points events process (map (point_at starts ends) moments)
   points_are_growth = record {
     rising = IsRising-map (λ a b. a < b) EarlierFirst (point_at starts ends) (λ x y h. h) moments rising;

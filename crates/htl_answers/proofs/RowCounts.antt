@@ -1,4 +1,4 @@
--- How often keys came, by rows: over two lists, in another order, and of rows that have each key once.
+-- How often keys came is counted by rows: over two lists, in any order, and where rows have each key once.
 use Rattle.std.proofs.Common.{◌≡◌, ◌≢◌, ℕ, zero, suc, ◌<◌, ◌≤◌, Bool, true, false, cond, List, [], ◌∷◌, ◌++◌, refl, sym, ap, subst, ◌∙◌, arith, inl, inr}
 use Rattle.std.specs.Prelude.{Contains}
 use Rattle.std.specs.List.{sum_by}
@@ -18,19 +18,23 @@ use Rattle.htl_answers.specs.Rows.{at_key, count_of, total_in, EachPositive}
 use Rattle.htl_answers.proofs.NumberSums.{sum_upto, sum_swap}
 use Rattle.htl_lemmas.proofs.Tests.{equal}
 
+-- the number on the plus side
 abbrev pub plus_side : Count → ℕ
 plus_side count = count.plus
 
+-- the number on the minus side
 abbrev pub minus_side : Count → ℕ
 minus_side count = count.minus
 
 module _ {K : Type 0} (cmp : K → K → Ordering) (k : K) where
+  -- a key came as often in two lists of rows together as in both in sum
   pub count_of-append : (xs ys : List (K × Count)) → count_of cmp k (xs ++ ys) ≡ plus_count (count_of cmp k xs) (count_of cmp k ys)
   count_of-append xs ys =
       let p = sum_by-append (at_key cmp k plus_side) xs ys in
       let m = sum_by-append (at_key cmp k minus_side) xs ys in
       λ i. record { plus = p i; minus = m i }
 
+  -- a key came as often in rows that are in another order
   pub count_of-moved : (xs ys : List (K × Count)) → IsPermutation xs ys → count_of cmp k ys ≡ count_of cmp k xs
   count_of-moved xs ys moved =
       let p = sum_by-IsPermutation (at_key cmp k plus_side) xs ys moved in
@@ -209,6 +213,7 @@ module _ {K : Type 0} {cmp : K → K → Ordering} (o : IsTotalOrder cmp) (prope
               omega (arith, both, rest, head)
         ]
 
+    -- rows of different keys, each counting no more than the elements of its key, count no more in all than all elements
     pub total_upto : (rows : List (K × Count)) → IsRising before rows
         → ((row : K × Count) → Contains rows row → total_of row.1 ≤ sum_by (part row) xs) → total_in rows ≤ sum_by size xs
     total_upto rows rising each =

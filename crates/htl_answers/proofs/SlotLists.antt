@@ -1,4 +1,4 @@
--- The counts of slots over all events, as the lists that are asked for.
+-- The counts of slots over all events are the lists that are asked for.
 use Rattle.std.proofs.Common.{◌≡◌, ℕ, true, List, [], ◌∷◌, map, refl, sym, ap, subst, ◌∙◌}
 use Rattle.std.specs.Prelude.{Contains}
 use Rattle.std.specs.Ordering.{ordering_then}
@@ -25,9 +25,11 @@ use Rattle.htl_answers.proofs.RowCounts.{listed_counts}
 use Rattle.htl_answers.proofs.EventRows.{slot_counts, stack_counts}
 use Rattle.htl_answers.proofs.FoldedRows.{less_differs, row_total}
 
+-- the row has a slot that is asked for, and how often that came with whatever stack, which isn't zero
 abbrev pub IsSum : Slots → List Event → Slot × Count → Type 0
 IsSum slots events sum = (sum.1 ≡ times_of events sum.0) × IsPositive sum.1 × (has_slot slots sum.0 ≡ true)
 
+-- sums that count what the rows of the events do list how often each asked slot came
 pub sums_listed : (slots : Slots) (events : List Event) (sums : List (Slot × Count)) → IsRising (ByKey slot_cmp) sums → EachPositive sums
     → ((k : Slot) → count_of slot_cmp k sums ≡ count_of slot_cmp k (rows_of (λ s stack. s) slots events))
     → Lists (ByKey slot_cmp) (IsSum slots events) sums
@@ -45,9 +47,11 @@ all_listed events sums listed = record {
   );
 }
 
+-- the row has a slot that is asked for with a stack, and how often they came, which isn't zero
 abbrev pub IsCount : Slots → List Event → (Slot × List ℕ) × Count → Type 0
 IsCount slots events row = (row.1 ≡ tally events row.0.0 row.0.1) × IsPositive row.1 × (has_slot slots row.0.0 ≡ true)
 
+-- rows that count what the rows of the events do list how often each asked slot came with each stack
 pub counts_listed : (slots : Slots) (events : List Event) (rows : List ((Slot × List ℕ) × Count)) → IsRising (ByKey row_cmp) rows
     → EachPositive rows → ((k : Slot × List ℕ) → count_of row_cmp k rows ≡ count_of row_cmp k (rows_of (λ s stack. (s, stack)) slots events))
     → Lists (ByKey row_cmp) (IsCount slots events) rows
@@ -57,6 +61,7 @@ counts_listed slots events rows rising positive counts =
 
 -- ---- the stacks of one slot
 
+-- the row without its slot
 abbrev pub strip : (Slot × List ℕ) × Count → List ℕ × Count
 strip row = (row.0.1, row.1)
 
@@ -79,6 +84,7 @@ module _ (slot : Slot) where
           ∙ ap (λ s. ordering_then (slot_cmp a.0.0 s) (stack_cmp a.0.1 b.0.1)) of_b ∙ before in
           sym (ap (λ r. ordering_then r (stack_cmp a.0.1 b.0.1)) (tied_itself slot_total slot)) ∙ same
 
+-- the rows of an object's tag, without the slot, are its reference stacks
 pub stacks_listed : (events : List Event) (object : ℕ) (tag : List ℕ) (rows : List ((Slot × List ℕ) × Count))
     → Lists (ByKey row_cmp) (IsCount (One (Tagged object tag)) events) rows → IsStacks events object tag (map strip rows)
 stacks_listed events object tag rows listed = record {

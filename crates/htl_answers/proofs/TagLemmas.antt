@@ -1,4 +1,4 @@
--- The balances of an object's tags, from the sums of slots.
+-- The balances of an object's tags follow from the sums of its slots.
 use Rattle.std.proofs.Common.{◌≡◌, ℕ, Bool, true, false, cond, List, Option, Some, None, refl, sym, ap, subst, ◌∙◌}
 use Rattle.std.specs.Prelude.{Contains, ◌==◌}
 use Rattle.std.specs.List.{filter_map}
@@ -23,6 +23,7 @@ use Rattle.htl_answers.specs.Tags.{tag_row}
 use Rattle.htl_answers.proofs.FilterMaps.{Contains-filter_map, Contains-from_filter_map, IsRising-filter_map}
 use Rattle.htl_answers.proofs.SlotLists.{IsSum}
 
+-- the tag row of a slot's sum, if the slot is of the object
 abbrev pub row_of : ℕ → Slot × Count → Option (List ℕ × Count)
 row_of object sum = tag_row object sum.0 sum.1
 
@@ -30,6 +31,7 @@ pub record IsRowOf (object : ℕ) (slot : Slot) (count : Count) (row : List ℕ 
   pub slot_is : slot ≡ Tagged object row.0
   pub count_is : row.1 ≡ count
 
+-- a tag row that a slot has is of the object's tag, with the slot's count
 pub row_is : (object : ℕ) (slot : Slot) (count : Count) (row : List ℕ × Count) → tag_row object slot count ≡ Some row
     → IsRowOf object slot count row
 row_is object (Tagged its tag) count row e = go (its == object) refl e
@@ -46,9 +48,11 @@ row_is object (Tagged its tag) count row e = go (its == object) refl e
 row_is object (Handles process) count row e = absurd cc
 row_is object (Bad process handle) count row e = absurd cc
 
+-- the slot of an object's tag has this tag's row
 pub row_at : (object : ℕ) (row : List ℕ × Count) → tag_row object (Tagged object row.0) row.1 ≡ Some row
 row_at object row = rw ((Decides-eqb object object).1 refl) refl
 
+-- the tag rows of two slots in order are in the order of tags
 pub tags_rise : (object : ℕ) (s t : Slot × Count) (x y : List ℕ × Count) → BySlot s.0 t.0 → row_of object s ≡ Some x
     → row_of object t ≡ Some y → ByTag x y
 tags_rise object s t x y less at_s at_t =

@@ -1,4 +1,4 @@
--- The tally of parts put together.
+-- The tally of parts put together is the sum of their tallies.
 use Rattle.std.proofs.Common.{◌≡◌, ℕ, ◌+◌, ◌≤◌, List, ◌++◌, map, take, drop, sym, ap, subst, ◌∙◌, arith}
 use Rattle.std.proofs.lemmas.List.{map-append, take-append-drop}
 use Rattle.std.proofs.lemmas.List.Sums.{sum_by-append}
@@ -10,6 +10,7 @@ use Rattle.htl_tree.specs.Trees.{Tree, HasTally, IsSumTally, count_at}
 use Rattle.htl_answers.specs.Parts.{Contents, AreEventsOf, size_of, size_of_all}
 use Rattle.htl_answers.proofs.PartLemmas.{split_parts}
 
+-- a sum of two tallies, of two lists of events, is the tally of both lists together
 pub tally_append : (sum left right : Tree) (xs ys : List Event) → IsSumTally sum left right → HasTally left xs → HasTally right ys
     → HasTally sum (xs ++ ys)
 tally_append sum left right xs ys is of_left of_right slot stack =
@@ -17,6 +18,7 @@ tally_append sum left right xs ys is of_left of_right slot stack =
     ∙ ap (λ n. plus_count (tally xs slot stack) n) (of_right slot stack)
     ∙ sym ((counts_add_up xs ys).tally slot stack)
 
+-- the sum of two tallies is one either way round
 pub sum_turned : (sum left right : Tree) → IsSumTally sum left right → IsSumTally sum right left
 sum_turned sum left right is slot stack = is slot stack ∙ turned (count_at left slot stack) (count_at right slot stack)
   where
@@ -28,12 +30,14 @@ sum_turned sum left right is slot stack = is slot stack ∙ turned (count_at lef
 
 -- ---- a list of parts cut in two
 
+-- a list of parts is its first n and those after them
 pub halves : {X : Type 0} (contents : X → Contents) (n : ℕ) (parts : List X)
     → map contents parts ≡ map contents (take n parts) ++ map contents (drop n parts)
 halves contents n parts = ap (map contents) (sym (take-append-drop n parts)) ∙ map-append contents (take n parts) (drop n parts)
 
 module _ {X : Type 0} (contents : X → Contents) (n : ℕ) (parts front back : List X) (is_front : front ≡ take n parts)
     (is_back : back ≡ drop n parts) where
+  -- a list of parts is its front and its back, where these are its first n and those after them
   pub front_and_back : map contents parts ≡ map contents front ++ map contents back
   front_and_back = halves contents n parts
       ∙ ap (λ ps. map contents ps ++ map contents (drop n parts)) (sym is_front)
@@ -52,6 +56,7 @@ module _ {X : Type 0} (contents : X → Contents) (n : ℕ) (parts front back : 
       subst (λ (es : List Event). HasTally sum es) (sym joins.is)
       (tally_append sum left right joins.first joins.second is (of_left joins.first joins.of_front) (of_right joins.second joins.of_back))
 
+  -- a sum of totals, each no greater than the parts of its half, is no greater than all parts
   pub total_halves : (sum left right : ℕ) → sum ≡ left + right → left ≤ size_of_all (map contents front)
       → right ≤ size_of_all (map contents back) → sum ≤ size_of_all (map contents parts)
   total_halves sum left right is of_left of_right =

@@ -1,4 +1,4 @@
--- The events until a moment, one segment after another.
+-- The events until a moment are, segment after segment, those of each segment until it.
 use Rattle.std.proofs.Common.{◌≡◌, ℕ, zero, suc, ◌+◌, ◌<◌, Bool, List, [], ◌∷◌, ◌++◌, length, get_or, take, Option, Some, None}
 use Rattle.std.proofs.Common.{IsPermutation, refl, sym, ap, ◌∙◌, subst, inl, inr, arith}
 use Rattle.std.specs.Prelude.{Contains, filter, flat_map, nat_le}
@@ -44,6 +44,7 @@ fits_at ss all i s same fit lt is = at_member Fits all s fit (subst (λ (l : Lis
 
 -- ---- of one segment more
 
+-- of two lists put together, the events until a moment are those of the first, and then those of the second
 pub counted-append : (until : Option ℕ) (xs ys : List Event) → counted_events until (xs ++ ys) ≡ counted_events until xs ++ counted_events until ys
 counted-append None xs ys = refl
 counted-append (Some moment) xs ys = filter-append (λ e. nat_le e.sequence moment) xs ys

@@ -137,6 +137,7 @@ module _ (T : Trace) (trace : IsTrace T) (S : ℕ → ℕ → Bool) where
 
   -- ---- two answers to any question
 
+  -- two answers to one question over one set of keys say the same
   pub one_answer : (q : AnalystQuestion) (x y : AnalystAnswer) → IsAnswer T S q x → IsAnswer T S q y → IsSameAnswer x y
   one_answer (questions.Has processor number) (answers.Has a) y is other = same_has processor number a is y other
   one_answer questions.Taken (answers.Taken a) y is other = same_taken a is y other
@@ -156,6 +157,7 @@ module _ (T : Trace) (trace : IsTrace T) (S : ℕ → ℕ → Bool) where
   one_answer questions.Objects (answers.Objects n a) y is other = same_objects n a is y other
   one_answer q x y is other = absurd is
 
+-- a question has one answer over the segments whose keys are in a set, however the set is given
 pub answers_are_determined : AnswersAreDetermined
 answers_are_determined T trace S R same q x y is other =
     let one : R ≡ S = fun_ext λ p. fun_ext λ n. sym (same p n) in

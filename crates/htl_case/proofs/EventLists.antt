@@ -1,4 +1,4 @@
--- The events of lists, one list after another.
+-- Of the events of lists, one list after another, those that pass a test are gathered or left.
 use Rattle.std.proofs.Common.{◌≡◌, ℕ, ◌+◌, ◌<◌, ◌≤◌, Bool, List, ◌++◌, length, get_or, set, take, Vec, Global}
 use Rattle.std.proofs.Common.{refl, sym, ap, ◌∙◌, arith}
 use Rattle.std.specs.Prelude.{filter}
@@ -22,6 +22,7 @@ filtered_more p lists i list old new lt is so_far pushed =
     ∙ ap (λ (l : Vec Event Global). filter p (events_in (take i lists)) ++ filter p l.items) is
     ∙ sym (ap (filter p) (list_at lists i list lt) ∙ filter-append p (events_in (take i lists)) (get_or lists i list).items)
 
+-- after the last list, the events gathered are those of all lists that pass
 pub filtered_all : (p : Event → Bool) (lists : List (Vec Event Global)) (i : ℕ) (rows : List Event) → length lists ≤ i
     → rows ≡ filter p (events_in (take i lists)) → rows ≡ filter p (events_in lists)
 filtered_all p lists i rows past so_far = so_far ∙ ap (λ (ls : List (Vec Event Global)). filter p (events_in ls)) (take_all i lists past)
@@ -32,9 +33,11 @@ pub record AreFiltered (p : Event → Bool) (old new : List (Vec Event Global)) 
   pub below : events_in (take place new) ≡ filter p (events_in (take place old))
   pub above : (i : ℕ) (d : Vec Event Global) → place ≤ i → get_or new i d ≡ get_or old i d
 
+-- before the first list, the lists are as they were
 pub none_filtered : (p : Event → Bool) (lists : List (Vec Event Global)) → AreFiltered p lists lists 0
 none_filtered p lists = record { long = refl; below = refl; above = λ i d over. refl }
 
+-- where the list at the next place keeps what passes, one list more is filtered
 pub one_filtered : (p : Event → Bool) (old new : List (Vec Event Global)) (place : ℕ) (list d : Vec Event Global) → place < length new
     → list.items ≡ filter p (get_or new place d).items → AreFiltered p old new place → AreFiltered p old (set new place list) (place + 1)
 one_filtered p old new place list d inside left so_far = record {
@@ -50,6 +53,7 @@ one_filtered p old new place list d inside left so_far = record {
       get_or-set_other new place i list e (λ same. omega (arith, same, over)) ∙ so_far.above i e (omega (arith, over));
 }
 
+-- after the last list, the lists have the events of all that pass
 pub all_filtered : (p : Event → Bool) (old new : List (Vec Event Global)) (place : ℕ) → length new ≤ place → AreFiltered p old new place
     → events_in new ≡ filter p (events_in old)
 all_filtered p old new place past all =

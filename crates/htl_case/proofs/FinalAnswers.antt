@@ -64,6 +64,7 @@ first_below C p (suc n) =
 
 -- ---- the greatest sequence
 
+-- the greatest sequence of one event is its own
 pub greatest_one : (e : Event) → IsGreatestSequence (Contains (e ∷ [])) e.sequence
 greatest_one e = record {
   bound = λ x h. elim (Contains-cases e [] x h) [
@@ -180,6 +181,7 @@ module _ (T C : Trace) (moment : ℕ) (final : IsFinalAt T C moment) where
       final.trace.trace.in_order final.part.segments there_or_empty
       ∙ sym (filter_flat events test T.segments)
 
+-- an answer as of a moment up to which no segment is missing is that over the whole trace
 pub answers_are_final : AnswersAreFinal
 answers_are_final = record {
   events = events_are_final;

@@ -23,6 +23,7 @@ module _ (n m : ℕ) (steps : List Step) where
   one_place : (i j : ℕ) → IsLeastSuch ◌<◌ (HasAt (IsFaulty n m) steps) i → IsLeastSuch ◌<◌ (HasAt (IsFaulty n m) steps) j → i ≡ j
   one_place = one_least (HasAt (IsFaulty n m) steps)
 
+  -- two faults of a list of steps, neither of them out of memory, are one
   pub one_fault : (f g : PlayFault) → f ≢ NoMemory → g ≢ NoMemory → IsPlayRefusal n m steps f → IsPlayRefusal n m steps g → f ≡ g
   one_fault (NoAnalyst i) (NoAnalyst j) nf ng x y = ap NoAnalyst (one_place i j x.1 y.1)
   one_fault (NoAnalyst i) (NoSegment j) nf ng x y =
@@ -42,9 +43,11 @@ module _ (n m : ℕ) (steps : List Step) where
 
   -- ---- going through the steps
 
+  -- no step before this place is faulty
   abbrev pub NoneBefore : ℕ → Type 0
   NoneBefore i = (k : ℕ) → k < i → HasAt (IsFaulty n m) steps k → ⊥
 
+  -- where the next step names an analyst and a segment that are there, none of one step more is faulty
   pub none_more : (i : ℕ) (d : Step) → NoneBefore i → (NamesNoAnalyst n (get_or steps i d) → ⊥)
       → (NamesNoSegment m (get_or steps i d) → ⊥) → NoneBefore (i + 1)
   none_more i d before analysts segments k lt faulty =
@@ -56,6 +59,7 @@ module _ (n m : ℕ) (steps : List Step) where
         | inr ne ↦ before k (omega arith) faulty
       ]
 
+  -- where no step before the end is faulty, none is
   pub none_all : (i : ℕ) → length steps ≤ i → NoneBefore i → NoneIsFaulty n m steps
   none_all i all before k faulty =
       let within = slice_get_within steps k faulty.step faulty.here in

@@ -1,4 +1,4 @@
--- What is gathered from the events of one segment after the other.
+-- What is gathered from the events of one segment after the other is that of all segments' events.
 use Rattle.std.proofs.Common.{◌≡◌, ℕ, ◌+◌, ◌<◌, List, ◌++◌, length, get_or, map, take, sym, ap, ◌∙◌}
 use Rattle.std.proofs.lemmas.List.{map-append}
 use Rattle.htl_segment.specs.Content.{Content}

@@ -1,4 +1,4 @@
--- The headline: what follows for the states that histories leave.
+-- The headline holds of the states that histories leave.
 use Rattle.std.proofs.Common.{◌≡◌, ℕ, ◌<◌, Bool, true, false, List, [], ◌∷◌, length, Some, refl, sym, ap, ◌∙◌, subst, inl, inr, arith}
 use Rattle.std.proofs.Math.Path.{fun_ext}
 use Rattle.std.specs.Prelude.{◌||◌, slice_get, fold}
@@ -55,6 +55,7 @@ united T S R a b c ra rb merge p n =
     merge_keys T a b c merge (is_right T S a ra) (is_right T R b rb) p n
     ∙ ap (λ (h : Bool). h || keys b p n) (keys_are T S a ra p n) ∙ ap (λ (h : Bool). S p n || h) (keys_are T R b rb p n)
 
+-- the headline holds: keys, answers, equality once compacted, and merges
 pub the_headline : Headline
 the_headline = record {
   taken = keys_are;
@@ -80,6 +81,7 @@ not_both b t f = let e : true ≡ false = sym t ∙ f in cc
 not_new : Repeat ≡ New → ⊥
 not_new e = cc
 
+-- at each place of a trace's list stands a segment
 pub some_segment : (T : Trace) (place : ℕ) → place < length T.segments → (s : Content) × (slice_get T.segments place ≡ Some s)
 some_segment T place lt =
     elim (slice_get_cases T.segments place).1 [
@@ -124,6 +126,7 @@ taken_after T before a left (place ∷ places) there =
     let next = taken_there T place a segment.0 segment.1 in
     taken_after T (took before place) next.0 (a, left, next.1) places there.1
 
+-- segments of a trace can be taken in any order and with repeats
 pub any_segments_can_be_taken : AnySegmentsCanBeTaken
 any_segments_can_be_taken T trace some few places there =
     taken_after T begun (new_state T.id T.processors) (record { some = some; few = few; state = refl }) places there
@@ -134,6 +137,7 @@ any_segments_can_be_taken T trace some few places there =
 all_within : (T : Trace) (R : ℕ → ℕ → Bool) (a b : State) → IsRight a T → ((p n : ℕ) → keys b p n ≡ R p n) → HasAll T R → KeysAreIn a b
 all_within T R a b right kb all p n h = keys_taken b p n (kb p n ∙ all p n (key_of_trace T a right p n h))
 
+-- two analysts that all segments reached are the same once compacted
 pub same_once_whole : AreSameOnceWhole
 same_once_whole T S R a b ra rb all_a all_b ca cb =
     laws.equal_once_compacted T a b ra.trace

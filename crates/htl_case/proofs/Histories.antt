@@ -1,5 +1,5 @@
--- What a history leaves of an analyst: it is right about the trace, its keys are those that reached it, and once compacted it
--- stands. A list of steps gives each analyst a history by which the same keys reached it.
+-- A history leaves an analyst that is right about the trace, that has the keys which reached it, and that stands once compacted.
+-- A list of steps gives each analyst a history by which the same keys reached it.
 use Rattle.std.proofs.Common.{◌≡◌, ℕ, Bool, false, List, [], ◌∷◌, refl, sym, ap, ◌∙◌, subst, inl, inr}
 use Rattle.std.specs.Prelude.{◌||◌, fold}
 use Rattle.std.proofs.Math.Bool.{or-false}
@@ -20,15 +20,18 @@ use Rattle.htl_case.specs.Histories.{IsCompacted, history_after, history}
 use Rattle.htl_case.proofs.Stepped.{take_right, take_keys, merge_right, merge_keys}
 
 module _ (T : Trace) (trace : IsTrace T) where
+  -- a new analyst is right about the trace
   pub new_right : (a : State) → IsNew T a → IsRight a T
   new_right a is =
       subst (λ (b : State). IsRight b T) (sym is.state) (IsRight-new T T.id T.processors is.some is.few (collection_of T trace)
       refl refl)
 
+  -- a new analyst has no keys
   pub new_keys : (a : State) → IsNew T a → (p n : ℕ) → keys a p n ≡ false
   new_keys a is p n =
       ap (λ (b : State). keys b p n) is.state ∙ absent_key (new_state T.id T.processors).taken p n (HasTaken-new T.id T.processors p n)
 
+  -- each state that a history may leave is right about the trace
   pub leaves_right : (h : History) (a : State) → Leaves T h a → IsRight a T
   leaves_right begun a is = new_right a is
   leaves_right (took before place) a is = take_right T place is.0 a is.2 (leaves_right before is.0 is.1)
@@ -37,6 +40,7 @@ module _ (T : Trace) (trace : IsTrace T) where
   leaves_right (compacted before) a is = (is.2.standing T (leaves_right before is.0 is.1)).right
   leaves_right (compaction_refused before) a is = is.2.right T (leaves_right before is.0 is.1)
 
+  -- each state that a history may leave has exactly the keys that reached it
   pub leaves_keys : (h : History) (a : State) → Leaves T h a → (p n : ℕ) → keys a p n ≡ reached_by T h p n
   leaves_keys begun a is p n = new_keys a is p n
   leaves_keys (took before place) a is p n =
@@ -51,6 +55,7 @@ module _ (T : Trace) (trace : IsTrace T) where
   leaves_keys (compaction_refused before) a is p n =
       key_kept a.taken is.0.taken p n (is.2.keys p n) ∙ leaves_keys before is.0 is.1 p n
 
+  -- each state that a history with a compaction at its end may leave stands
   pub leaves_standing : (h : History) (a : State) → Leaves T h a → IsCompacted h → IsStanding a T
   leaves_standing begun a is never = absurd never
   leaves_standing (took before place) a is never = absurd never
@@ -91,5 +96,6 @@ module _ (T : Trace) where
   steps_reached (step ∷ steps) was sets same =
       steps_reached steps (history_after was step) (after_step T sets step) (step_reached step was sets same)
 
+  -- the history that the steps give an analyst brings it the keys that the steps do
   pub history_reached : (steps : List Step) → AreOf (history steps) (reached T steps)
   history_reached steps = steps_reached steps (λ i. begun) (λ i p n. false) (λ i p n. refl)

@@ -1,4 +1,4 @@
--- The order of keys, and what a sort by key leaves.
+-- The order of keys, by processor and then by number, is strict, and a sort by key leaves this order.
 use Rattle.std.proofs.Common.{◌≡◌, ℕ, ◌+◌, Bool, true, false, suc, List, [], ◌∷◌, sym, ap, ◌∙◌}
 use Rattle.std.proofs.Common.{subst, inl, inr, ◌⊎◌, refl, arith, IsSortedByKey}
 use Rattle.std.specs.Prelude.{Contains}
@@ -17,10 +17,12 @@ use Rattle.htl_case.specs.Ordered.{AreSortedBy}
 
 -- ---- keys
 
+-- no key comes before itself
 pub not_itself : (a : ℕ × ℕ) → IsKeyBefore a a → ⊥
 not_itself a (inl lt) = omega (arith, lt)
 not_itself a (inr same) = omega (arith, same.1)
 
+-- two pairs with equal parts are equal
 pub same_pair : (a b : ℕ × ℕ) → a.0 ≡ b.0 → a.1 ≡ b.1 → a ≡ b
 same_pair a b first second = ap (λ (x : ℕ). let k : ℕ × ℕ = (x, a.1) in k) first ∙ ap (λ (y : ℕ). let k : ℕ × ℕ = (b.0, y) in k) second
 
@@ -37,6 +39,7 @@ cases_key a b =
       | inr (inr gt) ↦ inr (inr (inl gt))
     ]
 
+-- a key before one that comes before a third comes before that one
 pub before_before : (a b c : ℕ × ℕ) → IsKeyBefore a b → IsKeyBefore b c → IsKeyBefore a c
 before_before a b c (inl p) (inl q) = inl (omega (arith, p, q))
 before_before a b c (inl p) (inr q) = inl (omega (arith, p, q.0))
@@ -62,6 +65,7 @@ module _ {X : Type 0} (key : X → ℕ × ℕ) where
   precedes_order : IsStrictWeakOrder precedes
   precedes_order = ranks_by key_cmp_total key
 
+  -- a list that a sort by key leaves is in the order of keys
   pub sorted_by_key : (xs : List X) → IsSortedByKey key key_cmp xs → AreSortedBy key xs
   sorted_by_key [] up = tt
   sorted_by_key (x ∷ xs) up =

@@ -1,4 +1,4 @@
--- The listing of a handle: its events, the newest first.
+-- The listing of a handle has its events, the newest first.
 use Rattle.std.proofs.Common.{◌≡◌, ◌≢◌, ℕ, suc, ◌+◌, ◌<◌, ◌≤◌, Bool, true, false, eqb, List, [], ◌∷◌, map}
 use Rattle.std.proofs.Common.{refl, sym, ap, ◌∙◌, inl, inr, ◌⊎◌, arith, IsPermutation, IsSortedByKey}
 use Rattle.std.specs.Prelude.{Contains, ◌↔◌, filter, cond, ◌&&◌}

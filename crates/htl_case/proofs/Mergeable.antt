@@ -314,5 +314,6 @@ module _ (T : Trace) (a b : State) (ra : IsRight a T) (rb : IsRight b T) where
         },
       )
 
+-- two states that are right about one trace have a merge
 pub any_can_be_merged : AnyCanBeMerged
 any_can_be_merged = merge_there

@@ -1,4 +1,4 @@
--- What stays of lists that are made of a list whose elements change places.
+-- What is made of a list element by element changes places as its elements do.
 use Rattle.std.proofs.Common.{◌≡◌, ℕ, zero, suc, ◌<◌, List, [], ◌∷◌, ◌++◌, length, get_or, set, map, Bool, refl, sym, ap, ◌∙◌, arith}
 use Rattle.std.proofs.Common.{IsPermutation}
 use Rattle.std.specs.Prelude.{filter}
@@ -26,6 +26,7 @@ module _ {X Y : Type 0} (f : X → Y) where
       ∙ ap (λ l. set l j (f (get_or (x ∷ xs) i x))) (sym (map-set f (x ∷ xs) i (get_or (x ∷ xs) j x)))
       ∙ sym (map-set f (set (x ∷ xs) i (get_or (x ∷ xs) j x)) j (get_or (x ∷ xs) i x))
 
+  -- where the images of a list change places, its elements change places accordingly
   pub images_moved : (xs : List X) (ys : List Y) → IsPermutation (map f xs) ys → AreImages f xs ys
   images_moved xs ys = IsPermutation-keeps (map f xs) (AreImages f xs)
       (record { behind = xs; moved = IsPermutation-refl xs; are = refl })
@@ -70,10 +71,12 @@ module _ {X Y : Type 0} (f : X → List Y) where
   swap_flat [] i j p q = IsPermutation-refl []
   swap_flat (x ∷ xs) i j p q = swapped x (x ∷ xs) i j p q
 
+  -- the lists of elements that change places, put one after the other, change places
   pub flat_moved : (xs ys : List X) → IsPermutation xs ys → IsPermutation (flat_map f xs) (flat_map f ys)
   flat_moved xs ys = IsPermutation-keeps xs (λ l. IsPermutation (flat_map f xs) (flat_map f l)) (IsPermutation-refl (flat_map f xs))
       (λ l i j p q so_far. IsPermutation-trans _ _ _ so_far (swap_flat l i j p q)) ys
 
+  -- what passes a test of lists put one after the other is what passes of each list, in order
   pub filter_flat : (p : Y → Bool) (xs : List X) → filter p (flat_map f xs) ≡ flat_map (λ x. filter p (f x)) xs
   filter_flat p [] = refl
   filter_flat p (x ∷ xs) = filter-append p (f x) (flat_map f xs) ∙ ap (λ l. filter p (f x) ++ l) (filter_flat p xs)
@@ -87,5 +90,6 @@ singles : {X : Type 0} (xs : List X) → flat_map (λ x. x ∷ []) xs ≡ xs
 singles [] = refl
 singles (x ∷ xs) = ap (λ l. x ∷ l) (singles xs)
 
+-- what passes a test of elements that change places changes places
 pub kept_moved : {X : Type 0} (p : X → Bool) (xs ys : List X) → IsPermutation xs ys → IsPermutation (filter p xs) (filter p ys)
 kept_moved p xs ys moved = rw (singles xs, singles ys) at (filter_moved (λ x. x ∷ []) p xs ys moved)

@@ -24,12 +24,14 @@ use Rattle.htl_case.proofs.FirstFaults.{one_least}
 
 -- ---- one case
 
+-- the order of segments by their keys is strict
 pub in_order_strict : IsStrictOrder IsBefore
 in_order_strict = record {
   irreflexive = λ s. not_itself (key_of s);
   transitive = λ s t u. before_before (key_of s) (key_of t) (key_of u);
 }
 
+-- segments in order rise by their keys
 pub in_order_rises : (ss : List Content) → AreInOrder ss → IsRising IsBefore ss
 in_order_rises [] ordered = tt
 in_order_rises (s ∷ ss) ordered = (ordered.0, in_order_rises ss ordered.1)
@@ -39,6 +41,7 @@ same_trace S T id count segments =
     ap (λ (x : ℕ). trace x S.processors S.segments) id ∙ ap (λ (x : ℕ). trace T.id x S.segments) count ∙ ap
     (λ (ss : List Content). trace T.id T.processors ss) segments
 
+-- a list of segments has one case
 pub one_case : (given : List Content) (S T : Trace) → IsCaseOf given S → IsCaseOf given T → S ≡ T
 one_case given S T a b =
     let first = some_member S.segments a.is_case.some in
@@ -75,23 +78,28 @@ module _ (given : List Content) (T : Trace) (is : IsCaseOf given T) where
   in_case : (s : Content) → Contains given s → Contains T.segments s
   in_case s h = (is.members s).1 h
 
+  -- each segment of the list has the case's trace id and processor count
   pub of_case : (s : Content) → Contains given s → (s.trace_id ≡ T.id) × (s.processors ≡ T.processors)
   of_case s h = at_member (λ s. (s.trace_id ≡ T.id) × (s.processors ≡ T.processors)) T.segments s is.is_case.trace.same (in_case s h)
 
+  -- the segments of a case have one trace id
   pub case_one_trace : HaveOneTrace given
   case_one_trace s t h k = (of_case s h).0 ∙ sym (of_case t k).0
 
+  -- the segments of a case have one processor count
   pub case_one_count : HaveOneCount given
   case_one_count s t h k = (of_case s h).1 ∙ sym (of_case t k).1
 
   case_content : HaveOneContent given
   case_content s t h k same = content_in_order T.segments is.is_case.trace.in_order s t (in_case s h) (in_case t k) same
 
+  -- the list of a case's segments isn't empty
   pub case_some : given ≢ []
   case_some none =
       let first = some_member T.segments is.is_case.some in
       Contains-nil first.0 (subst (λ (ss : List Content). Contains ss first.0) none ((is.members first.0).0 first.1))
 
+  -- no sequence comes twice in the segments of a case
   pub case_once : (x : ℕ) → ComesTwice given x → ⊥
   case_once x two =
       let twice = twice_counted T.segments x (record {
@@ -105,6 +113,7 @@ module _ (given : List Content) (T : Trace) (is : IsCaseOf given T) where
       }) in
       omega (arith, twice, times_from_own (all_events T.segments) is.is_case.trace.sequences x)
 
+  -- no key of a case falls
   pub case_rises : (key : ℕ × ℕ) → Falls given key → ⊥
   case_rises key falls =
       let rises = is.is_case.rising falls.segment falls.lower (in_case falls.segment falls.has_segment)
@@ -250,6 +259,7 @@ is_memory : (fault : CaseFault) → (fault ≡ NoMemory) ⊎ (fault ≢ NoMemory
 is_memory NoMemory = inl refl
 is_memory fault = inr (λ same. cc)
 
+-- the fault that is reported is the list's outcome, or the list is refused for want of memory
 pub exact_fault : (given : List Content) (fault : CaseFault) (outcome : Result Trace CaseFault) → IsRefusal given fault
     → IsOutcome given outcome
     → (◌≡◌ {A = Result Trace CaseFault} (Err fault) outcome) ⊎ (◌≡◌ {A = Result Trace CaseFault} (Err fault) (Err NoMemory))
@@ -265,6 +275,7 @@ exact_fault given fault outcome refused is =
     settle (Err other) is told = ap (λ (f : CaseFault). let r : Result Trace CaseFault = Err f in r)
         (one_fault given fault other told is.0 refused is.1)
 
+-- the case that is answered is the list's outcome, or the list is refused for want of memory
 pub exact_case : (given : List Content) (S : Trace) (outcome : Result Trace CaseFault) → IsCaseOf given S → IsOutcome given outcome
     → (◌≡◌ {A = Result Trace CaseFault} (Ok S) outcome) ⊎ (◌≡◌ {A = Result Trace CaseFault} (Ok S) (Err NoMemory))
 exact_case given S outcome case_is is = inl (settle outcome is)

@@ -1,4 +1,4 @@
--- Outlines of one trace, and outlines in the order of their keys.
+-- Outlines are of one trace exactly where all have the first one's id and count, and in key order repeats stand side by side.
 use Rattle.std.proofs.Common.{◌≡◌, ℕ, ◌+◌, ◌<◌, ◌≤◌, Bool, true, false, eqb, cond, List, [], ◌∷◌, length, get_or, drop}
 use Rattle.std.proofs.Common.{refl, sym, ap, ◌∙◌, subst, inl, inr, arith}
 use Rattle.std.specs.Prelude.{Contains}
@@ -29,6 +29,7 @@ each : (p : Outline → Bool) (os : List Outline) → ((o : Outline) → Contain
 each p [] all = refl
 each p (o ∷ os) all = and_from (p o) (list_all p os) (all o (Contains-here o os)) (each p os (λ x h. all x (Contains-there o os x h)))
 
+-- outlines that all have the first one's trace id and processor count are of one trace
 pub of_one : (os : List Outline) (first : Outline) → Contains os first → list_all (is_of first.trace_id first.processors) os ≡ true
     → AreOfOne os first.processors
 of_one os first h all = record {
@@ -42,6 +43,7 @@ of_one os first h all = record {
     parts o k = and_parts (eqb o.trace_id first.trace_id) (eqb o.processors first.processors)
         (every (is_of first.trace_id first.processors) os all o k)
 
+-- outlines of which one has another trace id or processor count are of no one trace
 pub not_of_one : (os : List Outline) (first : Outline) → Contains os first
     → list_all (is_of first.trace_id first.processors) os ≡ false → (processors : ℕ) → AreOfOne os processors → ⊥
 not_of_one os first h none processors of =
@@ -52,6 +54,7 @@ not_of_one os first h none processors of =
 
 -- ---- keys that come twice
 
+-- an outline adds one to how often its key comes, and nothing to how often another does
 pub times_key-cons : (key : ℕ × ℕ) (o : Outline) (os : List Outline)
     → times_key key (o ∷ os) ≡ cond (has_key key o) 1 0 + times_key key os
 times_key-cons key o os = sum_by-cons (λ (x : Outline). cond (has_key key x) 1 0) o os

@@ -135,6 +135,7 @@ told_to_rise ss (Some key) none told = absurd cc
 
 module _ (interest : Interest) (picks : Picks) (segments : List Content) (are : ArePicksOf interest picks segments)
     (fit : All Fits segments) where
+  -- where the outlines aren't of one trace, only whole segments tell
   pub no_trace : ((processors : ℕ) → AreOfOne picks.outlines.items processors → ⊥) → NeedsWhole segments
   no_trace none = inr (λ T is.
       let of : (o : Outline) → Contains picks.outlines.items o → (o.trace_id ≡ T.id) × (o.processors ≡ T.processors) = λ o h.
@@ -154,12 +155,14 @@ module _ (interest : Interest) (picks : Picks) (segments : List Content) (are : 
       no_segments [] empty = refl
       no_segments (s ∷ ss) empty = absurd cc
 
+  -- where a key comes twice among the outlines, only whole segments tell
   pub key_twice : (sorted : List Outline) → IsPermutation picks.outlines.items sorted → (key : ℕ × ℕ) × (2 ≤ times_key key sorted)
       → NeedsWhole segments
   key_twice sorted moved (key, two) =
       let here : 2 ≤ times_key key picks.outlines.items = omega (arith, two, times_key-moved key picks.outlines.items sorted moved) in
       inl (twice_at key segments (rw are.outlines at here))
 
+  -- outlines that were sorted are those of the segments in another order
   pub images : (sorted : List Outline) → IsPermutation picks.outlines.items sorted → AreImages outline_of segments sorted
   images sorted moved = images_moved outline_of segments sorted (rw are.outlines at moved)
 
@@ -173,18 +176,21 @@ module _ (interest : Interest) (picks : Picks) (segments : List Content) (are : 
     into : (s : Content) → Contains images.behind s → Contains segments s
     into s h = Contains-permutation images.behind segments s (IsPermutation-sym segments images.behind images.moved) h
 
+    -- where a sequence comes twice, only whole segments tell, as the list is no case
     pub sequence_twice : (n : ℕ) × (2 ≤ times n (map sequence_of (all_events segments))) → NeedsWhole segments
     sequence_twice (n, two) = inr (λ T is.
         let here = two_segments images.behind n in_order_here (recursion_from_All Fits images.behind fit_here)
         (omega (arith, two, times_in_moved n segments images.behind images.moved)) in
         case_once segments T is n (twice_moved images.behind segments n into here))
 
+    -- where a key falls, only whole segments tell, as the list is no case
     pub falls : ((ss : List Content) → sorted ≡ map outline_of ss → AreInOrder ss → All Fits ss → (key : ℕ × ℕ) × Falls ss key)
         → NeedsWhole segments
     falls fall = inr (λ T is.
         let (key, here) = fall images.behind images.are in_order_here fit_here in
         case_rises segments T is key (falls_moved images.behind segments key into here))
 
+    -- outlines of one trace in which no sequence comes twice and no key falls are those of a case, of which this was picked
     pub case_of_picks : (processors : ℕ) → AreOfOne picks.outlines.items processors
         → ((n : ℕ) → times n (map sequence_of (all_events segments)) ≤ 1)
         → ((ss : List Content) → sorted ≡ map outline_of ss → AreInOrder ss → All Fits ss → (key : ℕ × ℕ) → Falls ss key → ⊥)

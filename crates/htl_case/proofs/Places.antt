@@ -1,4 +1,4 @@
--- The first place with another value than place 0, as a search finds it.
+-- The first place whose value isn't that of place 0 is what a search finds.
 use Rattle.std.proofs.Common.{◌≡◌, ℕ, ◌<◌, Bool, not, ltb, List, length, get_or, Some, None}
 use Rattle.std.proofs.Common.{sym, ap, ◌∙◌, inl, inr, arith}
 use Rattle.std.specs.Prelude.{Contains, position, slice_get, cond, ◌==◌}
@@ -15,6 +15,7 @@ module _ (value : Content → ℕ) (v : ℕ) where
   abbrev other : Content → Bool
   other s = not (value s == v)
 
+  -- the place that the search finds is the least with another value than place 0
   pub first_other : (ss : List Content) (first : Content) (place : ℕ) → slice_get ss 0 ≡ Some first → value first ≡ v
       → position other ss ≡ Some place → IsLeastSuch ◌<◌ (Differs value ss) place
   first_other ss first place at is found =

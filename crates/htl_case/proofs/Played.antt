@@ -1,4 +1,4 @@
--- One step as the code does it, and the steps that were done with one more.
+-- What the code does in one step is a step, and with it one step more was done.
 use Rattle.std.proofs.Common.{◌≡◌, ℕ, ◌+◌, ◌<◌, ◌≤◌, Bool, false, List, ◌++◌, length, get_or, take, replicate}
 use Rattle.std.proofs.Common.{Some, refl, sym, ap, ◌∙◌, subst, inl, inr, arith}
 use Rattle.std.specs.Prelude.{slice_get, slice_set}
@@ -39,43 +39,53 @@ module _ (T : Trace) (is : IsCase T) where
         (at_member (λ s. (s.trace_id ≡ T.id) × (s.processors ≡ T.processors)) T.segments s.0 is.trace.same s.1).1,
       )
 
+  -- a case has a processor
   pub some_processors : 0 < T.processors
   some_processors = let f = first in let n = f.1.processors.0 in let e = f.2 in omega arith
 
+  -- a case has 256 processors at most
   pub few_processors : T.processors ≤ 256
   few_processors = let f = first in let n = few_by_version f.0.version f.0.processors f.1.processors.1 in let e = f.2 in omega arith
 
 -- ---- one step
 
+-- where all analysts are right about a trace, the one at a place is
 pub right_at : (T : Trace) (states : List State) (i : ℕ) (d : State) → AreRight T states → i < length states
     → IsRight (get_or states i d) T
 right_at T states i d right lt = right i (get_or states i d) (slice_get-get_or states i d lt)
 
+-- an analyst set to a state that a step allows was changed in this way, and no other was
 pub changes_at : (states : List State) (i : ℕ) (d new : State) (Way : State → State → Type 0) → i < length states
     → Way (get_or states i d) new → Changes i Way states (slice_set states i new)
 changes_at states i d new Way lt way =
     record { old = get_or states i d; here = slice_get-get_or states i d lt; new = new; way = way; others = refl }
 
+-- a merge with a copy of the source's state is one from the source
 pub merged_from : (states : List State) (source : ℕ) (d copy old new : State) → source < length states → copy ≡ get_or states source d
     → IsMerge old copy new → IsMergeFrom states source old new
 merged_from states source d copy old new lt same is = (copy, slice_get-get_or states source d lt ∙ ap Some (sym same), is)
 
 -- the analysts of a step that isn't faulty are there
 module _ (n m : ℕ) where
+  -- the analyst of a take that isn't faulty is there
   pub taker_there : (analyst segment : ℕ) → (IsFaulty n m (Take analyst segment) → ⊥) → analyst < n
   taker_there analyst segment fine = let there : n ≤ analyst → ⊥ = λ le. fine (inl le) in omega arith
 
+  -- the target of a merge that isn't faulty is there
   pub target_there : (target source : ℕ) → (IsFaulty n m (Merge target source) → ⊥) → target < n
   target_there target source fine = let there : n ≤ target → ⊥ = λ le. fine (inl (inl le)) in omega arith
 
+  -- the source of a merge that isn't faulty is there
   pub source_there : (target source : ℕ) → (IsFaulty n m (Merge target source) → ⊥) → source < n
   source_there target source fine = let there : n ≤ source → ⊥ = λ le. fine (inl (inr le)) in omega arith
 
+  -- the analyst of a compaction that isn't faulty is there
   pub compacted_there : (analyst : ℕ) → (IsFaulty n m (Compact analyst) → ⊥) → analyst < n
   compacted_there analyst fine = let there : n ≤ analyst → ⊥ = λ le. fine (inl le) in omega arith
 
 -- ---- the analysts that begin
 
+-- each element of a list of copies is what was copied
 pub item_replicated : {X : Type 0} (n i : ℕ) (x y : X) → slice_get (replicate n x) i ≡ Some y → y ≡ x
 item_replicated n i x y at =
     let within = slice_get_within (replicate n x) i y at in
@@ -84,6 +94,7 @@ item_replicated n i x y at =
 
 -- ---- the steps that were done
 
+-- where no step is faulty, the step at a place isn't
 pub step_there : (n m : ℕ) (steps : List Step) (i : ℕ) (d : Step) → NoneIsFaulty n m steps → i < length steps
     → IsFaulty n m (get_or steps i d) → ⊥
 step_there n m steps i d none lt faulty =
@@ -100,12 +111,14 @@ step_length T (Merge target source) before after is = ap length is.others ∙ le
 step_length T (Compact analyst) before after is = ap length is.others ∙ length-set before analyst is.new
 
 module _ (T : Trace) (steps : List Step) (i : ℕ) (d : Step) (lt : i < length steps) (before after : List State) where
+  -- where each analyst has the history of the steps so far, it has that of one step more after the step
   pub more_histories : HaveHistories T (take i steps) before → IsStep T (get_or steps i d) before after
       → HaveHistories T (take (i + 1) steps) after
   more_histories have is k a at =
       subst (λ (h : ℕ → History). Leaves T (h k) a) (sym (fold_more history_after (λ j. begun) steps i d lt))
       (step_histories T (get_or steps i d) before after (history (take i steps)) is have k a at)
 
+  -- where each analyst has the keys that the steps so far brought, it has those of one step more after the step
   pub more_keys : AreRight T before → HaveReached T (take i steps) before → IsTriedStep T (get_or steps i d) before after
       → HaveReached T (take (i + 1) steps) after
   more_keys right have is k a at p n =
@@ -118,6 +131,7 @@ pub all_histories : (T : Trace) (steps : List Step) (i : ℕ) (states : List Sta
 all_histories T steps i states all have =
     subst (λ (done : List Step). HaveHistories T done states) (take_all i steps all) have
 
+-- after the last step each analyst has the keys that all steps brought
 pub all_keys : (T : Trace) (steps : List Step) (i : ℕ) (states : List State) → length steps ≤ i
     → HaveReached T (take i steps) states → HaveReached T steps states
 all_keys T steps i states all have = subst (λ (done : List Step). HaveReached T done states) (take_all i steps all) have

@@ -37,6 +37,7 @@ twice_moved a b x into two = record {
 }
 
 module _ (given ordered : List Content) (id processors : ℕ) (of : AreOf given id processors) (put : IsInOrder given ordered) where
+  -- what was put in order under one id and one count is of one trace, with one content a key
   pub of_one_trace : AreOfOneTrace given
   of_one_trace = record {
     some = of.some;
@@ -45,6 +46,7 @@ module _ (given ordered : List Content) (id processors : ℕ) (of : AreOf given 
     content = put.content;
   }
 
+  -- the least sequence that comes twice in the segments in order refuses the list as it was given
   pub twice_refused : (x : ℕ) → IsLeastSuch ◌<◌ (ComesTwice ordered) x → AreOfOneTrace given × IsLeastSuch ◌<◌ (ComesTwice given) x
   twice_refused x least = (
     of_one_trace,
@@ -54,6 +56,7 @@ module _ (given ordered : List Content) (id processors : ℕ) (of : AreOf given 
     },
   )
 
+  -- the least key that falls in the segments in order, where no sequence comes twice, refuses the list as it was given
   pub falling_refused : (key : ℕ × ℕ) → ((x : ℕ) → ComesTwice ordered x → ⊥) → IsLeastSuch IsKeyBefore (Falls ordered) key
       → AreOfOneTrace given × ((x : ℕ) → ComesTwice given x → ⊥) × IsLeastSuch IsKeyBefore (Falls given) key
   falling_refused key once least = (
@@ -73,6 +76,7 @@ module _ (given ordered : List Content) (id processors : ℕ) (of : AreOf given 
       no_members [] none = refl
       no_members (s ∷ ss) none = absurd (none s (Contains-here s ss))
 
+  -- segments in order that fit, with sequences of their own that rise, are a case
   pub is_case : All Fits ordered → HaveOwnSequences (all_events ordered) → ((key : ℕ × ℕ) → Falls ordered key → ⊥)
       → IsCase (trace id processors ordered)
   is_case fit own none = record {
@@ -87,6 +91,7 @@ module _ (given ordered : List Content) (id processors : ℕ) (of : AreOf given 
     rising = rise_from_none ordered none;
   }
 
+  -- segments in order that fit, with sequences of their own that rise, are the case of the list as it was given
   pub is_case_of : All Fits ordered → HaveOwnSequences (all_events ordered) → ((key : ℕ × ℕ) → Falls ordered key → ⊥)
       → IsCaseOf given (trace id processors ordered)
   is_case_of fit own none = record { is_case = is_case fit own none; members = put.members }

@@ -1,4 +1,4 @@
--- Segments in the order of their keys: which keys have two contents, and what is left without repeats.
+-- Of segments in the order of their keys, neighbours show which keys have two contents, and what is left without repeats.
 use Rattle.std.proofs.Common.{◌≡◌, ◌≢◌, ℕ, ◌+◌, ◌<◌, ◌≤◌, length, get_or, drop, true, false, List, [], ◌∷◌}
 use Rattle.std.proofs.Common.{sym, ap, ◌∙◌, subst, inl, inr, ◌⊎◌, refl}
 use Rattle.std.specs.Prelude.{Contains, ◌↔◌, ◌==◌}
@@ -112,6 +112,7 @@ next_at : (rest : List Content) (i : ℕ) (next : Content) → i < length rest �
     → drop i rest ≡ next ∷ drop (i + 1) rest
 next_at rest i next lt is = drop_more rest i next lt ∙ ap (λ (x : Content). x ∷ drop (i + 1) rest) (sym is)
 
+-- where the next segment equals the one before or has another key, all gone through have one content a key
 pub gone_more : (segments rest : List Content) (i : ℕ) (last next : Content) → i < length rest → next ≡ get_or rest i next
     → (key_of next ≡ key_of last → next ≡ last)
     → AreGoneThrough segments (last ∷ drop i rest) → AreGoneThrough segments (next ∷ drop (i + 1) rest)
@@ -119,6 +120,7 @@ gone_more segments rest i last next lt is agree gone =
     one_gone segments last next (drop (i + 1) rest) agree
     (subst (λ (left : List Content). AreGoneThrough segments (last ∷ left)) (next_at rest i next lt is) gone)
 
+-- the key of the first two neighbours that differ under one key is the least with two contents
 pub gone_found : (segments rest : List Content) (i : ℕ) (last next : Content) → i < length rest → next ≡ get_or rest i next
     → key_of next ≡ key_of last → next ≢ last
     → AreGoneThrough segments (last ∷ drop i rest) → IsLeastSuch IsKeyBefore (HasTwoContents segments) (key_of next)
@@ -126,6 +128,7 @@ gone_found segments rest i last next lt is same differ gone =
     two_found segments last next (drop (i + 1) rest) same differ
     (subst (λ (left : List Content). AreGoneThrough segments (last ∷ left)) (next_at rest i next lt is) gone)
 
+-- after the last segment, no key has two contents
 pub gone_all : (segments rest : List Content) (i : ℕ) (last : Content) → length rest ≤ i → AreGoneThrough segments (last ∷ drop i rest)
     → HaveOneContent segments
 gone_all segments rest i last le gone =
@@ -217,6 +220,7 @@ once (s ∷ ss) sorted content = once_from s ss sorted content
 
 -- ---- a list and the same list sorted
 
+-- where no key of the sorted list has two contents, none of the list as it was given has
 pub content_moved : (given sorted : List Content) → IsPermutation given sorted → HaveOneContent sorted → HaveOneContent given
 content_moved given sorted moved content u v h k same =
     content u v (Contains-permutation given sorted u moved h) (Contains-permutation given sorted v moved k) same
@@ -233,6 +237,7 @@ two_moved a b key into two = record {
   differ = two.differ;
 }
 
+-- the least key with two contents in the sorted list is that in the list as it was given
 pub least_moved : (given sorted : List Content) (key : ℕ × ℕ) → IsPermutation given sorted
     → IsLeastSuch IsKeyBefore (HasTwoContents sorted) key → IsLeastSuch IsKeyBefore (HasTwoContents given) key
 least_moved given sorted key moved least = record {

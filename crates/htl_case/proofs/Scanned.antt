@@ -1,4 +1,4 @@
--- Where sequences fall, among segments in order.
+-- A loop over segments in order finds the first whose sequences fall, by the highest sequence of its processor so far.
 use Rattle.std.proofs.Common.{◌≡◌, ℕ, ◌+◌, ◌<◌, ◌≤◌, Bool, eqb, cond, List, [], ◌∷◌, ◌++◌, length, get_or, take}
 use Rattle.std.proofs.Common.{drop, map, max, zero, suc, All, refl, sym, ap, ◌∙◌, subst, inl, inr, ◌⊎◌, arith}
 use Rattle.std.specs.Prelude.{Contains}
@@ -21,6 +21,7 @@ use Rattle.htl_case.specs.Spans.{IsSpanOf}
 use Rattle.htl_case.proofs.SegmentSpans.{from_to, none_or_some}
 use Rattle.htl_segment.proofs.Spans.{above}
 
+-- a key that falls among some segments falls among more
 pub falls_moved : (a b : List Content) (key : ℕ × ℕ) → ((s : Content) → Contains a s → Contains b s) → Falls a key → Falls b key
 falls_moved a b key into falls = record {
   segment = falls.segment;
@@ -346,6 +347,7 @@ pub record IsBehind (ss : List Content) (i : ℕ) (o : Outline) : Type 0 where
   pub here : segment ≡ get_or ss i segment
   pub outlined : o ≡ outline_of segment
 
+-- behind an outline at a place stands the segment that it is of
 pub behind : (ss : List Content) (i : ℕ) (o d : Outline) → i < length (map outline_of ss) → o ≡ get_or (map outline_of ss) i d → IsBehind ss i o
 behind [] i o d lt is = absurd (omega (arith, lt))
 behind (s ∷ ss) zero o d lt is = record { segment = s; within = omega arith; here = refl; outlined = is }
@@ -365,12 +367,14 @@ module _ (outlines : List Outline) (i : ℕ) (o d : Outline) (lt : i < length ou
   behind_here : (ss : List Content) → outlines ≡ map outline_of ss → IsBehind ss i o
   behind_here ss are = behind ss i o d (rw are at lt) (rw are at is)
 
+  -- where the outline has no sequence, or is above all before it of its processor, one outline more was scanned
   pub scan_more : ((0 < o.first) × (o.first ≤ floor) → ⊥) → AreScannedTo outlines (i + 1) o.processor (max o.last floor)
   scan_more none ss are ordered fit =
       let at = behind_here ss are in
       more_here ss ordered i at.segment at.within at.here processor highest floor o
       (rw (← at.here) at (fit i at.segment at.within)) at.outlined (scanned ss are ordered fit) floor_is none
 
+  -- where the outline's first sequence isn't above those before it, its key is the least that falls
   pub scan_found : 0 < o.first → o.first ≤ floor → (ss : List Content) → outlines ≡ map outline_of ss → AreInOrder ss → All Fits ss
       → IsLeastSuch IsKeyBefore (Falls ss) (outline_key o)
   scan_found begun le ss are ordered fit =
@@ -379,6 +383,7 @@ module _ (outlines : List Outline) (i : ℕ) (o d : Outline) (lt : i < length ou
       (found_here ss ordered i at.segment at.within at.here processor highest floor o
       (rw (← at.here) at (fit i at.segment at.within)) at.outlined (scanned ss are ordered fit) floor_is begun le)
 
+-- where all outlines were scanned, no key falls
 pub scan_all : (outlines : List Outline) (i processor highest : ℕ) → length outlines ≤ i → AreScannedTo outlines i processor highest
     → (ss : List Content) → outlines ≡ map outline_of ss → AreInOrder ss → All Fits ss → (key : ℕ × ℕ) → Falls ss key → ⊥
 scan_all outlines i processor highest le scanned ss are ordered fit key falls =

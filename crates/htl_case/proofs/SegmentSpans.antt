@@ -9,6 +9,7 @@ use Rattle.htl_segment.proofs.Spans.{above}
 use Rattle.htl_segment.proofs.OutlineLaws.{last_is_greatest}
 use Rattle.htl_case.specs.Spans.{IsSpanOf}
 
+-- the span from one sequence to another
 abbrev pub from_to : ℕ → ℕ → Span
 from_to first last = record { first = first; last = last }
 
@@ -21,6 +22,7 @@ pub record HasSome (events : List Event) : Type 0 where
   pub first : 0 < first_sequence events
   pub span : IsSpanOf events (from_to (first_sequence events) (last_sequence 0 events))
 
+-- a segment that fits has no events, or its first and last sequence are its span
 pub none_or_some : (s : Content) → Fits s → HasNone s.events ⊎ HasSome s.events
 none_or_some s fit = go s.events fit.events refl
   where

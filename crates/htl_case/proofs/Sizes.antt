@@ -171,6 +171,7 @@ module _ (T : Trace) (a : State) (right : IsRight a T) where
       let sum = sum_by_more size_of a.taken k no_numbers lt in
       subst (λ (n : ℕ). count_by (below (keys a) n) T.segments ≡ sum_by size_of (take n a.taken)) (sym more) (one ∙ cc)
 
+  -- the taken numbers of an analyst are as many as the segments of the trace with a taken key
   pub size_is : sum_by size_of a.taken ≡ count_by (key_is_in (keys a)) T.segments
   size_is =
       sym (ap (sum_by size_of) (take_all a.processors a.taken (let len = right.state.places in omega arith)))

@@ -1,4 +1,4 @@
--- The span of events, one segment after another.
+-- The span of events is begun and widened by one segment after another.
 use Rattle.std.proofs.Common.{◌≡◌, ℕ, ◌+◌, ◌<◌, min, max, List, [], ◌++◌, length, get_or, map, take, Option}
 use Rattle.std.proofs.Common.{refl, sym, ap, ◌∙◌, subst, inl, inr, arith}
 use Rattle.std.proofs.lemmas.Bool.{cases_lt}
@@ -45,9 +45,11 @@ module _ (events : List Event) (s : Content) (o : Outline) (fit : Fits s) (is : 
     | inr has ↦ subst (λ (p : Outline). IsSpanOf s.events (from_to p.first p.last)) (sym is) has.span
   ]
 
+  -- after no events, a segment with events has the span from its first to its last sequence
   pub begun : (o.first ≡ 0 → ⊥) → events ≡ [] → IsSpanOf (events ++ s.events) (from_to o.first o.last)
   begun some none = subst (λ (es : List Event). IsSpanOf (es ++ s.events) (from_to o.first o.last)) (sym none) (own_span some)
 
+  -- a segment with events widens the span of those before to the lesser first and the greater last sequence
   pub widened : (span : Span) (first last : ℕ) → (o.first ≡ 0 → ⊥) → first ≡ min span.first o.first → last ≡ max span.last o.last
       → IsSpanOf events span → IsSpanOf (events ++ s.events) (from_to first last)
   widened span first last some low high before = joined events s.events span (from_to o.first o.last) first last low high before (own_span some)
@@ -58,6 +60,7 @@ module _ (events : List Event) (s : Content) (o : Outline) (fit : Fits s) (is : 
 abbrev Widens : Outline → Option Span → Option Span → Type 0
 Widens o old new = (events : List Event) (s : Content) → Fits s → o ≡ outline_of s → IsSpan events old → IsSpan (events ++ s.events) new
 
+-- the span of the events so far, widened by the segment at the next place, is that of one segment more
 pub span_more : (ss : List Content) (i : ℕ) (s : Content) (o : Outline) (old new : Option Span) → i < length ss → s ≡ get_or ss i s → Fits s
     → o ≡ outline_of s → Widens o old new → IsSpan (all_events (take i ss)) old → IsSpan (all_events (take (i + 1) ss)) new
 span_more ss i s o old new lt is fit outlined widens so_far =

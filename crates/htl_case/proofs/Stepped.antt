@@ -1,4 +1,4 @@
--- What one step leaves of each analyst: its history goes on, and its keys are those that reached it.
+-- After one step each analyst's history goes on, and its keys are those that reached it.
 use Rattle.std.proofs.Common.{◌≡◌, ◌≢◌, ℕ, ◌<◌, Bool, true, false, ◌&&◌, List, length}
 use Rattle.std.proofs.Common.{Option, Some, refl, sym, ap, ◌∙◌, subst, inl, inr, arith}
 use Rattle.std.specs.Prelude.{Contains, ◌↔◌, ◌||◌, ◌==◌, slice_get, slice_set}
@@ -86,11 +86,13 @@ module _ (T : Trace) (old : State) (s : Content) (right : IsRight old T) (in_tra
       (HasTaken-with_segment old s right.state (fits_of_trace old T right s in_trace) (of_trace old T right s in_trace) (fresh.0 refl) p n)
   took_keys Repeat fresh p n = key_inserted old.taken old.taken s.processor s.number p n (repeat_keys old s (was_taken fresh) p n)
 
+-- a take keeps an analyst right about the trace
 pub take_right : (T : Trace) (place : ℕ) (old new : State) → IsTake T place old new → IsRight old T → IsRight new T
 take_right T place old new is right =
     subst (λ (a : State). IsRight a T) (sym is.state)
     (took_right T old is.segment right (at_place T.segments place is.segment is.here) is.took is.is_new)
 
+-- a take adds the key of the segment that was taken
 pub take_keys : (T : Trace) (place : ℕ) (old new : State) → IsTake T place old new → IsRight old T → (p n : ℕ)
     → keys new p n ≡ (keys old p n || is_key_at T place p n)
 take_keys T place old new is right p n =
@@ -102,9 +104,11 @@ take_keys T place old new is right p n =
 
 -- ---- merging
 
+-- a merge of two analysts that are right about a trace is right about it
 pub merge_right : (T : Trace) (old other new : State) → IsMerge old other new → IsRight old T → IsRight other T → IsRight new T
 merge_right T old other new is right theirs = IsRight-merged old other new (of_one_trace T old other right theirs) is T right theirs
 
+-- a merge has the keys of both analysts
 pub merge_keys : (T : Trace) (old other new : State) → IsMerge old other new → IsRight old T → IsRight other T → (p n : ℕ)
     → keys new p n ≡ (keys old p n || keys other p n)
 merge_keys T old other new is right theirs p n =
@@ -175,6 +179,7 @@ module _ (T : Trace) (sets : ℕ → ℕ → ℕ → Bool) (before after : List 
   known : (i : ℕ) (a : State) → slice_get before i ≡ Some a → HasReached i a
   known i a at = (right i a at, have i a at)
 
+  -- after a step each analyst has the keys of its set, which the step changed
   pub tried_keys : (step : Step) → IsTriedStep T step before after → HaveKeys (after_step T sets step) after
   tried_keys (Take analyst segment) is =
       changed HasReached (λ i a. (p n : ℕ) → keys a p n ≡ after_step T sets (Take analyst segment) i p n)

@@ -98,6 +98,7 @@ module _ (T : Trace) (S : ℕ → ℕ → Bool) (C : Trace) (is : IsTakenCase T 
             (subst (λ (count : ℕ). IsGaps (HasKey C) count gaps.items) is.part.processors h),
       )
 
+-- over the keys of a case an analyst's answers are those over the case
 pub taken_cases_answer : TakenCasesAnswer
 taken_cases_answer T S C is = record {
   segments = segments_are T S C is;

@@ -1,4 +1,4 @@
--- Which sequences come twice among segments in order.
+-- A sequence comes twice among segments in order exactly where two segments have an event of it.
 use Rattle.std.proofs.Common.{◌≡◌, ◌≢◌, ℕ, ◌+◌, ◌<◌, ◌≤◌, List, [], ◌∷◌, map, Option, None, Some, All}
 use Rattle.std.proofs.Common.{IsPermutation, refl, sym, ap, ◌∙◌, subst, inl, inr, arith}
 use Rattle.std.specs.Prelude.{Contains, MatchOption}
@@ -74,6 +74,7 @@ more_twice s ss x two = record {
   in_other = two.in_other;
 }
 
+-- a sequence that comes twice among segments in order is in two of them
 pub two_segments : (ss : List Content) (x : ℕ) → AreInOrder ss → AllByRecursion Fits ss → 2 ≤ times x (map sequence_of (all_events ss))
     → ComesTwice ss x
 two_segments [] x ordered fit two = absurd (omega (arith, two))
@@ -117,11 +118,13 @@ counted_twice (u ∷ us) x s t h k differ in_s in_t =
       ]
     ]
 
+-- a sequence that two segments have comes twice
 pub twice_counted : (ss : List Content) (x : ℕ) → ComesTwice ss x → 2 ≤ times x (map sequence_of (all_events ss))
 twice_counted ss x two = counted_twice ss x two.one two.other two.has_one two.has_other two.differ two.in_one two.in_other
 
 -- ---- sequences of their own
 
+-- events whose sequences come once each have sequences of their own
 pub own_from_times : (es : List Event) → ((x : ℕ) → times x (map sequence_of es) ≤ 1) → HaveOwnSequences es
 own_from_times [] all = tt
 own_from_times (e ∷ es) all = (
@@ -136,6 +139,7 @@ own_from_times (e ∷ es) all = (
   own_from_times es (λ x. omega (arith, all x, times-cons x e.sequence (map sequence_of es))),
 )
 
+-- each sequence comes once at most among events with sequences of their own
 pub times_from_own : (es : List Event) → HaveOwnSequences es → (x : ℕ) → times x (map sequence_of es) ≤ 1
 times_from_own [] own x = omega arith
 times_from_own (e ∷ es) own x =
@@ -151,10 +155,12 @@ times_from_own (e ∷ es) own x =
 
 -- ---- sorted sequences, as the code looks at them
 
+-- where each sequence comes once at most, none comes twice and events have sequences of their own
 pub none_twice : (ss : List Content) → ((x : ℕ) → times x (map sequence_of (all_events ss)) ≤ 1)
     → ((x : ℕ) → ComesTwice ss x → ⊥) × HaveOwnSequences (all_events ss)
 none_twice ss once = (λ x two. (let n = twice_counted ss x two in omega (arith, n, once x)), own_from_times (all_events ss) once)
 
+-- what the sorted sequences tell, the least that comes twice or that none does, is so of the segments
 pub told_twice : (ss : List Content) (sequences sorted : List ℕ) (r : Option ℕ) → AreInOrder ss → All Fits ss
     → sequences ≡ map sequence_of (all_events ss) → IsPermutation sequences sorted
     → MatchOption r ((x : ℕ) → times x sorted ≤ 1) (IsLeastSuch ◌<◌ (λ x. 2 ≤ times x sorted))

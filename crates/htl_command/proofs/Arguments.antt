@@ -1,4 +1,4 @@
--- What arguments ask for, from what `clap` says of them.
+-- What arguments ask for follows from what `clap` says of them.
 use Rattle.std.proofs.Common.{◌≡◌, ◌∙◌, true, false, refl, List, [], ◌∷◌, ◌≢◌, inl, inr, map, length, arith}
 use Rattle.std.specs.Prelude.{None, Option, Some, Bool, if◌then◌else◌}
 use Rattle.std.specs.List.{list_any}
@@ -35,6 +35,7 @@ unfolding requested
 taken [] some none = absurd (some refl)
 taken (argument ∷ more) some none = rw none refl
 
+-- arguments ask for notes where their entries do
 pub taken-notes : (arguments : List Text) → arguments ≢ [] → notes_in arguments ≡ notes_met (entries arguments)
 unfolding notes_in
 taken-notes [] some = absurd (some refl)
@@ -53,6 +54,7 @@ refused-none test (argument ∷ more) some why = go (refusals (argument ∷ more
 none-nothing : (asked : Option Request) → asked ≡ None → AsksNothing asked
 none-nothing asked none = rw none tt
 
+-- the refusal of arguments that `clap` refuses is one of arguments that ask for nothing
 pub refused : (arguments : List Text) (fault : ParseFault) → arguments ≢ [] → IsRefused arguments fault → RefusesArguments arguments fault
 refused arguments (Help text) some why = (none-nothing (requested arguments) (refused-none is_wish arguments some why), why)
 refused arguments (Usage text) some why =
@@ -68,6 +70,7 @@ broken arguments Memory some none why = tt
 
 -- ---- the same of a question of a dialogue
 
+-- a line of a dialogue that `clap` takes asks for what its entries ask for
 pub asked_taken : (arguments : List Text) → refusals arguments ≡ [] → asked_in arguments ≡ asked_met (entries arguments)
 unfolding asked_in
 asked_taken arguments none = rw none refl
@@ -80,11 +83,13 @@ asked-none test arguments why = go (refusals arguments) why
     go [] why = let bad : false ≡ true = why in cc
     go (kind ∷ kinds) why = refl
 
+-- the refusal of a line that `clap` refuses is one of a line that asks for nothing
 pub asked_refused : (arguments : List Text) (fault : ParseFault) → IsRefused arguments fault → RefusesQuestion arguments fault
 asked_refused arguments (Help text) why = (asked-none is_wish arguments why, why)
 asked_refused arguments (Usage text) why = (asked-none is_mistake arguments why.0, (inr why.0, why.1))
 asked_refused arguments Memory why = tt
 
+-- a line that `clap` takes and whose entries ask for nothing is refused as one that asks for nothing
 pub asked_broken : (arguments : List Text) (fault : ParseFault) → refusals arguments ≡ []
     → IsUsageWith (asked_met (entries arguments) ≡ None) fault → RefusesQuestion arguments fault
 asked_broken arguments (Help text) none why = absurd why

@@ -1,4 +1,4 @@
--- What `clap` is given, and what it says of a command line that is given to it so.
+-- The program that `clap` is given is the one that is wanted, and what it says of a command line is said of this program.
 use Rattle.std.proofs.Common.{◌≡◌, ◌∙◌, ap, true, false, refl, List, [], ◌∷◌, ◌⊎◌, inl, inr, sym}
 use Rattle.std.specs.Prelude.{Bool, ◌||◌}
 use Rattle.std.specs.List.{list_any}

@@ -1,4 +1,4 @@
--- Which texts are printed faults: what is read of one is all that it can be.
+-- What is read of a text as a printed fault is all that the text can be.
 use Rattle.std.proofs.Common.{◌≡◌, ◌∙◌, ap, sym, subst, refl, true, false, ℕ, zero, suc, List, [], ◌∷◌, ◌++◌, inl, inr, ◌⊎◌, ◌<◌}
 use Rattle.std.proofs.Common.{length, get_or, map, eqb, arith}
 use Rattle.std.specs.Prelude.{Bool, Contains, MatchOption, None, Option, Some, find, ⊤}
@@ -25,6 +25,7 @@ use Rattle.htl_command.specs.declared.printed.Parts.TheVariants.{Nothing, Number
 use Rattle.htl_command.specs.declared.printed.PrintedFault.{PrintedFault}
 use denote.Ref.{Bor}
 
+-- where nothing was found, and nothing has P, it was found as P asks
 pub finds-none : {X : Type 0} (P : X → Type 0) (found : Option X) → found ≡ None → ((x : X) → P x → ⊥) → Finds P found
 finds-none P found none never = rw none never
 
@@ -81,11 +82,13 @@ own Y7 = (refl, refl)
 own E1 = (refl, refl)
 own E2 = (refl, refl)
 
+-- a name that equals that of a code, in letters of either case, names this code
 pub named : (name : List ℕ) (code : Code) → map to_ascii_lowercase name ≡ map to_ascii_lowercase (code_name code) → code_named name ≡ Some code
 unfolding code_named
 named name code same =
     subst (λ (text : List ℕ). find (λ (c : Code). bytes_eq (map to_ascii_lowercase (code_name c)) text) all_codes ≡ Some code) (sym same) (own code).0
 
+-- a name that names a code equals that of this code, in letters of either case
 pub called : (name : List ℕ) (code : Code) → code_named name ≡ Some code → map to_ascii_lowercase name ≡ map to_ascii_lowercase (code_name code)
 unfolding code_named
 called name code is = sym ((bytes_eq-Decides _ _).0 (find-passes (is_called name) all_codes code is))
@@ -152,6 +155,7 @@ follow f (Number n) text at = (text, refl, at)
 follow f (Numbers m n) text at = (text, refl, at)
 follow f (Field name) text at = (text, refl, at)
 
+-- a name with a parenthesis that isn't closed at the end is no printed fault
 pub no_end : (name tail : List ℕ) → ((front : List ℕ) → tail ≡ front ++ (41 ∷ []) → ⊥) → (fault : PrintedFault) → AreFault name (40 ∷ tail) fault → ⊥
 no_end name tail none fault of = let p = inside (form_of fault.code) fault.parts tail of.parts in none p.0 p.1
 
@@ -166,6 +170,7 @@ same_end (x ∷ xs) (y ∷ ys) e =
     let head : x ≡ y = cc in
     rw (head, same_end xs ys rest) refl
 
+-- a code's name with something in parentheses that isn't of the code's form is no printed fault
 pub no_parts : (name inner : List ℕ) (code : Code) → code_named name ≡ Some code
     → ((parts : Parts) → AreInside (form_of code) parts inner → ⊥) → (fault : PrintedFault) → AreFault name (40 ∷ (inner ++ (41 ∷ []))) fault → ⊥
 no_parts name inner code is none fault of =
@@ -174,10 +179,12 @@ no_parts name inner code is none fault of =
     let p = inside (form_of fault.code) fault.parts (inner ++ (41 ∷ [])) of.parts in
     none fault.parts (rw (← same, same_end inner p.0 p.1) p.2)
 
+-- a code's name with parts of its form in parentheses is the printed fault of both
 pub some_parts : (name inner : List ℕ) (code : Code) (parts : Parts) → code_named name ≡ Some code → AreInside (form_of code) parts inner
     → AreFault name (40 ∷ (inner ++ (41 ∷ []))) (record { code = code; parts = parts })
 some_parts name inner code parts is at = record { code = called name code is; parts = follow (form_of code) parts inner at }
 
+-- what isn't the name of a field is nothing that stands in a fault about a field
 pub no_field : (inner : List ℕ) → ((name : Bor (List ℕ)) → (name.now ≡ inner) × Contains field_names inner → ⊥) → (parts : Parts)
     → AreInside form.Field parts inner → ⊥
 no_field inner none Nothing at = at
@@ -185,6 +192,7 @@ no_field inner none (Number n) at = at
 no_field inner none (Numbers m n) at = at
 no_field inner none (Field name) at = none name at
 
+-- what isn't two numbers is nothing that stands in a fault about two numbers
 pub no_numbers : (inner : List ℕ) → ((x : ℕ × ℕ) → AreTwo x.0 x.1 inner → ⊥) → (parts : Parts) → AreInside form.Numbers parts inner → ⊥
 no_numbers inner none Nothing at = at
 no_numbers inner none (Number n) at = at
@@ -210,6 +218,7 @@ no_blank (b ∷ text) n is = go (eqb b 32) refl
     go true blank = absurd (digits-lack (b ∷ text) n 32 is refl zero (omega arith) (eqb-true b 32 blank))
     go false other = rw other refl
 
+-- a text that doesn't begin with a blank has no blank to take away
 pub blank_kept : (text : List ℕ) → ((rest : List ℕ) → text ≡ 32 ∷ rest → ⊥) → text ≡ after_blank text
 blank_kept [] none = refl
 blank_kept (b ∷ text) none = go (eqb b 32) refl
@@ -221,6 +230,7 @@ blank_kept (b ∷ text) none = go (eqb b 32) refl
 abbrev Splits : List ℕ → List ℕ → Option (Bor (List ℕ) × Bor (List ℕ)) → Type 0
 Splits first second r = MatchOption r ⊥ (λ x. (x.0.now ≡ first) × (after_blank x.1.now ≡ second))
 
+-- two numbers in a text are split by the first comma into the text of each
 pub two_split : (m n : ℕ) (text : List ℕ) (r : Option (Bor (List ℕ) × Bor (List ℕ))) (p : AreTwo m n text) → IsSplitOnceResult 44 text r
     → Splits p.first p.second r
 two_split m n text r p splits = go p.blank
@@ -244,6 +254,7 @@ blank_cases (b ∷ text) = go (eqb b 32) refl
     go true blank = let is : b ≡ 32 = eqb-true b 32 blank in inr (rw (blank, is) refl)
     go false other = inl (rw other refl)
 
+-- a text with a number before its comma, and one after it with or without a blank, is these two numbers
 pub two_made : (m n : ℕ) (text first second : List ℕ) → text ≡ first ++ (44 ∷ second) → sequence_in first ≡ Some m
     → sequence_in (after_blank second) ≡ Some n → AreTwo m n text
 two_made m n text first second is left right = go (blank_cases second)
@@ -296,6 +307,7 @@ found (y ∷ ys) inner x is = go (bytes_eq y.now inner) refl (λ later. found ys
     go true pass later = (zero, omega arith, (bytes_eq-Decides y.now inner).0 pass)
     go false fail later = let p = later (rw fail at is) in (suc p.0, omega arith, p.2)
 
+-- a search among names finds the one that the text is, or none where it is none of them
 pub finds_name : (names : List (Bor (List ℕ))) (inner : List ℕ) (r : Option (Bor (List ℕ))) → r ≡ find (λ name. bytes_eq name.now inner) names
     → Finds (λ name. (name.now ≡ inner) × Contains (Names names) inner) r
 finds_name names inner None is = λ (x : Bor (List ℕ)) (p : (x.now ≡ inner) × Contains (Names names) inner). missing names inner p.1.0 (sym is) p.1.1 p.1.2

@@ -22,9 +22,9 @@ use Rattle.htl_command.specs.declared.names.CommandOption.TheVariants.{Workers, 
 use Rattle.htl_command.specs.declared.names.QuestionName.{QuestionName}
 use Rattle.htl_command.specs.declared.names.QuestionName.TheVariants as name
 use Rattle.htl_command.specs.declared.printed.PrintedFault.{PrintedFault}
-use Rattle.htl_command.specs.declared.reading.NoJob.{NoJob}
-use Rattle.htl_command.specs.declared.reading.NoJob.TheVariants.{Value, Formats}
-use Rattle.htl_command.specs.declared.reading.InvalidValue.{InvalidValue}
+use Rattle.htl_command.specs.declared.no_job.NoJob.{NoJob}
+use Rattle.htl_command.specs.declared.no_job.NoJob.TheVariants.{Value, Formats}
+use Rattle.htl_command.specs.declared.no_job.InvalidValue.{InvalidValue}
 use Rattle.htl_command.specs.declared.fault.ParseFault.{ParseFault}
 use Rattle.htl_command.specs.declared.fault.ParseFault.TheVariants.{Help, Usage, Memory}
 

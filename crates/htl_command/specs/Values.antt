@@ -46,7 +46,7 @@ tag_in text =
 abbrev pub number_in : ℕ → ℕ → List ℕ → Option ℕ
 number_in least most text = option_and_then (λ n. if nat_lt n least then None else Some n) (decimal_number most text)
 
--- how many threads share the work: 1 to 8
+-- how many threads are used at most: 1 to 8
 abbrev pub workers_in : List ℕ → Option ℕ
 workers_in = number_in 1 8
 

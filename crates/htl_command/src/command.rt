@@ -2,25 +2,27 @@
 ghost use Rattle.std.specs.Prelude.{◌≡◌, ◌≢◌, [], IfErr, IfOk, IsOk, None, Some, map, option_map};
 ghost use Rattle.std.specs.Prelude.{string_bytes};
 ghost use Rattle.clap.specs.Words.{subcommand_rows_of};
-ghost use Rattle.htl_command.specs.Entries.{entries as entries_in, refusals};
 ghost use Rattle.htl_command.specs.Refusals.{IsUsageWith, RefusesArguments};
 ghost use Rattle.htl_command.specs.Requests.{AsksNothing, IsAskedFor, asks, file_names};
 ghost use Rattle.htl_command.specs.Requests.{given as given_in, is_given as is_given_in, job_of};
 ghost use Rattle.htl_command.specs.Requests.{notes_in, notes_met, request_met, request_of};
 ghost use Rattle.htl_command.specs.Requests.{requested, setting_of, stored as stored_work, work};
 ghost use Rattle.htl_command.specs.Requests.{with_files as with_files_in};
-ghost use Rattle.htl_command.specs.Steps.{IsRefused, entries_of};
+ghost use Rattle.htl_command.specs.Steps.{entries_of};
 ghost use Rattle.htl_command.specs.declared.command.Command.TheVariants as wish;
 ghost use Rattle.htl_command.specs.declared.names.CommandFlag.TheVariants as flag;
 ghost use Rattle.htl_command.specs.declared.names.CommandName.TheVariants as command;
 ghost use Rattle.htl_command.specs.declared.names.CommandOption.TheVariants as option;
 
-use crate::builder::{Place, program};
-use crate::fault::{ParseFault, from_clap, no_command, refused_entries, unknown_code};
+use crate::builder::Place;
+use crate::entries::{files, is_given, symbols};
+use crate::fault::{ParseFault, no_command, refused_entries, unknown_code};
+use crate::matching::matches;
 use crate::names::{CommandFlag, CommandName, QuestionName};
+use crate::no_job::NoJob;
 use crate::printed::PrintedFault;
 use crate::question::{Format, InputForm, Job, Question, Setting};
-use crate::reading::{NoJob, files, input_form, is_given, job, printed_fault, setting, symbols};
+use crate::reading::{input_form, job, printed_fault, setting};
 use clap::ArgMatches;
 use std::alloc::{AllocError, Global};
 
@@ -143,74 +145,6 @@ fn read_arguments(alloc: Global, arguments: &[String]) -> Result<CommandLine, Pa
         Ok(matches) => read_matches(alloc, &matches),
         Err(fault) => Err(fault),
     }
-}
-
-/// What `clap` finds in the arguments.
-pub(crate) fn matches<'a>(
-    alloc: Global,
-    arguments: &'a [String],
-    place: Place,
-) -> Result<ArgMatches<'a>, ParseFault>
-    ensures ok { IfOk result (λ matches. (refusals (map string_bytes arguments.entry.now) ≡ [])
-        × (subcommand_rows_of matches ≡ entries_in (map string_bytes arguments.entry.now))) }
-    ensures err { IfErr result (IsRefused (map string_bytes arguments.entry.now)) }
-{
-    match program(alloc, place)?.try_get_matches_from(arguments) {
-        Ok(matches) => Ok(matches),
-        Err(error) => Err(from_clap(alloc, &error, tip(arguments, place))),
-    }
-}
-
-/// The tip in the place of `clap`'s, which takes a value that begins with `-` for another option or a
-/// file. It is empty where the value can't begin so, and where no file can be given. There is none
-/// where `clap`'s own tip may help.
-fn tip(arguments: &[String], place: Place) -> Option<&'static str> {
-    if has_separated(arguments) {
-        Some("\n\n  tip: a value that begins with '-' follows '=', as in '--tag=-abc'")
-    } else if place.is_dialogue() || has_no_number(arguments) {
-        Some("")
-    } else {
-        None
-    }
-}
-
-fn has_separated(arguments: &[String]) -> bool {
-    let next = arguments.iter().skip(1);
-    arguments
-        .iter()
-        .zip(next)
-        .any(|(option, value)| is_separated(option, value))
-}
-
-fn has_no_number(arguments: &[String]) -> bool {
-    let next = arguments.iter().skip(1);
-    arguments
-        .iter()
-        .zip(next)
-        .any(|(option, value)| is_no_number(option, value))
-}
-
-/// Whether a value that begins with `-`, of an option that may have such a value, stands apart from
-/// it.
-fn is_separated(option: &str, value: &str) -> bool {
-    matches!(option, "--tag" | "--symbols") && value.starts_with('-')
-}
-
-/// Whether what follows an option whose value is a number begins with `-`, as no such value does.
-fn is_no_number(option: &str, value: &str) -> bool {
-    let takes_number = matches!(
-        option,
-        "--process"
-            | "--since"
-            | "--at-least"
-            | "--object"
-            | "--handle"
-            | "--points"
-            | "--top"
-            | "--workers"
-            | "--until"
-    );
-    takes_number && value.starts_with('-')
 }
 
 fn read_matches(alloc: Global, matches: &ArgMatches) -> Result<CommandLine, ParseFault>

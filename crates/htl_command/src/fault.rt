@@ -6,7 +6,7 @@ ghost use Rattle.htl_command.specs.Steps.{Reports};
 
 use crate::help::CODE_EXPECTED;
 use crate::names::CommandName;
-use crate::reading::NoJob;
+use crate::no_job::NoJob;
 use clap::error::ErrorKind;
 use std::alloc::{AllocError, Global};
 use thiserror::Error;

@@ -15,7 +15,7 @@ Options of every question, from summary to growth:
                         18446744073709551615, or 'complete' for the one up to
                         which no segment is missing
       --symbols <FILE>  Names for addresses: CSV of start,end,module,name
-      --workers <N>     How many threads share the work: 1 to 8 [default: 1]
+      --workers <N>     Use up to N threads: 1 to 8 [default: 1]
       --json            One JSON object a line, for other programs
       --complete        Refuse segments of which one is missing (C8)
       --hex             The files hold hexadecimal digits, not bytes
@@ -26,7 +26,7 @@ Options of every question, from summary to growth:
 Exit status:
   0  done                        4  not one trace, or not the one asked about
   1  found, with --exit-code     5  a read or a write failed
-  2  wrong command line          6  out of memory or of threads
+  2  wrong command line          6  out of memory
   3  not a segment or its text   7  not a symbol table
 
 Examples:
@@ -172,7 +172,8 @@ impl CommandOption {
                 "\
 Only handles opened after this sequence: decimal, at
 most 18446744073709551615, or 'snapshot' for that of the
-process's last snapshot [default of diff: snapshot]"
+process's last snapshot
+[default: snapshot for diff, none for leaks]"
             }
             CommandOption::AtLeast => {
                 "\
@@ -197,7 +198,7 @@ The handle: 1 to 16 hexadecimal digits, with or without
             CommandOption::Points => "At most N moments: decimal, 2 to 1000 [default: 20]",
             CommandOption::Top => "At most N rows: decimal, 1 to 4294967295",
             CommandOption::Symbols => "Names for addresses: CSV of start,end,module,name",
-            CommandOption::Workers => "How many threads share the work: 1 to 8 [default: 1]",
+            CommandOption::Workers => "Use up to N threads: 1 to 8 [default: 1]",
             CommandOption::Until => {
                 "\
 Only events up to this sequence count: decimal, at most

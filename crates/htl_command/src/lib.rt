@@ -9,17 +9,22 @@
 //! Files, in reading order: `question.rt` (what can be asked), `code.rt` (the codes of faults),
 //! `printed.rt` (faults as they are printed), `names.rt` (the commands and their options, by name),
 //! `builder.rt` (the commands as `clap` gets them), `command.rt` (`parse`), `line.rt` (a question of
-//! a dialogue), `reading.rt` and `values.rt` (entries and values), `help.rt` and `fault.rt` (what a
+//! a dialogue), `matching.rt` and `entries.rt` (what `clap` finds), `reading.rt` (what that asks for),
+//! `options.rt` and `values.rt` (the values of options), `no_job.rt`, `fault.rt` and `help.rt` (what a
 //! person reads).
 #![tactic(auto)]
 
 mod builder;
 mod code;
 mod command;
+mod entries;
 mod fault;
 mod help;
 mod line;
+mod matching;
 mod names;
+mod no_job;
+mod options;
 mod printed;
 mod question;
 mod reading;

@@ -7,8 +7,8 @@ ghost use Rattle.htl_command.specs.Steps.{entries_of};
 ghost use Rattle.htl_command.specs.declared.names.CommandName.TheVariants as command;
 
 use crate::builder::Place;
-use crate::command::matches;
 use crate::fault::{ParseFault, no_command, no_question, refused_entries};
+use crate::matching::matches;
 use crate::names::{CommandName, QuestionName};
 use crate::question::Job;
 use crate::reading::{is_of_run, job};

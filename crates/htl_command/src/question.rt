@@ -93,7 +93,7 @@ pub struct InputForm {
 pub struct Setting {
     /// How the inputs hold segments.
     pub form: InputForm,
-    /// The number of threads that share the work, 1 to 8.
+    /// The greatest number of threads that are used, 1 to 8.
     pub workers: u32,
     /// Whether segments of which one is missing are refused.
     pub complete: bool,

@@ -7,7 +7,7 @@ ghost use Rattle.htl_command.specs.Values.{workers_in};
 use crate::question::{Moment, Since};
 use htl_numbers::{decimal, hexadecimal};
 
-/// The greatest number of threads that share the work.
+/// How many threads can be asked for at most.
 const MOST_WORKERS: u32 = 8;
 
 /// At how many moments open handles are counted: at least, and at most.

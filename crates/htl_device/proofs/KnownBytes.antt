@@ -1,4 +1,4 @@
--- Known bytes over two writes.
+-- What two writes add to known bytes, one after the other, is the texts of both.
 use Rattle.std.proofs.Common.{◌≡◌, ◌+◌, ℕ, List, ◌++◌, length, take, drop, sym, append_assoc, Option, Some, None, arith}
 use Rattle.std.specs.Io.KnownBytes.{Appends}
 use Rattle.std.proofs.KnownBytes.{Appends-trans}

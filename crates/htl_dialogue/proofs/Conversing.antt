@@ -1,4 +1,4 @@
--- How far a dialogue has come: which lines got their replies and their notes, and which are left.
+-- A dialogue has come so far: these lines got their replies and their notes, and those are left.
 use Rattle.std.proofs.Common.{◌≡◌, ◌+◌, ◌≤◌, ◌∙◌, ℕ, Bool, true, false, List, [], ◌∷◌, ◌++◌, None, Some, length, refl, sym, ap, arith}
 use Rattle.std.proofs.Common.{append_assoc}
 use Rattle.std.specs.Prelude.{Option, if◌then◌else◌}
@@ -18,6 +18,7 @@ use Rattle.htl_dialogue.proofs.Hearing.{end_of_line}
 use Rattle.htl_dialogue.proofs.NextLines.{first_line, line_first}
 use Rattle.htl_dialogue.proofs.Noting.{one_more}
 
+-- the line, as it is split into arguments, ends the dialogue
 abbrev pub line_is_end : List ℕ → Bool
 line_is_end line = is_end (saying_of line)
 
@@ -46,6 +47,7 @@ pub record Takes (forgets : Bool) (left now : Option (List ℕ)) (next : NextLin
 asked_none : (line : List ℕ) (more : List (List ℕ)) → line_is_end line ≡ true → before_end (line ∷ more) ≡ []
 asked_none line more ends = rw ends refl
 
+-- a line that doesn't end the dialogue is one of those that are asked
 pub asked_one : (line : List ℕ) (more : List (List ℕ)) → line_is_end line ≡ false → before_end (line ∷ more) ≡ line ∷ before_end more
 asked_one line more goes_on = rw goes_on refl
 

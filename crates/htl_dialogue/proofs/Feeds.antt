@@ -1,4 +1,4 @@
--- Where a text is cut at its first line feed.
+-- A text is cut at its first line feed, into what stands before it and what follows.
 use Rattle.std.proofs.Common.{◌≡◌, ◌+◌, ◌-◌, ◌<◌, ◌≤◌, ℕ, Bool, true, false, List, ◌∷◌, ◌++◌, length, take, drop, get_or, refl, arith}
 use Rattle.std.specs.Prelude.{None, Some, nat_lt, position}
 use Rattle.std.specs.List.{position_or_len}
@@ -30,6 +30,7 @@ first_is text within =
       parts = rw here at cut;
     }
 
+-- where a search finds the first line feed, the text is cut there
 pub cut_at : (text : List ℕ) (place : ℕ) → position is_feed text ≡ Some place → CutAt text place
 cut_at text place is = by_case (nat_lt (position_or_len is_feed text) (length text)) refl
   where
@@ -40,6 +41,7 @@ cut_at text place is = by_case (nat_lt (position_or_len is_feed text) (length te
         rw (← same) (first_is text within)
     by_case false e = let none = rw e at is in cc
 
+-- where a search finds none, the text has no line feed
 pub no_feed : (text : List ℕ) → position is_feed text ≡ None → HasNoFeed text
 no_feed text is = by_case (nat_lt (position_or_len is_feed text) (length text)) refl
   where

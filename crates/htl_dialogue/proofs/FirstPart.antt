@@ -45,6 +45,7 @@ part_kept part more = rw (marks_gone false part) (by_case (unquoted part) (map a
     by_case [] others = refl
     by_case (b ∷ bs) others = refl
 
+-- the arguments of a line are what is kept of its first part, and then those behind the byte that ends it
 pub begins : (line part rest others : List ℕ) → part ≡ take (part_end false line) line → rest ≡ drop (part_end false line) line
     → others ≡ drop 1 rest → arguments_of line ≡ kept part ++ arguments_of others
 unfolding arguments_of

@@ -1,4 +1,4 @@
--- What a line says where events are forgotten, from what it says where they are kept.
+-- What a line says where events are forgotten follows from what it says where they are kept.
 use Rattle.std.proofs.Common.{◌≡◌, ◌∙◌, ℕ, Bool, true, false, List, refl, sym, ap}
 use Rattle.std.specs.Prelude.{if◌then◌else◌}
 use Rattle.htl_command.specs.Needs.{needs_events}

@@ -63,6 +63,7 @@ first_of rest bytes (Some later) line false none is taken ended =
       more = λ _. (refl, all, omega (arith, ap length all, length-append bytes (10 ∷ later)));
     }
 
+-- what a read of the next line gives is the first of the lines that are left
 pub first_line : (rest : List ℕ) (left now : Option (List ℕ)) (next : NextLine) → left ≡ Some rest → IsNext left now next
     → FirstLine rest now next
 first_line rest left now next is found =

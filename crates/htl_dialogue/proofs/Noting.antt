@@ -1,4 +1,4 @@
--- Notes after other notes, and which of them is the fault of the first files that are refused.
+-- Notes come after other notes, and the first files that are refused give the fault among them.
 use Rattle.std.proofs.Common.{◌≡◌, ◌∙◌, Bool, true, false, List, [], ◌∷◌, ◌++◌, None, Some, Ok, Err, refl, sym, ap}
 use Rattle.std.specs.Option.{option_or}
 use Rattle.std.specs.Prelude.{Option}

@@ -1,4 +1,4 @@
--- Why a dialogue ends before its lines do, and how far it has come by then.
+-- A dialogue that ends before its lines do ends for a fault, and so far its lines got their replies.
 use Rattle.std.proofs.Common.{◌≡◌, ◌≤◌, ◌∙◌, ℕ, Bool, true, false, List, [], ◌∷◌, ◌++◌, None, Some, length, take, refl, sym, ap}
 use Rattle.std.proofs.Common.{append_assoc, arith, inl, inr}
 use Rattle.std.specs.Prelude.{IfSome, Option}
@@ -29,10 +29,12 @@ IsBeforeReply Write = ⊥
 IsBeforeReply Questions = Unit {0}
 IsBeforeReply NoMemory = Unit {0}
 
+-- a fault of a read comes before the reply
 pub before_read : (fault : ReadFault) → IsBeforeReply (of_read fault)
 before_read reads.Failed = tt
 before_read reads.NoMemory = tt
 
+-- a fault of a read that is reported as one of the questions is a failed read
 pub read_failed : (fault : ReadFault) → of_read fault ≡ Questions → fault ≡ reads.Failed
 read_failed reads.Failed is = refl
 read_failed reads.NoMemory is = cc

@@ -1,4 +1,4 @@
--- What a line has taken of a text, from one read to the next.
+-- What a line has taken of a text grows from one read to the next, up to its line feed or to the end.
 use Rattle.std.proofs.Common.{◌≡◌, ◌+◌, ◌<◌, ◌≤◌, ℕ, Bool, true, false, List, [], ◌∷◌, ◌++◌, None, Some, length, refl, sym, ◌∙◌, ap}
 use Rattle.std.proofs.Common.{arith, append_assoc, length-append}
 use Rattle.std.specs.Prelude.{Option}
@@ -36,6 +36,7 @@ refilled None after held taken = tt
 refilled (Some xs) None held taken = absurd taken
 refilled (Some xs) (Some ys) held taken = sym taken
 
+-- where the held bytes have a line feed, those before it end the line
 pub feed_found : (first rest : Option (List ℕ)) (held new : List ℕ) (line after : Line) (reads : ℕ) (found : Bool)
     → SoFar first (prepend_known held rest) line (length held) reads → Moves held new line after found → found ≡ true
     → IsNext first (prepend_known new rest) (record { line = after; is_last = false })
@@ -69,6 +70,7 @@ all_moved first rest held new line after reads false so_far moves is =
       each = omega (arith, so_far.each, ap length moves.held, length-append piece [], length-append bytes piece);
     }
 
+-- where a read gives nothing, the line is the last
 pub last_found : (first rest after : Option (List ℕ)) (held : List ℕ) (line : Line) (reads count : ℕ) → SoFar first rest line 0 reads
     → count ≡ length held → Consumes rest after held → (count ≡ 0 → IsAtEnd after) → count ≡ 0
     → IsNext first (prepend_known held after) (record { line = line; is_last = true })
@@ -81,6 +83,7 @@ last_found first rest after [] line reads count so_far is taken ended none = rec
   ended = λ last. rw (prepend_known-nil after) (ended none);
 }
 
+-- a read that gives some bytes leaves the line as it is, with these bytes held
 pub goes_on : (first rest after : Option (List ℕ)) (held : List ℕ) (line : Line) (reads count : ℕ) → SoFar first rest line 0 reads
     → count ≡ length held → Consumes rest after held → 0 < count → SoFar first (prepend_known held after) line (length held) (reads + 1)
 goes_on first rest after held line reads count so_far is taken some = record {
@@ -91,9 +94,11 @@ goes_on first rest after held line reads count so_far is taken some = record {
   each = omega (arith, so_far.each, is, some);
 }
 
+-- a line for which bytes are held or read so far is one that was begun
 pub begun : (first left : Option (List ℕ)) (line : Line) (held reads : ℕ) → SoFar first left line held reads → IsBegun first left
 begun first left line held reads so_far = record { bytes = so_far.bytes; no_feed = so_far.no_feed; taken = so_far.taken }
 
+-- a line is one that was begun, too, where a read failed and nothing is held
 pub begun_still : (first rest after : Option (List ℕ)) (held : List ℕ) (line : Line) (reads : ℕ) → SoFar first rest line 0 reads
     → held ≡ [] → Keeps rest after → IsBegun first (prepend_known held after)
 begun_still first rest after held line reads so_far none keeps = record {

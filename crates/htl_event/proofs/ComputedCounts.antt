@@ -1,4 +1,4 @@
--- Answers about counts, computed: a function for each, whose value is the answer wherever it rises.
+-- Each answer about counts can be computed: a function gives it, wherever its rows rise.
 use Rattle.std.proofs.Common.{◌≡◌, ℕ, ◌+◌, ◌<◌, ◌≤◌, Bool, true, cond, List, [], ◌∷◌, Option, refl, sym, ap, subst, arith, inl, inr, ◌&&◌, nat_eq}
 use Rattle.std.specs.Prelude.{Contains, ◌==◌, ◌↔◌, nat_lt, nat_le, if◌then◌else◌, count_by, map}
 use Rattle.std.specs.Ordering.{nat_cmp, is_lt, ordering_then}
@@ -110,6 +110,7 @@ counted_tag Ref e object tag sign h = sym (same_list-exact tag e.tag (and_parts 
 counted_tag Deref e object tag sign h = sym (same_list-exact tag e.tag (and_parts _ _ (and_parts _ _ h).0).1)
 counted_tag kind e object tag sign h = absurd cc
 
+-- the computed tag balances of an object are its tag balances, where they rise by tag
 pub IsTags-tags_of : (es : List Event) (object : ℕ) → is_rising (comes_first by_tag) (tags_of es object) ≡ true
     → IsTags es object (tags_of es object)
 IsTags-tags_of es object =
@@ -124,6 +125,7 @@ by_stack a b = stack_cmp a.0 b.0
 abbrev pub stacks_of : List Event → ℕ → List ℕ → List (List ℕ × Count)
 stacks_of es object tag = rows_of by_stack (tally es (Tagged object tag)) total_of (map (λ e. e.stack) es)
 
+-- the computed reference stacks of an object and tag are those of the definition, where they rise in stack order
 pub IsStacks-stacks_of : (es : List Event) (object : ℕ) (tag : List ℕ) → is_rising (comes_first by_stack) (stacks_of es object tag) ≡ true
     → IsStacks es object tag (stacks_of es object tag)
 IsStacks-stacks_of es object tag =
@@ -172,6 +174,7 @@ Lists-leaks_of least rows rises =
       );
     }
 
+-- the computed leaking stacks of the open handles are the leaks, where they rise in the order of leaks
 pub IsLeaksSince-leaks_of : (es : List Event) (process : ℕ) (since : Option ℕ) (least : ℕ) (opens : List Event)
     → AreOpenSince (Contains es) process since opens → is_rising (comes_first most_first) (leaks_of least opens) ≡ true
     → IsLeaksSince (Contains es) process since least (leaks_of least opens)
@@ -229,6 +232,7 @@ module _ (es : List Event) (process : ℕ) where
       let some : 0 < bad_times (r.0, r.1) = rw (← h.0) h.1 in
       ((r.0, r.1), bad_key (r.0, r.1) some, lt-ltb 0 _ some, ap (λ (n : ℕ). (r.0, r.1, n)) (sym h.0))
 
+  -- the computed bad references of a process are those of the definition, where they rise by handle and stack
   pub IsBad-bad_of : is_rising (comes_first by_handle_and_stack) bad_of ≡ true → IsBad es process bad_of
   IsBad-bad_of =
       Lists-ordered _ _ (λ x y. is_lt-Less (by_handle_and_stack x y)) IsBadRow _ (

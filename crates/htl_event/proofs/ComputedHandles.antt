@@ -1,4 +1,4 @@
--- Answers about handles, computed: a function for each, whose value is the answer (a list's, wherever it rises).
+-- Each answer about handles can be computed: a function gives it, and where it is a list, wherever that rises.
 use Rattle.std.proofs.Common.{◌≡◌, ℕ, ◌<◌, ◌≤◌, Bool, true, List, [], ◌∷◌, Option, Some}
 use Rattle.std.proofs.Common.{None, refl, sym, ap, subst, arith, inl, inr, ◌⊎◌, ◌&&◌, ◌||◌}
 use Rattle.std.specs.Prelude.{Contains, ◌↔◌, nat_lt, nat_le, max, filter, if◌then◌else◌}
@@ -51,6 +51,7 @@ LatestIs-latest_one e process base = elim (cases_Bool (opens_or_closes_base proc
       (subst (OpensOrCloses process base) (sym is) c))
 ]
 
+-- the computed latest event of a base handle is the latest over the list
 pub LatestIs-latest_of : (es : List Event) (process base : ℕ) → LatestIs (Contains es) process base (latest_of es process base)
 LatestIs-latest_of [] process base = λ x h c. Contains-nil x h
 LatestIs-latest_of (e ∷ es) process base =
@@ -85,13 +86,16 @@ module _ (test : Event → Bool) (P : Event → Type 0) (decides : (e : Event) �
 abbrev pub mark_of : List Event → ℕ → ℕ
 mark_of es process = greatest_of (is_of Snapshot process) es
 
+-- the computed mark is the process's snapshot mark
 pub IsMark-mark_of : (es : List Event) (process : ℕ) → IsMark (Contains es) process (mark_of es process)
 IsMark-mark_of es process = IsGreatestSequence-greatest_of (is_of Snapshot process) (IsOf Snapshot process)
     (is_of-decides Snapshot process) es
 
+-- the greatest sequence of the exits of a process in the list
 abbrev pub last_exit_of : List Event → ℕ → ℕ
 last_exit_of es process = greatest_of (is_of Exited process) es
 
+-- the computed last exit is the process's last exit
 pub IsLastExit-last_exit_of : (es : List Event) (process : ℕ) → IsLastExit (Contains es) process (last_exit_of es process)
 IsLastExit-last_exit_of es process =
     IsGreatestSequence-greatest_of (is_of Exited process) (IsOf Exited process) (is_of-decides Exited process) es
@@ -145,9 +149,11 @@ module _ (es : List Event) (process : ℕ) where
 abbrev pub by_base : Event → Event → Bool
 by_base a b = nat_lt (base_of a.handle) (base_of b.handle)
 
+-- the events of the list that are open, by base handle
 abbrev pub outstanding_of : List Event → ℕ → List Event
 outstanding_of es process = ordered by_base (filter (is_open es process) es)
 
+-- the computed outstanding handles are those of the process, where they rise by base handle
 pub IsOutstanding-outstanding_of : (es : List Event) (process : ℕ) → is_rising by_base (outstanding_of es process) ≡ true
     → IsOutstanding (Contains es) process (outstanding_of es process)
 IsOutstanding-outstanding_of es process =
@@ -156,9 +162,11 @@ IsOutstanding-outstanding_of es process =
 abbrev is_opened_since : List Event → ℕ → ℕ → Event → Bool
 is_opened_since es process since e = is_open es process e && nat_lt since e.sequence
 
+-- the outstanding handles of the list that were opened after a moment
 abbrev pub diff_of : List Event → ℕ → ℕ → List Event
 diff_of es process since = ordered by_base (filter (is_opened_since es process since) es)
 
+-- the computed difference is that of the process and the moment, where it rises by base handle
 pub IsDiff-diff_of : (es : List Event) (process since : ℕ) → is_rising by_base (diff_of es process since) ≡ true
     → IsDiff (Contains es) process since (diff_of es process since)
 IsDiff-diff_of es process since = Lists-filter by_base ByBase (λ a b. ltb-true _ _) (is_opened_since es process since) _ es (λ e. (
@@ -174,6 +182,7 @@ newest_first a b = nat_lt b.sequence a.sequence
 abbrev pub listing_of : List Event → ℕ → ℕ → List Event
 listing_of es process handle = ordered newest_first (filter (is_of_handle process (base_of handle)) es)
 
+-- the computed listing is that of the process's handle, where it goes from the newest to the oldest
 pub IsListing-listing_of : (es : List Event) (process handle : ℕ) → is_rising newest_first (listing_of es process handle) ≡ true
     → IsListing (Contains es) process handle (listing_of es process handle)
 IsListing-listing_of es process handle =

@@ -31,6 +31,7 @@ pub LatestIs-same : (A B : Event → Type 0) → ((e : Event) → A e ↔ B e) �
 LatestIs-same A B same process base None h = λ x into c. h x ((same x).1 into) c
 LatestIs-same A B same process base (Some e) h = IsLatest-same A B same process base e h
 
+-- the greatest sequence of a set is that of each set with the same events
 pub IsGreatestSequence-same : (A B : Event → Type 0) → ((e : Event) → A e ↔ B e) → (n : ℕ) → IsGreatestSequence A n
     → IsGreatestSequence B n
 IsGreatestSequence-same A B same n g = record {
@@ -58,6 +59,7 @@ IsOpen-same A B same process e o = record {
 
 -- ---- one answer
 
+-- a set has one greatest sequence
 pub IsGreatestSequence-unique : (A : Event → Type 0) (n m : ℕ) → IsGreatestSequence A n → IsGreatestSequence A m → n ≡ m
 IsGreatestSequence-unique A n m g h =
     let le : n ≤ m = upto A n m g h in let ge : m ≤ n = upto A m n h g in omega arith
@@ -83,6 +85,7 @@ one_event (z ∷ es) own x y h k e =
       ]
     ]
 
+-- a base handle has one latest event among events with a sequence of their own each
 pub LatestIs-unique : (A : Event → Type 0) → ((x y : Event) → A x → A y → x.sequence ≡ y.sequence → x ≡ y)
     → (process base : ℕ) (a b : Option Event) → LatestIs A process base a → LatestIs A process base b → a ≡ b
 LatestIs-unique A one process base None None p q = refl
@@ -95,6 +98,7 @@ LatestIs-unique A one process base (Some x) (Some y) p q =
 
 -- ---- the law
 
+-- a handle is open over one list exactly where it is over another with the same events
 pub open_in_both : (xs ys : List Event) → HaveSame xs ys → (process : ℕ) (e : Event)
     → IsOpen (Contains xs) process e ↔ IsOpen (Contains ys) process e
 open_in_both xs ys same process e = (
@@ -102,6 +106,7 @@ open_in_both xs ys same process e = (
   IsOpen-same (Contains ys) (Contains xs) (turned (Contains xs) (Contains ys) same) process e,
 )
 
+-- two lists with the same events have the same outstanding handles
 pub outstanding_same : (xs ys : List Event) → HaveSame xs ys → (process : ℕ) (a b : List Event) → IsOutstanding (Contains xs) process a
     → IsOutstanding (Contains ys) process b → a ≡ b
 outstanding_same xs ys same process a b =
@@ -160,6 +165,7 @@ growth_same xs ys same process (Some span) points a b p q =
     (point_moved xs ys same process span points point, point_moved ys xs (λ e. ((same e).1, (same e).0)) process span points point))
     p q
 
+-- of two lists with the same events, each answer about handles is one
 pub handles_are_determined : (xs ys : List Event) → HaveSame xs ys → HandlesAreDetermined xs ys
 handles_are_determined xs ys same = record {
   latest = λ process handle a b own p q.

@@ -1,4 +1,4 @@
--- Tests of one event, each with its decision: its kind, its process, its base handle.
+-- Tests of one event, of its kind, its process and its base handle, decide what they ask.
 use Rattle.std.proofs.Common.{◌≡◌, ℕ, Bool, true, ◌&&◌}
 use Rattle.std.specs.Prelude.{◌==◌}
 use Rattle.std.specs.Bool.{Decides}
@@ -10,9 +10,11 @@ use Rattle.htl_event.specs.declared.kind.Kind.{Kind}
 use Rattle.htl_event.specs.Slots.{base_of}
 use Rattle.htl_event.specs.Handles.{opens_or_closes, OpensOrCloses, IsOf}
 
+-- the event is of the kind
 abbrev pub is_kind : Kind → Event → Bool
 is_kind kind e = sameb the_type e.kind kind
 
+-- this test passes exactly where the event's kind is the given one
 pub is_kind-decides : (kind : Kind) (e : Event) → Decides (is_kind kind e) (e.kind ≡ kind)
 is_kind-decides kind e = (same_true the_type tt e.kind kind, true_same the_type e.kind kind)
 
@@ -20,6 +22,7 @@ is_kind-decides kind e = (same_true the_type tt e.kind kind, true_same the_type 
 abbrev pub is_of : Kind → ℕ → Event → Bool
 is_of kind process e = is_kind kind e && e.process == process
 
+-- this test passes exactly where the event is of the kind and the process
 pub is_of-decides : (kind : Kind) (process : ℕ) (e : Event) → Decides (is_of kind process e) (IsOf kind process e)
 is_of-decides kind process e = Decides-and _ _ (is_kind-decides kind e) (Decides-eqb e.process process)
 
@@ -27,6 +30,7 @@ is_of-decides kind process e = Decides-and _ _ (is_kind-decides kind e) (Decides
 abbrev pub names : ℕ → ℕ → Event → Bool
 names process base e = e.process == process && base_of e.handle == base
 
+-- this test passes exactly where the event is of the process and has the base handle
 pub names-decides : (process base : ℕ) (e : Event) → Decides (names process base e) ((e.process ≡ process) × (base_of e.handle ≡ base))
 names-decides process base e = Decides-and _ _ (Decides-eqb e.process process) (Decides-eqb (base_of e.handle) base)
 
@@ -37,6 +41,7 @@ opens_or_closes-decides kind = (λ e. e, λ e. e)
 abbrev pub opens_or_closes_base : ℕ → ℕ → Event → Bool
 opens_or_closes_base process base e = opens_or_closes e.kind && names process base e
 
+-- this test passes exactly where the event opens or closes the base handle of the process
 pub opens_or_closes_base-decides : (process base : ℕ) (e : Event)
     → Decides (opens_or_closes_base process base e) (OpensOrCloses process base e)
 opens_or_closes_base-decides process base e =

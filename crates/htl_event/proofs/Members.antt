@@ -34,6 +34,7 @@ module _ {X : Type 0} (before : X → X → Type 0) (strict : IsStrictOrder befo
         | inr there ↦ there
       ]
 
+  -- two lists that rise and have the same members are the same list
   pub same_members : (xs ys : List X) → IsRising before xs → IsRising before ys
       → ((e : X) → Contains xs e → Contains ys e) → ((e : X) → Contains ys e → Contains xs e) → xs ≡ ys
   same_members [] [] rx ry f g = refl

@@ -1,4 +1,4 @@
--- The members of a set put in order, each once, with a test that the list rises.
+-- The members of a set can be put in order, each once, and a test says that the list rises.
 use Rattle.std.proofs.Common.{◌≡◌, Bool, true, List, [], ◌∷◌, sym, subst, inl, inr, ◌&&◌}
 use Rattle.std.specs.Prelude.{Contains, ◌↔◌, filter, map, if◌then◌else◌}
 use Rattle.std.specs.List.{AllByRecursion, list_all, list_any}
@@ -14,6 +14,7 @@ abbrev pub inserted : {X : Type 0} → (X → X → Bool) → X → List X → L
 inserted first x [] = x ∷ []
 inserted first x (y ∷ ys) = if first x y then x ∷ y ∷ ys else y ∷ inserted first x ys
 
+-- the elements of a list, put in order one by one
 abbrev pub ordered : {X : Type 0} → (X → X → Bool) → List X → List X
 ordered first [] = []
 ordered first (x ∷ xs) = inserted first x (ordered first xs)
@@ -53,6 +54,7 @@ Contains-ordered first (x ∷ xs) z =
 
 -- ---- rising
 
+-- each element of the list comes before the next
 abbrev pub is_rising : {X : Type 0} → (X → X → Bool) → List X → Bool
 is_rising first [] = true
 is_rising first (x ∷ xs) = list_all (first x) xs && is_rising first xs

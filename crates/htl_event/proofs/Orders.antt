@@ -18,26 +18,33 @@ strict_from_total {X} {R} total = record {
   transitive = total.trans;
 }
 
+-- the order of events by base handle is strict
 pub ByBase-strict : IsStrictOrder ByBase
 ByBase-strict = record { irreflexive = λ x h. omega arith; transitive = λ x y z p q. omega arith }
 
+-- the order of listings, the newest first, is strict
 pub NewestFirst-strict : IsStrictOrder NewestFirst
 NewestFirst-strict = record { irreflexive = λ x h. omega arith; transitive = λ x y z p q. omega arith }
 
+-- the order of points, the earlier first, is strict
 pub EarlierFirst-strict : IsStrictOrder EarlierFirst
 EarlierFirst-strict = record { irreflexive = λ x h. omega arith; transitive = λ x y z p q. omega arith }
 
+-- the order of tags by their bytes is strict
 pub ByTag-strict : IsStrictOrder ByTag
 ByTag-strict = strict_from_total (on_total (λ (row : List ℕ × Count). row.0) nat_list_cmp_total)
 
+-- the order of rows by stack is strict
 pub ByStack-strict : {X : Type 0} → IsStrictOrder (ByStack {X = X})
 ByStack-strict {X} = strict_from_total (on_total (λ (row : List ℕ × X). row.0) stack_total)
 
+-- the order of bad references, by handle and then by stack, is strict
 pub ByHandleAndStack-strict : IsStrictOrder ByHandleAndStack
 ByHandleAndStack-strict =
     strict_from_total (then_total (on_total (λ (row : ℕ × List ℕ × ℕ). row.0) nat_cmp_total)
     (on_total (λ (row : ℕ × List ℕ × ℕ). row.1) stack_total))
 
+-- the order of leaks, the greatest number first and then by stack, is strict
 pub MostFirst-strict : IsStrictOrder MostFirst
 MostFirst-strict =
     strict_from_total (then_total (back_total (on_total (λ (row : List ℕ × ℕ). row.1) nat_cmp_total))

@@ -1,4 +1,4 @@
--- Worked answers about counts, by the definitions.
+-- Worked answers show what the definitions of counts say of some given events.
 use Rattle.std.proofs.Common.{◌≡◌, ℕ, List, [], ◌∷◌, Some, None, refl}
 use Rattle.std.specs.Prelude.{Contains, codes}
 use Rattle.htl_event.specs.Events.{Event}

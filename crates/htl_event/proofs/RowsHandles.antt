@@ -1,4 +1,4 @@
--- Worked answers about handles, by the definitions. Where nothing else is stated, events are of process 4.
+-- Worked answers show what the definitions of handles say of given events, which are of process 4 where nothing else is stated.
 use Rattle.std.proofs.Common.{ℕ, List, [], ◌∷◌, Some, refl}
 use Rattle.std.specs.Prelude.{Contains}
 use Rattle.htl_event.specs.Events.{Event}

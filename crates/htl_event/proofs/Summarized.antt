@@ -82,6 +82,7 @@ module _ (xs ys : List Event) (moved : IsPermutation xs ys) where
     minus = is.minus;
   }
 
+-- of a list and the same list in another order, each answer of a summary is one
 pub summaries_are_determined : (xs ys : List Event) → IsPermutation xs ys → SummariesAreDetermined xs ys
 summaries_are_determined xs ys moved =
     let back = IsPermutation-sym xs ys moved in

@@ -141,6 +141,7 @@ sides : (events : List Event) (slot : Slot) (ks : List (List ℕ))
 sides events slot [] = refl
 sides events slot (k ∷ ks) = rw (sides events slot ks) refl
 
+-- a prefix tally is the sum of the tallies over the stacks that begin with the path
 pub prefix_tally_is_sum : PrefixTallyIsSum
 prefix_tally_is_sum events slot stacks path of =
     let begins : List ℕ → Bool = λ stack. starts_with nat_eq (outer stack) path in
@@ -152,6 +153,7 @@ all_pass : {X : Type 0} (xs : List X) → filter (λ x. true) xs ≡ xs
 all_pass [] = refl
 all_pass (x ∷ xs) = ap (λ ys. x ∷ ys) (all_pass xs)
 
+-- a tag's balance is the sum of its tallies over all stacks
 pub balance_is_sum : BalanceIsSum
 balance_is_sum events object tag stacks of =
     let slot = Tagged object tag in

@@ -35,6 +35,7 @@ LatestIs-later A B C both process base (Some x) (Some y) p q =
       })
     ]
 
+-- the greatest sequence of a union is the greater of those of both sets
 pub IsGreatestSequence-max : (A B C : Event → Type 0) → ((e : Event) → C e ↔ (A e ⊎ B e)) → (a b : ℕ)
     → IsGreatestSequence A a → IsGreatestSequence B b → IsGreatestSequence C (max a b)
 IsGreatestSequence-max A B C both a b p q = record {
@@ -61,6 +62,7 @@ union_where A B C P both e = (
   (λ h. elim h [ inl l ↦ ((both e).1 (inl l.0), l.1) | inr r ↦ ((both e).1 (inr r.0), r.1) ]),
 )
 
+-- over a union of two lists, the latest event is the later and the greatest sequence the greater of theirs
 pub later_of_both : (xs ys zs : List Event) → IsUnion xs ys zs → LaterOfBoth xs ys zs
 later_of_both xs ys zs union = record {
   latest = LatestIs-later (Contains xs) (Contains ys) (Contains zs) union;

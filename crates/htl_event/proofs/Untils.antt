@@ -42,5 +42,6 @@ into moment xs ys same e h =
     let of = Contains-from_filter (λ x. nat_le x.sequence moment) xs e h in
     Contains-filter (λ x. nat_le x.sequence moment) ys e (same e of.0) of.1
 
+-- two lists with the same events have the same events until a moment
 pub until_same : (moment : ℕ) (xs ys : List Event) → HaveSame xs ys → HaveSame (events_until moment xs) (events_until moment ys)
 until_same moment xs ys same e = (into moment xs ys (λ x. (same x).0) e, into moment ys xs (λ x. (same x).1) e)

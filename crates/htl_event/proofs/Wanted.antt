@@ -1,4 +1,4 @@
--- Answers over events that agree on a process or an object are the same.
+-- An answer about a process or an object follows from its own events alone, in whatever order they are.
 use Rattle.std.proofs.Common.{IsPermutation, ◌≡◌, ℕ, ◌+◌, ◌<◌, Bool, true, false, cond, List, [], ◌∷◌, map, Option, Some, None}
 use Rattle.std.proofs.Common.{refl, sym, ap, ◌∙◌, subst, inl, inr, ◌&&◌, arith}
 use Rattle.std.specs.Prelude.{Contains, filter, count_by, nat_le, if◌then◌else◌, ◌↔◌}

@@ -1,4 +1,4 @@
--- Filling the queue, one run after another.
+-- The queue is filled with one run after another, and at the end all runs of the trace were pushed.
 use Rattle.std.proofs.Common.{◌≡◌, ◌≢◌, ℕ, zero, suc, ◌+◌, ◌<◌, ◌≤◌, Bool, true, false, true≢false, not, ◌&&◌, ◌||◌, eqb, leb}
 use Rattle.std.proofs.Common.{List, [], ◌∷◌, IsPermutation, length, add-one, sym, refl, ap, ◌∙◌, subst, inl, inr, ⊎_elim, arith}
 use Rattle.std.specs.Prelude.{Contains, ◌↔◌, cond, filter, if◌then◌else◌}
@@ -25,6 +25,7 @@ use Rattle.htl_exchange.proofs.Keeping.{fills, left_of-known}
 
 -- ---- a run as a parcel
 
+-- the segments of one processor, in whatever order, are its run
 pub turned_run : (T : Trace) (p : ℕ) (segments made run : List Content) → segments ≡ T.segments → made ≡ filter (is_of p) segments → IsPermutation made run
     → IsRunOf T p run
 turned_run T p segments made run of made_is turned s = (
@@ -47,6 +48,7 @@ run_is_there T p run of_run some_segment =
     let k = (of_run s.0).0 s.1 in
     subst (λ q. has (runs_of T.segments) q ≡ true) k.1 (run_of_member T.segments s.0 k.0)
 
+-- a run that isn't empty has all keys that the trace has in it, and no other
 pub whole_run : (T : Trace) (p : ℕ) (run : List Content) → IsRunOf T p run → run ≢ [] → (q n : ℕ)
     → HasSegment run q n ↔ ((has (runs_of run) q ≡ true) × HasKey T q n)
 whole_run T p run of_run some_segment q n = (
@@ -157,6 +159,7 @@ runs_below-all (b ∷ runs) (suc n) few =
 
 -- ---- the steps of the filling
 
+-- before the first push, the runs below processor 0 are in the queue
 pub nothing_put : (T : Trace) (v : Known) → v ≡ blank → FillsTo T 0 v
 nothing_put T v is = subst (FillsTo T 0) (sym is)
     (record {
@@ -167,6 +170,7 @@ nothing_put T v is = subst (FillsTo T 0) (sym is)
       left = λ q. sym (and_true (has (runs_of T.segments) q)) ∙ ap (λ t. has (runs_of T.segments) q && t) (sym (leb-zero q));
     })
 
+-- where a processor's run is empty, filling goes on with the next processor
 pub skips : (T : Trace) (p : ℕ) (run : List Content) (v : Known) → IsRunOf T p run → run ≡ [] → FillsTo T p v → FillsTo T (p + 1) v
 skips T p run v of_run none f = record {
   parts = f.parts;
@@ -183,6 +187,7 @@ skips T p run v of_run none f = record {
     | inr is ↦ is
   ]
 
+-- a push of the next run, of the trace and not in the queue yet, keeps the rule
 pub may_fill : (n i : ℕ) (T : Trace) (p : ℕ) (v : Known) (x : Parcel) → T.segments ≢ [] → trace_of x ≡ T → IsParcelOf T x → runs_in x ≡ one p
     → has (runs_of T.segments) p ≡ true → FillsTo T p v → Pushes MakesUp n i v x (Filled v x)
 may_fill n i T p v x some_segment of parcel only there f =
@@ -194,6 +199,7 @@ may_fill n i T p v x some_segment of parcel only there f =
     inside q same = subst (λ k. (has (runs_of T.segments) k && leb p k) ≡ true) same
         (ap (λ t. t && leb p p) there ∙ here p)
 
+-- after a push of the next processor's run, the runs up to it are in the queue
 pub filled : (T : Trace) (p : ℕ) (v w : Known) (x : Parcel) → T.segments ≢ [] → trace_of x ≡ T → runs_in x ≡ one p
     → has (runs_of T.segments) p ≡ true → Filled v x w → FillsTo T p v → FillsTo T (p + 1) w
 filled T p v w x some_segment of only there is f = subst (FillsTo T (p + 1)) (sym now) (record {
@@ -240,12 +246,15 @@ within T is_case p h =
     let own = s.2 in
     omega (arith, lt, count, own)
 
+-- below the processor count of a case are as many runs as it has
 pub all_below : (T : Trace) (n : ℕ) → IsCase T → T.processors ≤ n → runs_below (runs_of T.segments) n ≡ size (runs_of T.segments)
 all_below T n is_case past = runs_below-all (runs_of T.segments) n (λ p h. let lt = within T is_case p h in omega (arith, lt, past))
 
+-- once every processor was asked, as many parcels were pushed as the case has runs
 pub all_pushed : (T : Trace) (n : ℕ) (v : Known) → IsCase T → T.processors ≤ n → FillsTo T n v → v.pushes ≡ size (runs_of T.segments)
 all_pushed T n v is_case past f = f.pushes ∙ all_below T n is_case past
 
+-- once every processor was asked, the pass knows the trace, has every part and has got nothing
 pub all_put : (T : Trace) (n : ℕ) (v : Known) → IsCase T → T.processors ≤ n → FillsTo T n v → IsIdle T 8 v
 all_put T n v is_case past f = record {
   trace = same;
@@ -270,6 +279,7 @@ all_put T n v is_case past f = record {
   some_known : v.trace.segments ≢ []
   some_known z = not_blank z
 
+-- a list of length 0 is empty
 pub empty : {A : Type 0} (l : List A) → length l ≡ 0 → l ≡ []
 empty [] e = refl
 empty (x ∷ l) e = absurd (omega (arith, e))

@@ -149,6 +149,7 @@ own_parcel v a was = record {
   one_run = tt;
 }
 
+-- a push of the desk's own state keeps the rule, where nothing is in hand
 pub may_post : (n i : ℕ) (v : Known) (a b : State) → Follows v a None → b ≡ a → Pushes MakesUp n i v (parcels.State b) (Pushed v (parcels.State b))
 may_post n i v a b was same =
     let now : Follows v b None = subst (λ x. Follows v x None) (sym same) was in

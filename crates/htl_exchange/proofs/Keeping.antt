@@ -54,6 +54,7 @@ pushed_once items views i v w x at few more =
 
 -- ---- the steps
 
+-- the empty queue and the first, blank pass keep the rule
 pub begins : MakesUp [] (blank ∷ [])
 begins = record {
   trace = no_trace;
@@ -79,6 +80,7 @@ pop_truth true false false r = refl
 pop_truth false i true r = refl
 pop_truth false i false r = refl
 
+-- a pop by a pass with a part keeps the rule
 pub pops : (i : ℕ) (v : Known) → 0 < v.parts → Pops MakesUp i v (Popped v)
 pops i v has_one x items views h at =
     let T : Trace = h.trace in
@@ -122,6 +124,7 @@ parcels-last : (T : Trace) (items : List Parcel) (x : Parcel) → ((k : ℕ) (y 
 parcels-last T items x those this k y e =
     ⊎_elim (λ (was : get_elem? items k ≡ some y). those k y was) (λ (is : x ≡ y). subst (IsParcelOf T) is this) (at_snoc items x y k e)
 
+-- a push of a parcel with just the runs that the pass has got keeps the rule
 pub pushes : (n i : ℕ) (v : Known) (x : Parcel) → 0 < v.parts → v.trace.segments ≢ [] → IsParcelOf v.trace x
     → ((p : ℕ) → has (runs_in x) p ≡ has v.got p) → Pushes MakesUp n i v x (Pushed v x)
 pushes n i v x has_one some_segment parcel own items views _ h at =
@@ -170,9 +173,11 @@ counts_pushes i v items views h at whole =
     total-alone (λ u. u.pushes) views i v at (omega (arith, all, whole)) (λ k u e z. (h.about k u e).idle z) in
     omega (arith, few, mine)
 
+-- a look at the queue that learns nothing keeps the rule
 pub learns_nothing : (i : ℕ) (v : Known) → Learns MakesUp i v (λ (items : List Parcel). Unit {0})
 learns_nothing i v items views h at = tt
 
+-- splitting a part off a pass with more than one keeps the rule
 pub splits : (i : ℕ) (v : Known) → 1 < v.parts → Forks MakesUp i v (split v) (part v)
 splits i v has_two items views h at =
     let T : Trace = h.trace in
@@ -197,6 +202,7 @@ splits i v has_two items views h at =
       begins = h.begins;
     }
 
+-- joining another pass into one with a part keeps the rule
 pub joins : (i : ℕ) (v : Known) (j : ℕ) (u : Known) → 0 < v.parts → Merges MakesUp i v j u (joined v u) spent
 joins i v j u has_one items views h at apart there =
     let T : Trace = h.trace in
@@ -232,6 +238,7 @@ fill_truth false true false r h = absurd (true≢false (sym (h refl)))
 fill_truth false false true r h = refl
 fill_truth false false false r h = refl
 
+-- where the trace is known, the runs that are left are those that the pass has got
 pub left_of-known : (T : Trace) (was : List Content) (got : List Bool) → was ≢ [] → left_of T was got ≡ got
 left_of-known T [] got n = absurd (n refl)
 left_of-known T (s ∷ was) got n = refl
@@ -240,6 +247,7 @@ or_none : (a b : Bool) → (a || b) ≡ false → a ≡ false
 or_none true b h = absurd (true≢false h)
 or_none false b h = refl
 
+-- a filling push of a parcel whose runs are left, by the pass with every part, keeps the rule
 pub fills : (n i : ℕ) (v : Known) (x : Parcel) → v.parts ≡ 8 → (trace_of x).segments ≢ []
     → ((v.trace.segments ≡ []) ⊎ (v.trace ≡ trace_of x)) → IsParcelOf (trace_of x) x
     → ((p : ℕ) → has (runs_in x) p ≡ true → has (left_of (trace_of x) v.trace.segments v.got) p ≡ true) → Pushes MakesUp n i v x (Filled v x)

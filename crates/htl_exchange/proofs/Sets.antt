@@ -1,4 +1,4 @@
--- Sets of runs as truth values, and the runs that segments and states have.
+-- Sets of runs are truth values, one for each processor, and segments and states have such sets.
 use Rattle.std.proofs.Common.{◌≡◌, ◌≢◌, ◌⊎◌, ℕ, zero, suc, ◌<◌, Bool, true, false, true≢false, not, ◌&&◌, ◌||◌, nat_lt, eqb}
 use Rattle.std.proofs.Common.{List, [], ◌∷◌, map, sym, refl, ap, ◌∙◌, subst, inl, inr, arith}
 use Rattle.std.specs.Prelude.{Contains}
@@ -14,26 +14,32 @@ use Rattle.htl_exchange.specs.Runs.{has, union, without, one, runs_of, some_numb
 
 -- ---- truth values
 
+-- a truth value or false is the truth value
 pub or_false : (b : Bool) → (b || false) ≡ b
 or_false true = refl
 or_false false = refl
 
+-- three truth values can be put together by `or` in either grouping
 pub or_assoc : (a b c : Bool) → ((a || b) || c) ≡ (a || (b || c))
 or_assoc true b c = refl
 or_assoc false b c = refl
 
+-- of three truth values put together by `or`, the first two may change places
 pub or_swap : (a b c : Bool) → (a || (b || c)) ≡ (b || (a || c))
 or_swap true true c = refl
 or_swap true false c = refl
 or_swap false b c = refl
 
+-- where one or the other is true, the first is or the second is
 pub or_cases : (a b : Bool) → (a || b) ≡ true → (a ≡ true) ⊎ (b ≡ true)
 or_cases true b h = inl refl
 or_cases false b h = inr h
 
+-- where the first is true, one or the other is
 pub or_left : (a b : Bool) → a ≡ true → (a || b) ≡ true
 or_left a b h = ap (λ x. x || b) h
 
+-- where the second is true, one or the other is
 pub or_right : (a b : Bool) → b ≡ true → (a || b) ≡ true
 or_right true b h = refl
 or_right false b h = h
@@ -46,31 +52,37 @@ same_truth false false f g = refl
 
 -- ---- sets
 
+-- a run is in a union where it is in either set
 pub has-union : (xs ys : List Bool) (p : ℕ) → has (union xs ys) p ≡ (has xs p || has ys p)
 has-union [] ys p = refl
 has-union (x ∷ xs) [] p = sym (or_false (has (x ∷ xs) p))
 has-union (x ∷ xs) (y ∷ ys) zero = refl
 has-union (x ∷ xs) (y ∷ ys) (suc p) = has-union xs ys p
 
+-- a truth value and true is the truth value
 pub and_true : (b : Bool) → (b && true) ≡ b
 and_true true = refl
 and_true false = refl
 
+-- a run is in a set without another where it is in the first and not in the second
 pub has-without : (xs ys : List Bool) (p : ℕ) → has (without xs ys) p ≡ (has xs p && not (has ys p))
 has-without [] ys p = refl
 has-without (x ∷ xs) [] p = sym (and_true (has (x ∷ xs) p))
 has-without (x ∷ xs) (y ∷ ys) zero = refl
 has-without (x ∷ xs) (y ∷ ys) (suc p) = has-without xs ys p
 
+-- the set of one run has the run of this processor and no other
 pub has-one : (k p : ℕ) → has (one k) p ≡ eqb k p
 has-one zero zero = refl
 has-one zero (suc p) = sym (eqb-zero-suc p)
 has-one (suc k) zero = sym (eqb-suc-zero k)
 has-one (suc k) (suc p) = has-one k p ∙ sym (eqb-suc-suc k p)
 
+-- the set of one run has this run
 pub one-same : (p : ℕ) → has (one p) p ≡ true
 one-same p = has-one p p ∙ eq-eqb p p refl
 
+-- a run in the set of one run is this run
 pub one-only : (k p : ℕ) → has (one k) p ≡ true → k ≡ p
 one-only k p h = eqb-true k p (sym (has-one k p) ∙ h)
 
@@ -84,6 +96,7 @@ union-nil (x ∷ xs) = refl
 
 -- ---- the runs of segments
 
+-- the run of each segment of a list is one of the list's runs
 pub run_of_member : (ss : List Content) (s : Content) → Contains ss s → has (runs_of ss) s.processor ≡ true
 run_of_member [] s h = absurd (Contains-nil s h)
 run_of_member (t ∷ ss) s h =
@@ -94,6 +107,7 @@ run_of_member (t ∷ ss) s h =
       | inr there ↦ or_right (has (one t.processor) s.processor) (has (runs_of ss) s.processor) (run_of_member ss s there)
     ]
 
+-- each run of a list of segments is that of one of them
 pub member_of_run : (ss : List Content) (p : ℕ) → has (runs_of ss) p ≡ true → (s : Content) × Contains ss s × (s.processor ≡ p)
 member_of_run [] p h = absurd (true≢false (sym h))
 member_of_run (t ∷ ss) p h =
@@ -140,6 +154,7 @@ taken_of_run a p h =
       | inr loose ↦ let r = some_member (loose_at a.taken p) loose in (r.0, inr r.1)
     ]
 
+-- the run of each segment that a state has taken is one of its runs
 pub run_of_taken : (a : State) (p n : ℕ) → HasTaken a p n → has (runs_taken a) p ≡ true
 run_of_taken a p n h =
     at_processor a.taken p

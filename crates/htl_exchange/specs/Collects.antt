@@ -14,9 +14,9 @@ use Rattle.htl_exchange.specs.Parcels.{named}
 use Rattle.htl_exchange.specs.Rule.{all_parts}
 use Rattle.htl_exchange.specs.Moves.{popped}
 
--- What was in hand before the call decides: something in hand is taken in, and nothing is popped. Else a run is
--- the pop of one processor's, a state the pop of a state of some runs, out of memory a pop of either, and
--- nothing is no pop.
+-- What was in hand before the call decides. A parcel in hand is taken in, and nothing is popped. With none in hand, `Run`
+-- says that the run of one processor was popped, `State` that a state of some runs was, out of memory that one of both
+-- was, and `Nothing` that nothing was.
 abbrev pub CollectsAs : Option Parcel → Result Collected NoMemory → Known → Known → Type 0
 CollectsAs (Some x) (Ok c) v w = (c ≡ named x) × (w ≡ v)
 CollectsAs (Some x) (Err e) v w = w ≡ v
@@ -25,8 +25,8 @@ CollectsAs None (Ok collected.State) v w = (runs : List Bool) × (w ≡ popped v
 CollectsAs None (Ok collected.Nothing) v w = w ≡ v
 CollectsAs None (Err e) v w = (name : Collected) × (runs : List Bool) × (name ≢ collected.Nothing) × (w ≡ popped v name runs)
 
--- What is in hand after a refusal isn't taken in: of a run there is a segment whose key the analyst hasn't taken,
--- and where it is a state the analyst is as it was. So nothing is in hand where only the compaction was refused.
+-- What is in hand after a refusal wasn't taken in. If it is a run, the analyst hasn't taken all of its segments; if it is a
+-- state, the analyst is as it was. So nothing is in hand where only the compaction was refused.
 abbrev pub IsLeftInHand : State → State → Option Parcel → Type 0
 IsLeftInHand before after None = Unit {0}
 IsLeftInHand before after (Some (parcels.Run segments of)) =

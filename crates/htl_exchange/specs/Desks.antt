@@ -84,15 +84,15 @@ abbrev pub any_desk_got : ℕ → List DeskValue → Bool
 any_desk_got p [] = false
 any_desk_got p (d ∷ ds) = has d.known.got p || any_desk_got p ds
 
--- each run that was got is got still
+-- the pass still has each run that it had got
 abbrev pub KeepsGot : Known → Known → Type 0
 KeepsGot v w = (p : ℕ) → has v.got p ≡ true → has w.got p ≡ true
 
--- each run that those desks had got, these have
+-- each run that the desks before had got, the desks after have
 abbrev pub KeepAll : List DeskValue → List DeskValue → Type 0
 KeepAll before after = (p : ℕ) → any_desk_got p before ≡ true → any_desk_got p after ≡ true
 
--- the desk has got nothing yet and did nothing
+-- the desk has got nothing and done nothing yet
 pub record IsFresh (d : DeskValue) : Type 0 where
   pub got : (p : ℕ) → has d.known.got p ≡ false
   pub log : d.known.log ≡ []
@@ -103,7 +103,7 @@ abbrev pub AreFresh : List DeskValue → Type 0
 AreFresh [] = Unit {0}
 AreFresh (d ∷ ds) = IsFresh d × AreFresh ds
 
--- The standing state of the whole trace: of all its keys.
+-- The standing state of the whole trace: it has taken all segments of the trace.
 pub record IsWholeStanding (T : Trace) (a : State) : Type 0 where
   pub standing : IsStanding a T
   pub keys : (p n : ℕ) → HasKey T p n → HasTaken a p n

@@ -19,7 +19,7 @@ pub record FillsTo (T : Trace) (p : ℕ) (v : Known) : Type 0 where
   pub pushes : v.pushes ≡ runs_below (runs_of T.segments) p
   pub left : (q : ℕ) → has (left_of T v.trace.segments v.got) q ≡ (has (runs_of T.segments) q && leb p q)
 
--- a pass with these parts that has got nothing, and with which nothing was done
+-- a pass with this number of parts that has got nothing, and with which nothing was done
 pub record IsIdle (T : Trace) (count : ℕ) (v : Known) : Type 0 where
   pub trace : v.trace ≡ T
   pub parts : v.parts ≡ count

@@ -11,7 +11,7 @@ use Rattle.htl_exchange.specs.Runs.{has, union, without, runs_of}
 use Rattle.htl_exchange.specs.Parcels.{named, no_trace, trace_of, runs_in, IsParcelOf}
 use Rattle.htl_exchange.specs.Rule.{all_parts, any_in}
 
--- what the pass knows
+-- what a pass knows
 abbrev pub known_of : Pass Parcel Known → Known
 known_of pass = view pass
 

@@ -10,12 +10,12 @@ use Rattle.htl_exchange.specs.declared.desk.Collected.{Collected}
 use Rattle.htl_exchange.specs.declared.desk.Collected.TheVariants as collected
 use Rattle.htl_exchange.specs.Runs.{has, one, runs_of, runs_taken}
 
--- what the answer calls a parcel
+-- the name of a parcel in the answer of `collect`
 abbrev pub named : Parcel → Collected
 named (parcels.Run segments of) = collected.Run
 named (parcels.State a) = collected.State
 
--- what no case's trace is: a trace of no segments
+-- a trace of no segments, which is that of no case
 abbrev pub no_trace : Trace
 no_trace = trace 0 0 []
 
@@ -37,16 +37,16 @@ abbrev pub Brings : Parcel → ℕ → ℕ → Type 0
 Brings (parcels.Run segments of) p n = HasSegment segments.items p n
 Brings (parcels.State a) p n = HasTaken a p n
 
--- segments of the trace, or a state that is right about it
+-- the parcel has segments of the trace, or a state that is right about it
 abbrev pub IsOf : Trace → Parcel → Type 0
 IsOf T (parcels.Run segments of) = (s : Content) → Contains segments.items s → Contains T.segments s
 IsOf T (parcels.State a) = IsRight a T
 
--- all keys that the trace has in these runs, and no other
+-- these are all keys that the trace has in these runs, and no others
 abbrev pub AreWholeRuns : Trace → (ℕ → ℕ → Type 0) → List Bool → Type 0
 AreWholeRuns T Has runs = (p n : ℕ) → Has p n ↔ ((has runs p ≡ true) × HasKey T p n)
 
--- where segments travel, they are of one run
+-- if the parcel has segments, they are of one run
 abbrev pub IsOneRun : Parcel → Type 0
 IsOneRun (parcels.Run segments of) = (p : ℕ) × (runs_of segments.items ≡ one p)
 IsOneRun (parcels.State a) = Unit {0}

@@ -17,7 +17,7 @@ all_parts = 8
 abbrev pub blank : Known
 blank = record { trace = no_trace; parts = all_parts; got = []; log = []; pushes = 0 }
 
--- a number of each pass, added up
+-- the sum of a number of each pass
 abbrev pub total : (Known → ℕ) → List Known → ℕ
 total number [] = 0
 total number (v ∷ vs) = number v + total number vs

@@ -30,7 +30,7 @@ one (suc p) = false ∷ one p
 abbrev pub size : List Bool → ℕ
 size runs = count_by (λ there. there) runs
 
--- the runs of which one of these segments is
+-- the runs of these segments
 abbrev pub runs_of : List Content → List Bool
 runs_of [] = []
 runs_of (s ∷ ss) = union (one s.processor) (runs_of ss)

@@ -10,6 +10,7 @@ use Rattle.htl_json.specs.Lines.{IsReadBack, json_line}
 use Rattle.htl_json.specs.Writing.{AddsLine, AddsLines}
 use Rattle.htl_json.specs.declared.lines.Lines.{Lines}
 
+-- the new lines are the old ones, and then those of these values
 abbrev pub AddsValues : Lines → Lines → List Json → Type 0
 AddsValues old new values = AddsLines {R = Json} (λ value. value) old new values
 

@@ -1,4 +1,4 @@
--- How deep the values of lines nest: a row, its stack, and a frame of that.
+-- The values of lines nest no deeper than a row, its stack, and a frame of that.
 use Rattle.std.proofs.Common.{◌≤◌, ℕ, List, [], ◌∷◌, ◌++◌, Option, Some, None, arith, map}
 use Rattle.json.specs.Json.{array}
 use Rattle.json.specs.Tree.{depth, items_depth, members_depth}

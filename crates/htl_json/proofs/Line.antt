@@ -49,6 +49,7 @@ fields_then fs gs a b c h k = (
   AreWithin-append 2 fs gs h.1 k.1,
 )
 
+-- an object that was begun, given fields and ended is one line more, the record of these fields
 pub line_added : (fs : List Field) (old begun last new : Lines) → old.writer.tokens ≡ [] → AddsTokens old begun (begin_object ∷ [])
     → AddsFields begun last fs → EndsLine last new (last.writer.tokens ++ end_object ∷ []) → AddsLine old new (record_of fs)
 line_added fs old begun last new blank begins fields ended =

@@ -132,6 +132,7 @@ module _ (symbols : List Range) where
 
   -- ---- rows with a stack
 
+  -- where two events have one value as open handles, their base handles, sequences, threads and stacks are equal
   pub one_opened : (a b : Event) → InRange a → InRange b → opened symbols a ≡ opened symbols b
       → (base_of a.handle ≡ base_of b.handle) × (a.sequence ≡ b.sequence) × (a.thread ≡ b.thread) × (a.stack ≡ b.stack)
   unfolding event_fields stack_fields
@@ -145,6 +146,7 @@ module _ (symbols : List Range) where
       small_base : (handle : ℕ) → handle < 2 ^ 32 → IsNumber (base_of handle)
       small_base handle fits = omega (arith, fits)
 
+  -- where two events have one value in a listing, their kinds, handles, sequences, threads and stacks are equal
   pub one_listed : (a b : Event) → InRange a → InRange b → listed symbols a ≡ listed symbols b
       → (a.kind ≡ b.kind) × (a.handle ≡ b.handle) × (a.sequence ≡ b.sequence) × (a.thread ≡ b.thread) × (a.stack ≡ b.stack)
   unfolding event_fields stack_fields
@@ -156,6 +158,7 @@ module _ (symbols : List Range) where
     one_stack a.stack b.stack fit.stack also.stack (ap (value_at 4) same),
   )
 
+  -- where two rows of bad references have one value, they are equal
   pub one_bad_reference : (handle other : ℕ) (stack frames : List ℕ) (times often : ℕ) → IsNumber handle → IsNumber other
       → AreAddresses stack → AreAddresses frames → IsNumber times → IsNumber often
       → bad_reference symbols (handle, stack, times) ≡ bad_reference symbols (other, frames, often)
@@ -167,6 +170,7 @@ module _ (symbols : List Range) where
     one_number times often t n (ap (value_at 2) same),
   )
 
+  -- where two rows of leaking stacks have one value, they are equal
   pub one_leak : (stack frames : List ℕ) (handles other : ℕ) → AreAddresses stack → AreAddresses frames → IsNumber handles → IsNumber other
       → leak symbols (stack, handles) ≡ leak symbols (frames, other) → (stack ≡ frames) × (handles ≡ other)
   unfolding handles_field stack_fields
@@ -175,6 +179,7 @@ module _ (symbols : List Range) where
     one_number handles other h o (ap (value_at 0) same),
   )
 
+  -- where two rows of reference stacks have one value, they are equal
   pub one_counted : (stack frames : List ℕ) (count other : Count) → AreAddresses stack → AreAddresses frames → IsCount count → IsCount other
       → counted_stack symbols (stack, count) ≡ counted_stack symbols (frames, other) → (stack ≡ frames) × (count ≡ other)
   unfolding count_fields stack_fields
@@ -195,6 +200,7 @@ one_tag tag bytes fit also same =
     ap (λ found. result_unwrap_or found [])
     (sym (decode_of-encode_lower tag (are_bytes tag fit)) ∙ ap decode_of same ∙ decode_of-encode_lower bytes (are_bytes bytes also))
 
+-- where two rows of tags have one value, they are equal
 pub one_balance : (tag bytes : List ℕ) (count other : Count) → IsTag tag → IsTag bytes → IsCount count → IsCount other
     → tag_balance (tag, count) ≡ tag_balance (bytes, other) → (tag ≡ bytes) × (count ≡ other)
 unfolding tag_fields count_fields balance_fields
@@ -203,6 +209,7 @@ one_balance tag bytes count other s f c o same =
     let minus = one_number count.minus other.minus c.1 o.1 (ap (value_at 3) same) in
     (one_tag tag bytes s f (ap (λ value. text_in (value_at 1 value)) same), λ t. record { plus = plus t; minus = minus t })
 
+-- where two points of a growth have one value, they are equal
 pub one_point : (a b : Point) → IsPoint a → IsPoint b → point_row a ≡ point_row b → a ≡ b
 unfolding point_fields
 one_point a b fit also same =
@@ -210,6 +217,7 @@ one_point a b fit also same =
     let outstanding = one_number a.outstanding b.outstanding fit.1 also.1 (ap (value_at 1) same) in
     λ t. record { sequence = sequence t; outstanding = outstanding t }
 
+-- where two gaps have one value, they are equal
 pub one_gap : (a b : Gap) → IsGap a → IsGap b → missing a ≡ missing b → a ≡ b
 unfolding between_fields absent_fields
 one_gap (Between p from to) (Between q low high) fit also same =
@@ -221,6 +229,7 @@ one_gap (Between p from to) (Absent q) fit also same = (let never = ap (value_at
 one_gap (Absent p) (Between q low high) fit also same = (let never = ap (value_at 3) same in absurd cc)
 one_gap (Absent p) (Absent q) fit also same = ap Absent (one_number p q fit also (ap (value_at 1) same))
 
+-- where two rows of processes have one value, they are equal
 pub one_process : (a b : ProcessRow) → IsProcessRow a → IsProcessRow b → process_row a ≡ process_row b → a ≡ b
 unfolding handles_fields moments_fields
 one_process a b fit also same =
@@ -241,6 +250,7 @@ one_process a b fit also same =
       exit = exit t;
     }
 
+-- where two rows of objects have one value, they are equal
 pub one_object : (a b : ObjectRow) → IsObjectRow a → IsObjectRow b → unbalanced_object a ≡ unbalanced_object b → a ≡ b
 unfolding unbalanced_fields count_fields
 one_object a b fit also same =

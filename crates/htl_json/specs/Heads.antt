@@ -5,7 +5,7 @@ use Rattle.json.specs.Json.{Json, string}
 use Rattle.htl_json.specs.Records.{Field, quantity, record_of, shown_address, shown_handle, tag_fields}
 use Rattle.htl_report.specs.declared.summary.Totals.{Totals}
 
--- which question was asked about a process
+-- the question, and the process that it is about
 unfoldable pub process_fields : List ℕ → ℕ → List Field
 process_fields word process = (codes "answer", string word) ∷ (codes "process", quantity process) ∷ []
 
@@ -37,7 +37,7 @@ abbrev pub process_head : List ℕ → ℕ → Option ℕ → Option ℕ → ℕ
 process_head word process since until count =
     record_of (process_fields word process ++ (since_fields since ++ end_fields until count))
 
--- the base handle
+-- the first line of a listing, with the base handle
 abbrev pub trace_head : ℕ → ℕ → Option ℕ → ℕ → Json
 trace_head process handle until count =
     record_of (process_fields (codes "trace") process ++ (handle_field (base_of handle) ++ end_fields until count))
@@ -49,13 +49,13 @@ abbrev pub stacks_head : ℕ → List ℕ → Option ℕ → ℕ → Json
 stacks_head object tag until count =
     record_of (object_fields (codes "stacks") object ++ (tag_fields tag ++ end_fields until count))
 
--- what there is
+-- the totals: how much was traced, and up to which moment nothing is missing
 unfoldable pub totals_fields : Totals → List Field
 totals_fields t =
     (codes "answer", string (codes "summary")) ∷ (codes "processors", quantity t.processors) ∷ (codes "segments", quantity t.segments)
     ∷ (codes "events", quantity t.events) ∷ (codes "complete_to", quantity t.complete_to) ∷ []
 
--- how many lines of each kind follow
+-- how many gaps, processes, objects, and objects with an unbalanced tag there are
 unfoldable pub lines_fields : ℕ → ℕ → ℕ → ℕ → List Field
 lines_fields gaps processes objects unbalanced =
     (codes "gaps", quantity gaps) ∷ (codes "processes", quantity processes) ∷ (codes "objects", quantity objects)

@@ -27,7 +27,7 @@ json_line value = text_of value ++ line_feed
 abbrev pub IsReadBack : Json → Type 0
 IsReadBack value = IsUtf8 (text_of value) × (document (text_of value) ≡ Some value)
 
--- what there is, and then all gaps, the first processes and the first objects
+-- the totals, and then all gaps, the first processes and the first objects
 abbrev pub summary_values : Option ℕ → Option ℕ → Totals → List Gap → List ProcessRow → List ObjectRow → List Json
 summary_values until top totals gaps processes objects =
     (summary_head until totals (length gaps) (length processes) (length objects) ∷ [])

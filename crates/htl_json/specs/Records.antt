@@ -21,7 +21,7 @@ record_of fields = object (members_of fields)
 abbrev pub quantity : ℕ → Json
 quantity n = number (decimal n)
 
--- as in the text
+-- a handle, as in the text
 abbrev pub shown_handle : ℕ → Json
 shown_handle handle = string (codes "0x" ++ hex handle)
 

@@ -14,21 +14,21 @@ use Rattle.htl_json.specs.Frames.{stack_fields}
 use Rattle.htl_json.specs.Records.{Field, count_fields, quantity, record_of, shown_address, shown_handle, tag_fields}
 use Rattle.htl_event.specs.Words.{word_of}
 
--- an event's own fields, by this word and this handle
+-- an event's own fields, with this word and this handle
 unfoldable pub event_fields : List ℕ → ℕ → Event → List Field
 event_fields word handle e =
     (codes "event", string word) ∷ (codes "handle", shown_handle handle) ∷ (codes "sequence", quantity e.sequence)
     ∷ (codes "thread", quantity e.thread) ∷ []
 
--- an event, by this word and this handle, and its stack
+-- an event, with this word and this handle, and its stack
 abbrev pub event_row : List Range → List ℕ → ℕ → Event → Json
 event_row symbols word handle e = record_of (event_fields word handle e ++ stack_fields symbols e.stack)
 
--- an outstanding handle, by the base handle
+-- the open of an outstanding handle, with its base handle
 abbrev pub opened : List Range → Event → Json
 opened symbols e = event_row symbols (codes "OPEN") (base_of e.handle) e
 
--- an event, its handle as it was written
+-- an event, with its handle as it was written
 abbrev pub listed : List Range → Event → Json
 listed symbols e = event_row symbols (word_of e.kind) e.handle e
 
@@ -50,7 +50,7 @@ leak symbols row = record_of (handles_field row.1 ++ stack_fields symbols row.0)
 abbrev pub counted_stack : List Range → List ℕ × Count → Json
 counted_stack symbols row = record_of (count_fields row.1.plus row.1.minus ++ stack_fields symbols row.0)
 
--- by how much references are above dereferences, and the other way round: one of them is 0
+-- by how many the references are more than the dereferences, and the other way round: one of the two is 0
 unfoldable pub balance_fields : Count → List Field
 balance_fields c = (codes "over", quantity (c.plus - c.minus)) ∷ (codes "under", quantity (c.minus - c.plus)) ∷ []
 
@@ -82,7 +82,7 @@ missing_fields (Absent processor) = absent_fields processor
 abbrev pub missing : Gap → Json
 missing gap = record_of (missing_fields gap)
 
--- a process, its outstanding handles, and its events of each kind
+-- a process, its outstanding handles, its opens and its closes
 unfoldable pub handles_fields : ProcessRow → List Field
 handles_fields row =
     (codes "row", string (codes "PROCESS")) ∷ (codes "process", quantity row.process) ∷ (codes "outstanding", quantity row.outstanding)
@@ -95,7 +95,7 @@ moments_fields row = (codes "bad", quantity row.bad) ∷ (codes "mark", quantity
 abbrev pub process_row : ProcessRow → Json
 process_row row = record_of (handles_fields row ++ moments_fields row)
 
--- an object, its tags, and those that aren't balanced
+-- an object, how many tags it has, and how many of them aren't balanced
 unfoldable pub unbalanced_fields : ObjectRow → List Field
 unbalanced_fields row =
     (codes "row", string (codes "OBJECT")) ∷ (codes "object", shown_address row.object) ∷ (codes "tags", quantity row.tags)

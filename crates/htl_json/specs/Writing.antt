@@ -39,7 +39,7 @@ abbrev pub EndsLine : Lines → Lines → List Token → Type 0
 EndsLine old new ts =
     AreRead ts × (new.writer.tokens ≡ []) × (new.writer.before ≡ old.writer.before ++ (print ts ++ line_feed))
 
--- a line is added, and none is left begun
+-- a line is added, and none is begun
 abbrev pub AddsLine : Lines → Lines → Json → Type 0
 AddsLine old new value =
     IsReadBack value × (new.writer.tokens ≡ []) × (new.writer.before ≡ old.writer.before ++ json_line value)

@@ -1,4 +1,4 @@
--- The front of a list, and the members of a range of numbers.
+-- What stands in front of a list are its first elements, and each of the first n numbers is below n.
 use Rattle.std.proofs.Common.{◌≡◌, ◌<◌, ◌++◌, ℕ, List, length, take, arith, subst}
 use Rattle.std.specs.Prelude.{Contains}
 use Rattle.std.specs.List.{range_with_len}

@@ -1,4 +1,4 @@
--- What `{:016x}` and `{:08x}` write of a number: its digits, and zeros before them.
+-- `{:016x}` and `{:08x}` write a number as its digits, with zeros before them.
 use Rattle.std.proofs.Common.{◌≡◌, ◌-◌, ◌^◌, ℕ, zero, suc, false, List, [], ◌++◌, length, replicate, refl, arith}
 use Rattle.std.specs.Fmt.{char_count, padded_integral, format_spec}
 use Rattle.std.specs.Str.Parse.{digits_value}

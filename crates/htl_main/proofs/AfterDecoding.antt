@@ -1,4 +1,4 @@
--- A run that ends after its segments were decoded ends for no failed read or write, and why it does.
+-- A run that ends after its segments were decoded ends for no failed read or write, but for what its segments come to.
 use Rattle.std.proofs.Common.{◌≢◌, ℕ, Bool, false, List, Option, None, inr}
 use Rattle.htl_segment.specs.Content.{Content}
 use Rattle.htl_command.specs.declared.question.Format.TheVariants.{Plain}
@@ -55,6 +55,7 @@ reads_then is_text has_failed has_ended good_reads remaining old new value segme
     read_then is_text has_failed has_ended good_reads remaining old new value (ill fault) read
     (λ at told. not_read segments symbols job fault at cause (cc told)) (λ place before. no_input segments symbols job fault place cause before)
 
+-- why nothing comes of decoded segments is why the run over their inputs ends
 pub cause_of : (job : Job) (inputs : List (List ℕ)) (symbols : Option (List ℕ)) (segments : List Content) (fault : RunFault)
     → WorkersFit job.setting.workers → DecodeAll job.setting.form inputs segments → IsCauseAfter segments symbols job fault
     → IsCause job inputs symbols fault
@@ -65,6 +66,7 @@ cause_of job inputs symbols segments NoSubject fit decoded cause = (fit, segment
 cause_of job inputs symbols segments Memory fit decoded cause = (fit, inr (segments, decoded, cause))
 cause_of job inputs symbols segments fault fit decoded cause = absurd cause
 
+-- why nothing comes of decoded segments is why the run over their sources ends
 pub sources_cause_of : (job : Job) (inputs : List (List ℕ)) (lefts : List (Option (List ℕ))) (ends : List Bool) (symbols : Option (List ℕ))
     (segments : List Content) (fault : RunFault) → WorkersFit job.setting.workers → DecodeAll job.setting.form inputs segments
     → IsCauseAfter segments symbols job fault → IsSourcesCause job inputs lefts ends symbols fault

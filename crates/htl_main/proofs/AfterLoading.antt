@@ -43,6 +43,7 @@ as_of inputs symbols setting job T table loaded = record {
 
 module _ (setting : Setting) (inputs : List (List ℕ)) (symbols : Option (List ℕ)) (T : Trace) (table : List Range) (job : Job)
     (loaded : AreLoadedOf inputs symbols setting job.until T table) where
+  -- the text of the answer over what was loaded is what a run of the job prints
   pub runs_text : (lines : List ℕ) → (job.exit_code ≡ true → HasSubject T job true) → IsText T table job lines
       → Printed (in_setting setting job) inputs symbols (Ok lines)
   runs_text lines about is = (
@@ -59,16 +60,20 @@ module _ (setting : Setting) (inputs : List (List ℕ)) (symbols : Option (List 
     },
   )
 
+  -- what was printed over what was loaded is what a run of the job prints
   pub prints : (Written : List ℕ → Type 0) → PrintsOver T table job Written
       → (lines : List ℕ) × Printed (in_setting setting job) inputs symbols (Ok lines) × Written lines
   prints Written over = (over.lines, runs_text over.lines over.about over.is, over.written)
 
+  -- the coverage of what was loaded is that of the inputs
   pub runs_coverage : (coverage : Coverage) → IsCoverage T coverage → Covers setting.form inputs coverage
   runs_coverage coverage is = (loaded.segments, loaded.decoded, (T, loaded.loaded.case, is))
 
+  -- whether what was loaded has an event of the subject is what a run of the job reports
   pub runs_subject : (found : Bool) → HasSubject T job found → ReportsSubject inputs (in_setting setting job) found
   runs_subject found over = (loaded.segments, loaded.decoded, (T, loaded.loaded.case, over))
 
+  -- what the answer over what was loaded finds is what that of a run of the job finds
   pub runs_finding : (found : Bool) → FindsOver T job found → Finds (in_setting setting job) inputs found
   runs_finding found over = (loaded.segments, loaded.decoded, (T, loaded.loaded.case, over))
 
@@ -88,6 +93,7 @@ module _ (setting : Setting) (inputs : List (List ℕ)) (symbols : Option (List 
   ends Write over written = written refl
   ends fault over written = absurd over
 
+  -- why nothing is answered over what was loaded is why a run of the job over the sources ends
   pub sources_end : (lefts : List (Option (List ℕ))) (ended : List Bool) (fault : RunFault) → EndsOver T job fault
       → (fault ≡ Write → (lines : List ℕ) × Printed (in_setting setting job) inputs symbols (Ok lines))
       → IsSourcesCause (in_setting setting job) inputs lefts ended symbols fault
@@ -111,6 +117,7 @@ over_no_input T job Memory place over before = before
 over_no_input T job Write place over before = before
 over_no_input T job fault place over before = over
 
+-- nothing that ends an answer over what was loaded is a failed read
 pub over_no_read : (T : Trace) (job : Job) (fault : RunFault) (at : ℕ) → EndsOver T job fault → fault ≢ Read at
 over_no_read T job (Read other) at over is = over
 over_no_read T job fault at over is = cc is

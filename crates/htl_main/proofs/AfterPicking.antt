@@ -1,4 +1,4 @@
--- A run of picks after its inputs were read, and why it ends.
+-- A run of picks is one of the segments of all its inputs, and it ends for the same causes.
 use Rattle.std.proofs.Common.{◌≡◌, ◌≢◌, ℕ, Bool, true, false, List, [], ◌∷◌, All, Option, Some, None, Result, Ok, Err, refl}
 use Rattle.std.specs.Prelude.{IfErr, IfNone, IfOk, IfSome}
 use Rattle.std.specs.Io.KnownBytes.{Appends}
@@ -50,6 +50,7 @@ pub record IsPickedRun (job : Job) (inputs : List (List ℕ)) (picks : Picks) : 
   pub decoded : DecodeAll job.setting.form inputs segments
   pub picked : ArePickedFor job.question picks segments
 
+-- what was picked of all inputs is what the job's question asks for
 pub picked_run : (job : Job) (inputs : List (List ℕ)) (interest : Interest) (picks : Picks)
     → asks_about job.setting.form.hex job.question ≡ Some interest → ArePicksOfAll job.setting.form interest inputs picks → IsPickedRun job inputs picks
 picked_run job inputs interest picks about all = record {
@@ -72,14 +73,17 @@ picked_for question picks segments case made are =
     let of = made are.interest segments are.picks_of are.fits in
     record { trace = of.0; interest = are.interest; about = are.about; case_of = of.1; picked = of.2 }
 
+-- what is printed of decoded segments is printed of their inputs
 pub prints : (job : Job) (inputs : List (List ℕ)) (segments : List Content) (symbols old new : Option (List ℕ)) → WorkersFit job.setting.workers
     → DecodeAll job.setting.form inputs segments → PrintsOf segments symbols job (Appends old new) → Prints job inputs symbols old new
 prints job inputs segments symbols old new fit decoded of = (of.lines, (fit, segments, decoded, of.are), of.written)
 
+-- a first part of what is printed of decoded segments is one of what is printed of their inputs
 pub prints_part : (job : Job) (inputs : List (List ℕ)) (segments : List Content) (symbols old new : Option (List ℕ)) → WorkersFit job.setting.workers
     → DecodeAll job.setting.form inputs segments → PrintsOf segments symbols job (AppendsPrefix old new) → PrintsPart job inputs symbols old new
 prints_part job inputs segments symbols old new fit decoded of = (of.lines, (fit, segments, decoded, of.are), of.written)
 
+-- what is reported of decoded segments, and which inputs are cut, is reported of the inputs
 pub reports : (job : Job) (inputs : List (List ℕ)) (segments : List Content) (cut : Option CutInputs) (completed : Completed)
     → DecodeAll job.setting.form inputs segments → AreCut job.setting.form.hex inputs cut → ReportsOf segments job cut completed
     → Reports job inputs completed
@@ -92,18 +96,21 @@ reports job inputs segments cut completed decoded are of = record {
 
 -- ---- how the run ends
 
+-- where a run that is done has P, and P implies Q, it has Q
 pub if_done : {E : Type 0} (result : Result (Option Completed) E) (P Q : Completed → Type 0) → ((x : Completed) → P x → Q x)
     → IfOk result (λ done. IfSome done P) → IfOk result (λ done. IfSome done Q)
 if_done (Ok None) P Q more is = tt
 if_done (Ok (Some x)) P Q more is = more x is
 if_done (Err e) P Q more is = tt
 
+-- where a run that wasn't done has P, and P implies Q, it has Q
 pub if_whole : {E P Q : Type 0} (result : Result (Option Completed) E) → (P → Q) → IfOk result (λ done. IfNone done P)
     → IfOk result (λ done. IfNone done Q)
 if_whole (Ok None) more is = more is
 if_whole (Ok (Some x)) more is = tt
 if_whole (Err e) more is = tt
 
+-- a run of picks ends for a cause of the run over the sources
 pub ends_for : (job : Job) (inputs : List (List ℕ)) (lefts : List (Option (List ℕ))) (ends : List Bool) (symbols : Option (List ℕ))
     (segments : List Content) (Written : List ℕ → Type 0) (result : Result (Option Completed) RunFault) → WorkersFit job.setting.workers
     → DecodeAll job.setting.form inputs segments
@@ -123,6 +130,7 @@ ends_for job inputs lefts ends symbols segments W (Err Memory) fit decoded after
     sources_cause_of job inputs lefts ends symbols segments Memory fit decoded (cause (λ e. cc e))
 ends_for job inputs lefts ends symbols segments W (Err other) fit decoded after cause write = absurd after
 
+-- a run that ends while it prints ends for no fault of a case
 pub ends_without_case : {S : Type 0} (result : Result S RunFault) → IfErr result EndsPrinting → NeverCase result
 ends_without_case (Ok ended) after = tt
 ends_without_case (Err (Case fault)) after = absurd after

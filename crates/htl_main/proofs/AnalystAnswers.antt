@@ -1,4 +1,4 @@
--- An analyst's answers over the keys of a case: they are what a summary says, and a folded analyst has these keys.
+-- An analyst's answers over the keys of a case are what a summary says of it, and a folded analyst has these keys.
 use Rattle.std.proofs.Common.{◌≡◌, ℕ, Bool, List, Vec, Global, Some, sym, ◌∙◌}
 use Rattle.std.specs.Prelude.{None, Contains, ◌↔◌}
 use Rattle.htl_event.specs.declared.summary.ObjectRow.{ObjectRow}
@@ -23,6 +23,7 @@ use Rattle.htl_main.specs.Folding.{AreFolded}
 use Rattle.htl_main.specs.Summaries.{IsSummary}
 use Rattle.htl_main.proofs.FoldLaws.{all_keys, all_of_case, is_right}
 
+-- a summary of a case says exactly what an analyst answers over the keys of the case
 pub summaries_agree : (T : Trace) (S : ℕ → ℕ → Bool) (C : Trace) (totals : Totals) (gaps : Vec Gap Global)
     (processes : Vec ProcessRow Global) (objects : Vec ObjectRow Global) → IsTakenCase T S C
     → IsSummary C None totals gaps.items processes.items objects.items ↔ AreAnswers T S C totals gaps processes objects

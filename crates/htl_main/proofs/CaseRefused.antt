@@ -1,4 +1,4 @@
--- A fault of all segments as one of the run, and that no other fault is about two segments.
+-- A fault of all segments is one of the run, about two of them, and no other fault is about two segments.
 use Rattle.std.proofs.Common.{◌≡◌, ℕ, List, Option, refl, inl, inr}
 use Rattle.std.specs.Prelude.{Err}
 use Rattle.htl_command.specs.declared.question.InputForm.{InputForm}
@@ -19,6 +19,7 @@ use Rattle.htl_main.specs.declared.fault.RunFault.TheVariants.{Case}
 use Rattle.htl_main.specs.declared.origin.Between.{Between}
 use Rattle.htl_main.specs.declared.origin.Between.TheVariants.{Nothing, Two, Unknown}
 
+-- why segments are refused as a case is why nothing is printed of them
 pub cause_of_case : (segments : List Content) (fault : CaseFault) → IsRefusal segments fault
     → (symbols : Option (List ℕ)) (job : Job) → IsCauseAfter segments symbols job (of_case fault)
 cause_of_case segments NoMemory refusal symbols job = inl refusal
@@ -30,6 +31,7 @@ no_memory_between form inputs segments Nothing is = refl
 no_memory_between form inputs segments (Two first second) is = absurd is.broken
 no_memory_between form inputs segments Unknown is = absurd cc
 
+-- where the two segments of a case's fault are told of the decoded segments, they are told of the inputs
 pub between_of_case : (form : InputForm) (inputs : List (List ℕ)) (segments : List Content) (fault : CaseFault) (between : Between)
     → DecodeAll form inputs segments → IsBetweenOf form inputs segments fault between → IsBetween form inputs (of_case fault) between
 between_of_case form inputs segments NoMemory between decoded is = no_memory_between form inputs segments between is

@@ -1,4 +1,4 @@
--- One input more, of which the counted ones end within a segment.
+-- One input more is counted among those that end within a segment, where it does.
 use Rattle.std.proofs.Common.{◌≡◌, ◌+◌, ℕ, suc, Bool, true, false, List, [], ◌∷◌, ◌++◌, length, take, refl, sym}
 use Rattle.std.proofs.Common.{subst, Option, Some, None, arith, append-nil}
 use Rattle.std.specs.Prelude.{slice_get, if◌then◌else◌}
@@ -34,6 +34,7 @@ places_more hex from (first ∷ inputs) input is_cut places are cut =
       rw (are.4) (sym (place_first are.0 is_cut from (from + suc (length inputs)) are.1)),
     )
 
+-- of no inputs none is cut
 pub none_cut : (hex : Bool) (inputs : List (List ℕ)) → AreCut hex (take 0 inputs) None
 none_cut hex inputs = refl
 
@@ -41,6 +42,7 @@ none_cut hex inputs = refl
 pub none_fits : (place : ℕ) → OthersFit None place
 none_fits place = tt
 
+-- where an input more is counted, there are still fewer others than inputs
 pub fits_next : (is_cut : Bool) (place : ℕ) (cut : Option CutInputs) → OthersFit cut place → OthersFit (with_input is_cut place cut) (place + 1)
 fits_next false place None few = tt
 fits_next false place (Some cut) few = omega (arith, few)
@@ -66,6 +68,7 @@ cut_with hex inputs input true (Some cut) are is =
       omega (arith, are.2, length-append are.0 (length inputs ∷ [])),
     )
 
+-- the cut inputs so far, with the next one where it is cut, are those of one input more
 pub cut_next : (hex : Bool) (inputs : List (List ℕ)) (place : ℕ) (input : List ℕ) (is_cut : Bool) (cut : Option CutInputs)
     → slice_get inputs place ≡ Some input → AreCut hex (take place inputs) cut → IsCut hex input is_cut
     → AreCut hex (take (place + 1) inputs) (with_input is_cut place cut)

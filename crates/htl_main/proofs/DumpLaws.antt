@@ -1,4 +1,4 @@
--- What was dumped of some bytes, and what is reported where no more of them is a segment.
+-- The segments at the front of some bytes are dumped, and where no more of them is a segment, it is reported why.
 use Rattle.std.proofs.Common.{◌≡◌, ◌+◌, ◌-◌, ◌<◌, ◌≤◌, ℕ, Bool, true, false, List, [], ◌∷◌, ◌++◌, length, drop, take, refl, sym, ap, ◌∙◌}
 use Rattle.std.proofs.Common.{arith, inl, inr, subst, append_assoc, append-nil, Option, Some, None, IfSome, Result, Ok, Err}
 use Rattle.std.specs.Prelude.{is_err, slice_get, IfErr, IfOk}
@@ -55,6 +55,7 @@ appends_after : (a b c : Option (List ℕ)) (ss ts : List Content) → Appends a
 appends_after a b c ss ts first next =
     subst (Appends a c) (sym (texts_more ss ts)) (Appends-trans a b c (texts_of ss) (texts_of ts) first next)
 
+-- what was written of some segments, and of more behind them before a fault, was written of both before it
 pub written_after : (a b c : Option (List ℕ)) (ss ts : List Content) (fault : RunFault) → Appends a b (texts_of ss) → AreWritten fault b c ts
     → AreWritten fault a c (ss ++ ts)
 written_after a b c ss ts Write first next =
@@ -69,6 +70,7 @@ one_more bytes rest n s ss split front =
     let next = splits_one bytes [] ss rest n s (record { more = ss; pushed = refl; splits = split }) front in
     subst (λ (all : List Content). Splits bytes all (drop n rest)) (sym next.pushed) next.splits
 
+-- with the text of the segment at the front of the rest, one segment more was dumped
 pub front_next : (bytes rest : List ℕ) (n : ℕ) (s : Content) (old mid new : Option (List ℕ)) → FrontDumped bytes rest old mid
     → BeginsWith rest n s → Appends mid new (segment_text s) → FrontDumped bytes (drop n rest) old new
 front_next bytes rest n s old mid new so_far front written = record {
@@ -134,6 +136,7 @@ ends_whole partial place offset rest Memory ends = ends
 ends_whole partial place offset rest Write ends = ends
 ends_whole partial place offset rest fault ends = absurd ends
 
+-- a dump that stops whatever bytes follow stops for the whole bytes
 pub whole_of_front : (form : InputForm) (place : ℕ) (bytes : List ℕ) (old new : Option (List ℕ)) (fault : RunFault)
     → FrontStops place 0 bytes old new fault → WholeStops form place bytes old new fault
 whole_of_front form place bytes old new fault stops = record {
@@ -160,12 +163,14 @@ whole_refused form place bytes rest old new fault front refused = rw (refused.is
   written = front.written;
 }
 
+-- where the front was dumped and the rest is one that may be left, all bytes were dumped
 pub dumped_whole : (form : InputForm) (bytes rest : List ℕ) (old new : Option (List ℕ)) (result : Result Bool RunFault)
     → FrontDumped bytes rest old new → IfOk result (IsEnd form rest)
     → IfOk result (λ is_cut. (rest : List ℕ) × IsEnd form rest is_cut × FrontDumped bytes rest old new)
 dumped_whole form bytes rest old new (Ok is_cut) front end = (rest, end, front)
 dumped_whole form bytes rest old new (Err fault) front end = tt
 
+-- where the rest ends within a segment and may not, the dump of all bytes ends there
 pub refused_whole : (form : InputForm) (place : ℕ) (bytes rest : List ℕ) (old new : Option (List ℕ)) (offset : ℕ)
     (result : Result Bool RunFault) (front : FrontDumped bytes rest old new) → offset ≡ length (bundle front.segments)
     → IfErr result (IsEndRefused form place offset rest) → IfErr result (WholeStops form place bytes old new)
@@ -226,6 +231,7 @@ input_stops form left ended place input bytes old new Write has stops = record {
 }
 input_stops form left ended place input bytes old new fault has stops = absurd (stops.ends)
 
+-- where all bytes that a text writes were dumped, the text was
 pub text_dumped : (form : InputForm) (text bytes : List ℕ) (old new : Option (List ℕ)) (result : Result Bool RunFault)
     → HasBytes form.hex text bytes
     → IfOk result (λ is_cut. (rest : List ℕ) × IsEnd form rest is_cut × FrontDumped bytes rest old new)
@@ -242,6 +248,7 @@ regrouped held piece rest ss ts split =
     append_assoc (bundle ss) held piece ∙ ap (λ (l : List ℕ). bundle ss ++ l) split.parts ∙ sym (append_assoc (bundle ss) (bundle ts) rest)
     ∙ ap (λ (l : List ℕ). l ++ rest) (sym (bundle-append ss ts))
 
+-- where the front of the held bytes and a piece was dumped, what a source gave was dumped but for the rest
 pub so_far_next : (first mid last : Option (List ℕ)) (start : ℕ) (held piece rest : List ℕ) (old out new : Option (List ℕ))
     → DumpedSoFar first mid start held old out → Consumes mid last piece → FrontDumped (held ++ piece) rest out new → IsRest rest
     → DumpedSoFar first last (start + (length (held ++ piece) - length rest)) rest old new
@@ -282,6 +289,7 @@ stops_behind xs ys zs place start held piece old out new fault so_far read stops
       written = written_after old out new ss ts fault so_far.written stops.written;
     }
 
+-- where the dump of the held bytes and a piece stops, that of the source does
 pub so_far_stops : (form : InputForm) (first mid last : Option (List ℕ)) (ended : Bool) (place start : ℕ) (held piece : List ℕ)
     (old out new : Option (List ℕ)) (fault : RunFault) → form.hex ≡ false → DumpedSoFar first mid start held old out → Consumes mid last piece
     → FrontStops place start (held ++ piece) out new fault
@@ -377,6 +385,7 @@ pub so_far_read : (most : ℕ) (first now : Option (List ℕ)) (start : ℕ) (he
 so_far_read most first now start held old new so_far =
     read_without_fault most first now so_far.segments held so_far.fits so_far.is_rest so_far.given
 
+-- a source that gives one piece more is read no further than one read behind its fault
 pub so_far_once_more : (first mid last : Option (List ℕ)) (start : ℕ) (held piece : List ℕ) (old new : Option (List ℕ))
     → DumpedSoFar first mid start held old new → Consumes mid last piece → length piece ≤ MAX_READ_LEN → IsReadToFault MAX_READ_LEN first last
 so_far_once_more first mid last start held piece old new so_far read few =
@@ -384,11 +393,13 @@ so_far_once_more first mid last start held piece old new so_far read few =
 
 -- ---- which input a fault names
 
+-- no fault of bytes at a front is a failed read
 pub front_no_read : (place start : ℕ) (bytes : List ℕ) (old new : Option (List ℕ)) (fault : RunFault) → FrontStops place start bytes old new fault
     → (at : ℕ) → fault ≡ Read at → ⊥
 front_no_read place start bytes old new fault stops at is =
     (subst (λ (f : RunFault). FrontStops place start bytes old new f) is stops).ends []
 
+-- a fault of bytes at a front names no input before the one at the place
 pub front_named : (place start : ℕ) (bytes : List ℕ) (old new : Option (List ℕ)) (fault : RunFault) → FrontStops place start bytes old new fault
     → (later : ℕ) → EndsBefore fault later → place < later
 front_named place start bytes old new (Segment at offset fault) stops later before = omega (arith, (stops.ends []).0, before)
@@ -398,6 +409,7 @@ front_named place start bytes old new fault stops later before = absurd (stops.e
 
 -- ---- the end of a source
 
+-- at the end of a source of bytes, its dump ends well where what is held is one that may be left
 pub finished : (form : InputForm) (first mid last : Option (List ℕ)) (start : ℕ) (held : List ℕ) (old new : Option (List ℕ))
     (result : Result Bool RunFault) → form.hex ≡ false → DumpedSoFar first mid start held old new → Consumes mid last [] → IsAtEnd last
     → ((segments : List Content) → start ≡ length (bundle segments) → IfOk result (IsEnd form held))
@@ -408,6 +420,7 @@ finished form (Some xs) mid last start held old new (Ok is_cut) is so_far none e
     (so_far_ended (Some xs) mid last start held old new so_far none end).front
 finished form first mid last start held old new (Err fault) is so_far none end ends = tt
 
+-- at the end of a source of bytes, its dump ends within a segment where that may not be left
 pub finished_cut : (form : InputForm) (first mid last : Option (List ℕ)) (ended : Bool) (place start : ℕ) (held : List ℕ)
     (old new : Option (List ℕ)) (result : Result Bool RunFault) → form.hex ≡ false → DumpedSoFar first mid start held old new
     → Consumes mid last [] → IsAtEnd last
@@ -427,11 +440,13 @@ kept_last bytes rest old new so_far =
     rw (rest_at bytes rest so_far.segments so_far.splits) (ap (drop (length (bundle so_far.segments))) so_far.splits.parts
     ∙ drop-append_seam (bundle so_far.segments) rest)
 
+-- the rest is no longer than the bytes
 pub rest_inside : (bytes rest : List ℕ) (old new : Option (List ℕ)) → FrontDumped bytes rest old new → length rest ≤ length bytes
 rest_inside bytes rest old new so_far = omega (arith, ap length so_far.splits.parts, length-append (bundle so_far.segments) rest)
 
 -- ---- inputs one after another
 
+-- the dump of the inputs before a place, and that of the one there, is the dump of one input more
 pub dumps_next : (form : InputForm) (texts : List (List ℕ)) (place : ℕ) (input : List ℕ) (is_cut : Bool) (old mid new : Option (List ℕ))
     → slice_get texts place ≡ Some input → Dumps form (take place texts) old mid → DumpsInput form input is_cut mid new
     → Dumps form (take (place + 1) texts) old new

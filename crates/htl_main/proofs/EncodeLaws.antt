@@ -1,4 +1,4 @@
--- Bytes in hexadecimal digits, and texts one after another: what they encode, and what is reported of the first that is refused.
+-- Bytes are written in hexadecimal digits, and texts one after another encode segments, or the first that is refused is reported.
 use Rattle.std.proofs.Common.{◌≡◌, ◌+◌, ◌<◌, ℕ, true, List, [], ◌∷◌, ◌++◌, length, map, take, refl, sym, ap, ◌∙◌}
 use Rattle.std.proofs.Common.{arith, subst, append_assoc, append-nil, Option, Some, Result, Ok, Err}
 use Rattle.std.specs.Prelude.{slice_get, IfErr}
@@ -34,10 +34,12 @@ unfolding encode_with
 digits_more table [] b = refl
 digits_more table (x ∷ a) b = let rest = digits_more table a b in rw rest refl
 
+-- before the first write, all bytes are left
 pub digits_start : (bytes : List ℕ) (known : Option (List ℕ)) → DigitsWritten bytes bytes known known
 unfolding encode_with
 digits_start bytes known = record { front = []; parts = refl; written = Appends-nil known }
 
+-- with the digits of the next bytes, those before the new rest were written
 pub digits_next : (bytes rest step later : List ℕ) (old mid new : Option (List ℕ)) → DigitsWritten bytes rest old mid → rest ≡ step ++ later
     → Appends mid new (encode_lower step) → DigitsWritten bytes later old new
 digits_next bytes rest step later old mid new so_far cut written = record {
@@ -47,6 +49,7 @@ digits_next bytes rest step later old mid new so_far cut written = record {
       (Appends-trans old mid new (encode_lower so_far.front) (encode_lower step) so_far.written written);
 }
 
+-- where a write of digits fails, some first part of all digits was written
 pub digits_cut : (bytes rest step later : List ℕ) (old mid new : Option (List ℕ)) → DigitsWritten bytes rest old mid → rest ≡ step ++ later
     → AppendsPrefix mid new (encode_lower step) → AppendsPrefix old new (encode_lower bytes)
 digits_cut bytes rest step later old mid new so_far cut part =
@@ -85,6 +88,7 @@ Gives text bytes = (segments : List Content) × Encodes text segments × (bytes 
 abbrev pub GiveAll : List (List ℕ) → List ℕ → Type 0
 GiveAll texts bytes = (segments : List Content) × EncodeAll texts segments × (bytes ≡ bundle segments)
 
+-- the bytes that the texts before a place give, and those of the text there, are what one text more gives
 pub give_next : (texts : List (List ℕ)) (place : ℕ) (text before after : List ℕ) → slice_get texts place ≡ Some text
     → GiveAll (take place texts) before → Gives text after → GiveAll (take (place + 1) texts) (before ++ after)
 give_next texts place text before after here all next = (

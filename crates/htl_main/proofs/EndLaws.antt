@@ -1,4 +1,4 @@
--- An input whose last bytes end within a segment: what it comes to where it may, and its fault where it may not.
+-- An input whose last bytes end within a segment comes to its segments where it may, and else to its fault.
 use Rattle.std.proofs.Common.{◌≡◌, ℕ, Bool, true, false, List, [], length, Option, Some, None, refl, arith, inl}
 use Rattle.std.proofs.Common.{IfErr, IfOk, IfSome, Result, Ok, Err, Vec, Global}
 use Rattle.std.specs.Prelude.{nat_lt}
@@ -31,6 +31,7 @@ early_cut : (rest : List ℕ) (short : Bool) → nat_lt (length rest) 32 ≡ sho
 early_cut rest true is = rw is refl
 early_cut rest false is = rw is refl
 
+-- the fault of bytes that end too early is one that more bytes may mend
 pub cut_off_early : (rest : List ℕ) → is_early_end (cut_off rest) ≡ true
 cut_off_early rest = early_cut rest (nat_lt (length rest) 32) refl
 
@@ -43,6 +44,7 @@ end_of form segments rest end partial left = (partial, left.some, early_end rest
 
 module _ (form : InputForm) (input bytes rest : List ℕ) (segments : List Content) (has : HasBytes form.hex input bytes)
     (split : Splits bytes segments rest) where
+  -- an input whose bytes are segments and a rest that may be left is these segments, and cut where the rest isn't empty
   pub input_of : (is_cut : Bool) → IsEnd form rest is_cut → IsInput form input segments is_cut
   input_of true end = record {
     decoded = record { bytes = bytes; has = has; rest = rest; splits = split; left = rw (end.0) (end.2) };
@@ -79,6 +81,7 @@ accepted_input form input bytes rest segments list (Ok it) has split same kept e
     rw (kept, same) (input_of form input bytes rest segments has split it.is_cut end)
 accepted_input form input bytes rest segments list (Err fault) has split same kept end = tt
 
+-- where the rest of an input may not be left, its fault is reported of the input
 pub refused_input : {S : Type 0} (form : InputForm) (place : ℕ) (input bytes rest : List ℕ) (segments : List Content)
     (result : Result S RunFault) → HasBytes form.hex input bytes → Splits bytes segments rest
     → IfErr result (IsEndRefused form place (length (bundle segments)) rest) → IfErr result (IsReportedOfInput form place input)
@@ -93,12 +96,14 @@ source_reported : (form : InputForm) (left : Option (List ℕ)) (ended : Bool) (
 source_reported form left ended place bytes (Segment at offset fault) refused reported = reported
 source_reported form left ended place bytes fault refused reported = absurd (cc (refused.is))
 
+-- where the rest of a source of bytes may not be left, its fault is reported of the source
 pub source_refused : (form : InputForm) (bytes rest : List ℕ) (segments : List Content) → form.hex ≡ false → Splits bytes segments rest
     → (left : Option (List ℕ)) (ended : Bool) (place : ℕ) (fault : RunFault)
     → IsEndRefused form place (length (bundle segments)) rest fault → IsReportedOfSource form left ended place bytes fault
 source_refused form bytes rest segments is split left ended place fault refused =
     source_reported form left ended place bytes fault refused (input_refused form bytes bytes rest segments (rw is refl) split place fault refused)
 
+-- a source whose bytes are segments and a rest that may be left is these segments, and cut where the rest isn't empty
 pub source_of : (form : InputForm) (bytes rest : List ℕ) (segments : List Content) → form.hex ≡ false → Splits bytes segments rest
     → (is_cut : Bool) → IsEnd form rest is_cut → IsInput form bytes segments is_cut
 source_of form bytes rest segments is split is_cut end = input_of form bytes bytes rest segments (rw is refl) split is_cut end
@@ -107,6 +112,7 @@ source_of form bytes rest segments is split is_cut end = input_of form bytes byt
 abbrev WasRead : Bundle (Vec Content Global) → List ℕ → Type 0
 WasRead read bytes = (rest : List ℕ) × Splits bytes read.segments.items rest × IsLeft read.segments.items rest read.early_end
 
+-- what was read of a source of bytes, where its rest may be left, is accepted as its segments
 pub accepted_source : (form : InputForm) (given : Option (List ℕ)) (read : Bundle (Vec Content Global))
     (result : Result (Accepted (Vec Content Global)) RunFault) → form.hex ≡ false → IfSome given (WasRead read)
     → IfOk result (λ it. it.segments ≡ read.segments)
@@ -117,6 +123,7 @@ accepted_source form (Some bytes) read (Ok it) is of kept end =
     rw kept (source_of form bytes of.0 read.segments.items is of.1 it.is_cut (end read.segments.items of.0 of.2))
 accepted_source form given read (Err fault) is of kept end = tt
 
+-- what was read of a source of bytes, where its rest may not be left, is reported
 pub refused_source : (form : InputForm) (given left : Option (List ℕ)) (ended : Bool) (place : ℕ) (read : Bundle (Vec Content Global))
     (result : Result (Accepted (Vec Content Global)) RunFault) → form.hex ≡ false → IfSome given (WasRead read)
     → ((segments : List Content) (rest : List ℕ) → IsLeft segments rest read.early_end

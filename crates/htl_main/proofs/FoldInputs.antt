@@ -1,4 +1,4 @@
--- What a folder took of inputs one after another, and why a reading that forgets ends.
+-- A folder takes inputs one after another, and a reading that forgets ends for a fault of theirs or of what was taken.
 use Rattle.std.proofs.Common.{◌≡◌, ◌≢◌, ◌⊎◌, ◌+◌, ◌-◌, ◌<◌, ◌≤◌, ℕ, Bool, true, false, List, [], ◌∷◌, ◌++◌, length, take}
 use Rattle.std.proofs.Common.{refl, sym, ap, ◌∙◌, subst, arith, inl, inr, append_assoc, append-nil, length-append}
 use Rattle.std.proofs.Common.{Option, Some, None, IfErr, IfOk, IfSome, Result, Ok, Err}
@@ -49,9 +49,11 @@ use Rattle.htl_main.proofs.ReadingLaws.{ends_too, ill, read_then, well}
 -- ---- what a keeper took
 
 module _ {S K : Type 0} (gathers : S → K → List Content → Type 0) where
+  -- a keeper that stays as it is took no segments
   pub took_none : (k : K) → Took gathers k k []
   took_none k kind before was = subst (gathers kind k) (sym (append-nil before)) was
 
+  -- a keeper that took some segments, and then more, took both in order
   pub took_both : (a b c : K) (first more : List Content) → Took gathers a b first → Took gathers b c more → Took gathers a c (first ++ more)
   took_both a b c first more one two kind before was =
       subst (gathers kind c) (append_assoc before first more) (two kind (before ++ first) (one kind before was))
@@ -60,6 +62,7 @@ module _ {S K : Type 0} (gathers : S → K → List Content → Type 0) where
   abbrev pub TookInput : K → K → InputForm → List ℕ → Bool → Type 0
   TookInput old new form text is_cut = (given : List Content) × IsInput form text given is_cut × Took gathers old new given
 
+  -- a keeper took the segments that an input gave before its fault
   abbrev pub TookOwn : K → K → InputForm → Option (List ℕ) → List ℕ → RunFault → Type 0
   TookOwn old new form left text fault =
       fault ≢ faults.Memory → (given : List Content) × GaveOwn form left text fault given × Took gathers old new given
@@ -72,6 +75,7 @@ module _ {S K : Type 0} (gathers : S → K → List Content → Type 0) where
         → GaveOwn form left text fault segments
     own_of_end left text bytes rest segments fault has split refused = rw (refused.is) (bytes, rest, has, split, refl)
 
+    -- an input whose bytes were taken, and whose rest may be left, was taken
     pub text_ok : (text bytes rest : List ℕ) (segments : List Content) (result : Result Bool RunFault) → HasBytes form.hex text bytes
         → Splits bytes segments rest → Took gathers old new segments → IfOk result (IsEnd form rest)
         → IfOk result (λ is_cut. TookInput old new form text is_cut)
@@ -79,6 +83,7 @@ module _ {S K : Type 0} (gathers : S → K → List Content → Type 0) where
         (segments, input_of form text bytes rest segments has split is_cut end, took)
     text_ok text bytes rest segments (Err fault) has split took end = tt
 
+    -- where the rest of an input's bytes may not be left, the segments before it were taken before its fault
     pub text_kept : (left : Option (List ℕ)) (text bytes rest : List ℕ) (segments : List Content) (result : Result Bool RunFault)
         → HasBytes form.hex text bytes → Splits bytes segments rest → Took gathers old new segments
         → IfErr result (IsEndRefused form place (length (bundle segments)) rest)
@@ -98,6 +103,7 @@ module _ {S K : Type 0} (gathers : S → K → List Content → Type 0) where
 
     -- ---- a source of bytes
 
+    -- a source of bytes that was taken to its end, and whose rest may be left, was taken as an input
     pub source_ok : (first : Option (List ℕ)) (end : Option EarlyEnd) (result : Result Bool RunFault) → form.hex ≡ false
         → IfSome first (TookToEnd gathers old new end)
         → ((segments : List Content) (rest : List ℕ) → IsLeft segments rest end → IfOk result (IsEnd form rest))
@@ -107,6 +113,7 @@ module _ {S K : Type 0} (gathers : S → K → List Content → Type 0) where
         (took.0, source_of form text took.1 took.0 is took.2 is_cut (ends took.0 took.1 took.3), took.4)
     source_ok first end (Err fault) is took ends = tt
 
+    -- where the rest of a source may not be left, its fault is reported
     pub source_err : (first left : Option (List ℕ)) (ended : Bool) (end : Option EarlyEnd) (result : Result Bool RunFault)
         → form.hex ≡ false → IfSome first (TookToEnd gathers old new end)
         → ((segments : List Content) (rest : List ℕ) → IsLeft segments rest end
@@ -117,6 +124,7 @@ module _ {S K : Type 0} (gathers : S → K → List Content → Type 0) where
     source_err (Some text) left ended end (Err fault) is took refused =
         source_refused form text took.1 took.0 is took.2 left ended place fault (refused took.0 took.1 took.3)
 
+    -- where the rest of a source may not be left, the segments before it were taken before its fault
     pub source_kept : (first left : Option (List ℕ)) (end : Option EarlyEnd) (result : Result Bool RunFault) → form.hex ≡ false
         → IfSome first (TookToEnd gathers old new end)
         → ((segments : List Content) (rest : List ℕ) → IsLeft segments rest end
@@ -138,6 +146,7 @@ module _ {S K : Type 0} (gathers : S → K → List Content → Type 0) where
         (took.segments, rw is (took.read, took.rest, took.gave, took.splits, took.is_rest), took.took)
     at_fault left text sources.NoMemory is took other = absurd (other refl)
 
+    -- what was taken of a source before its fault was taken before the fault of the run
     pub fault_kept : (first left : Option (List ℕ)) (fault : SourceFault) → form.hex ≡ false
         → IfSome first (λ text. TookBefore gathers old new left text fault)
         → IfSome first (λ text. TookOwn old new form left text (of_source place fault))
@@ -146,6 +155,7 @@ module _ {S K : Type 0} (gathers : S → K → List Content → Type 0) where
 
     -- ---- a source of digits
 
+    -- what was taken of a text is taken of the source whose known bytes it is
     pub known_ok : (first : Option (List ℕ)) (text : List ℕ) (result : Result Bool RunFault) → IfSome first (λ xs. text ≡ xs)
         → IfOk result (λ is_cut. TookInput old new form text is_cut)
         → IfOk result (λ is_cut. IfSome first (λ xs. TookInput old new form xs is_cut))
@@ -162,6 +172,7 @@ module _ {S K : Type 0} (gathers : S → K → List Content → Type 0) where
     any_left left other text (faults.Hex at fault) own is gave = gave
     any_left left other text fault own is gave = absurd gave
 
+    -- what was taken of a text before its fault is taken so of the source whose known bytes it is
     pub known_kept : (first left : Option (List ℕ)) (text : List ℕ) (result : Result Bool RunFault) → form.hex ≡ true
         → IfSome first (λ xs. text ≡ xs) → IfErr result (λ fault. TookOwn old new form None text fault)
         → IfErr result (λ fault. IfSome first (λ xs. TookOwn old new form left xs fault))
@@ -189,6 +200,7 @@ module _ {S K : Type 0} (gathers : S → K → List Content → Type 0) where
 -- what the inputs gave before the fault of one: those of the inputs before it, and its own
 module _ (form : InputForm) (inputs : List (List ℕ)) (lefts : List (Option (List ℕ))) (place : ℕ) (text : List ℕ)
     (earlier own : List Content) (before : DecodeAll form (take place inputs) earlier) (here : slice_get inputs place ≡ Some text) where
+  -- the segments of the inputs before a place, and those that the one there gave before its fault, were given
   pub given_before : (left : Option (List ℕ)) (ended : Bool) (fault : RunFault) → slice_get lefts place ≡ Some left
       → IsReportedOfSource form left ended place text fault → fault ≢ faults.Memory → GaveOwn form left text fault own
       → AreGiven form inputs lefts fault (earlier ++ own)
@@ -222,6 +234,7 @@ module _ (first now : Option State) (n : ℕ) (given before : List Content) (was
         keeps = folds.keeps;
       }
 
+  -- a folder that took all segments of the inputs, and folded all that it can, has taken the inputs
   pub all_taken : {U E : Type 0} (ended : Result U E) → Folds first now None n given → (form : InputForm) (texts : List (List ℕ))
       (cut : Option CutInputs) → DecodeAll form texts given → OnOk ended (IsFoldedFar now) → AreCut form.hex texts cut
       → OnOk ended (AreAllTaken form before texts first now n cut)
@@ -410,6 +423,7 @@ module _ (setting : Setting) (before : List Content) (texts : List (List ℕ)) (
     not_added_to None is fault told = rw told (none_there is)
     not_added_to (Some a) is fault told = not_covered a fault is told
 
+    -- a reading that brings no segment, or misses one, is refused for that
     pub not_added : (fault : RunFault) → IsNotAdded setting.complete new fault → Refuses new fault
     not_added fault told = not_added_to new refl fault told
 
@@ -498,11 +512,13 @@ module _ {R : Type 0} (is_text : Bool) (has_failed has_ended : R → Bool) (good
 
 -- ---- at the beginning
 
+-- before the first reading nothing is folded
 pub nothing_folded : AreFolded None []
 nothing_folded = record { taken = refl; far = tt }
 
 module _ (setting : Setting) (symbols : Option (List ℕ)) (texts : List (List ℕ)) (lefts : List (Option (List ℕ))) (ends : List Bool)
     (Keeps : List Content → Type 0) where
+  -- the refusal of a first reading is one of a beginning
   pub begins_refused : (fault : RunFault) → IsFoldingRefused setting [] texts lefts ends Keeps fault
       → IsBeginningRefused setting symbols texts lefts ends fault
   begins_refused faults.Memory refused = refused
@@ -517,6 +533,7 @@ module _ (setting : Setting) (symbols : Option (List ℕ)) (texts : List (List �
     why = refused.why;
   }
 
+  -- a fault of the symbols, once all was read, is a refusal of a beginning
   pub symbols_refused : (added : Added) (fault : RunFault) → IsFolded setting [] texts Keeps added → IsSymbolsFault symbols fault
       → IsBeginningRefused setting symbols texts lefts ends fault
   symbols_refused added faults.Memory folded told = (folded.workers, inr (inr (folded.given, folded.decoded, folded.some)))

@@ -1,4 +1,4 @@
--- What an analyst that took a list of segments has of every trace that these are of, and which segments it takes after them.
+-- An analyst that took a list of segments is right about each trace that these are of, and takes the next one or finds it unfit.
 use Rattle.std.proofs.Common.{◌≡◌, ◌≢◌, ℕ, ◌+◌, ◌<◌, ◌≤◌, Bool, true, false, cond, List, [], ◌∷◌, ◌++◌, length, length-set, refl, sym, ap, ◌∙◌, subst}
 use Rattle.std.proofs.Common.{inl, inr, ◌⊎◌, arith, Some, None, Option, eq-eqb, eqb, eqb-true, ltb, ltb-true}
 use Rattle.std.specs.Prelude.{Contains, ◌↔◌, ◌||◌, count_by, is_some, map, slice_get}
@@ -70,6 +70,7 @@ module _ (segments : List Content) (a : State) (T : Trace) (took : HasTakenAll s
       let same = at_member (λ s. (s.trace_id ≡ T.id) × (s.processors ≡ T.processors)) T.segments one.0 collection.same (each one.0 one.1) in
       (sym same.0 ∙ ids.0, sym same.1 ∙ ids.1)
 
+  -- the analyst is right about each collection that the segments are some of
   pub is_right : IsRight a T
   is_right = took.right T collection same_ids.0 same_ids.1 (each_member (Contains T.segments) segments each)
 
@@ -113,15 +114,19 @@ module _ (segments : List Content) (a : State) (T : Trace) (took : HasTakenAll s
 
 module _ (segments : List Content) (a : State) (T : Trace) (took : HasTakenAll segments a) (some : segments ≢ [])
     (case : IsCaseOf segments T) where
+  -- the segments are all that their case has
   pub all_of_case : AreAllOf segments T
   all_of_case = record { collection = collection_of T case.is_case.trace; members = case.members }
 
+  -- the analyst is right about the case of the segments
   pub right_of_case : IsRight a T
   right_of_case = right_of_all segments a T took some all_of_case
 
+  -- the events of its taken keys are all events of the case
   pub events_of_case : taken_events T a ≡ all_events T.segments
   events_of_case = all_were_taken segments T a took (λ s h. (case.members s).0 h)
 
+  -- the gaps of its taken keys are those of the case
   pub gaps_of_case : (gaps : List Gap) → IsGaps (HasTaken a) a.processors gaps → IsGaps (HasKey T) T.processors gaps
   gaps_of_case gaps listed =
       gaps_agree (HasTaken a) (HasKey T) T.processors gaps (λ p n within. all_keys segments a T took some all_of_case p n)
@@ -134,6 +139,7 @@ module _ (segments : List Content) (a : State) (T : Trace) (took : HasTakenAll s
     missing = λ has. far p ((all_keys segments a T took some all_of_case p (front_at a.taken p)).1 has);
   }
 
+  -- the least of its last folded sequences is what the case is complete to, where all was folded that could be
   pub complete_of_case : IsFoldedFar (Some a) → (n : ℕ) → IsLeastLastFolded T a n → IsCompleteTo T n
   complete_of_case far n least = record {
     bound = λ p m within unbroken.
@@ -161,9 +167,11 @@ module _ (segments : List Content) (a : State) (T : Trace) (took : HasTakenAll s
         ];
       }
 
+  -- where its taken keys have no gap, the case is complete
   pub none_missing : IsGaps (HasTaken a) a.processors [] → IsComplete T
   none_missing listed gap there = Contains-nil gap (((gaps_of_case [] listed).members gap).1 there)
 
+  -- the number of its gaps and the least of its last folded sequences are the coverage of the case
   pub covered : IsFoldedFar (Some a) → (gaps : List Gap) (coverage : Coverage) → IsGaps (HasTaken a) a.processors gaps
       → coverage.gaps ≡ length gaps → IsLeastLastFolded T a coverage.complete_to → IsCoverage T coverage
   covered far gaps coverage listed counted least = record {
@@ -296,6 +304,7 @@ module _ (before earlier : List Content) (a : State) where
         ap (λ (q : ℕ). (folded_at a.parts q).last_sequence) same in
         omega (arith, last, above, at)
 
+    -- a segment that the analyst takes, and that doesn't fall, is accepted after those before
     pub accepts_next : Accepts before earlier s
     accepts_next = record {
       trace = each_member (λ t. (t.trace_id ≡ s.trace_id) × (t.processors ≡ s.processors)) (before ++ earlier)
@@ -344,6 +353,7 @@ module _ (segments : List Content) (a : State) (s : Content) (took : HasTakenAll
       same_pair : (t u : Content) → t.processor ≡ u.processor → t.number ≡ u.number → key_of t ≡ key_of u
       same_pair t u p n = cc
 
+  -- a segment with another trace id is unfit
   pub of_other_trace : s.trace_id ≢ a.trace_id → (place : ℕ) → IsUnfit segments s (cases.OtherTrace place)
   of_other_trace differ place = (
     some,
@@ -351,6 +361,7 @@ module _ (segments : List Content) (a : State) (s : Content) (took : HasTakenAll
         (λ t has same. differ (sym same ∙ (at_member (AreIdsOf a) segments t took.ids has).0)),
   )
 
+  -- a segment of the trace with another processor count is unfit
   pub of_other_count : s.trace_id ≡ a.trace_id → s.processors ≢ a.processors → (place : ℕ)
       → IsUnfit segments s (cases.OtherProcessors place)
   of_other_count same differ place = (
@@ -366,6 +377,7 @@ no_case segments T none case =
     let one = some_member T.segments case.is_case.some in
     Contains-nil one.0 (subst (λ (ss : List Content). Contains ss one.0) none ((case.members one.0).0 one.1))
 
+-- a list of gaps without a first one is empty
 pub no_first : (gaps : List Gap) → slice_get gaps 0 ≡ None → gaps ≡ []
 no_first [] at = refl
 no_first (g ∷ gs) at = absurd (cc at)
@@ -412,6 +424,7 @@ fallen_by_first a s e last fits first is new = by_test (leb e.sequence last) ref
 pub not_fallen : (a : State) (s : Content) → (IsNewTo a s → ⊥) → IsFallen a s false
 not_fallen a s old new = absurd (old new)
 
+-- a segment without events doesn't fall
 pub none_fallen : (a : State) (s : Content) → slice_get s.events 0 ≡ None → IsFallen a s false
 none_fallen a s none = go s.events none
   where
@@ -450,6 +463,7 @@ number_after : (took : Took) (a b : State) (s : Content) → b ≡ taken_as took
 number_after Repeat a b s is more = (let same = ap number_taken is in omega (arith, same))
 number_after New a b s is more = (let one = more refl in omega (arith, one))
 
+-- taking one segment lets no front fall and loses no key
 pub keeps_one : (a b : State) (s : Content) (took : Took) → IsState b → Fits s → b ≡ taken_as took a s → TakeAccepted a s
     → (took ≡ New → number_taken b ≡ number_taken a + 1) → Keeps a b
 keeps_one a b s took state fits is accepted more = record {
@@ -465,12 +479,14 @@ keeps_one a b s took state fits is accepted more = record {
   number = number_after took a b s is more;
 }
 
+-- a state that stays as it is lets no front fall and loses no key
 pub keeps_same : (a b : State) → b ≡ a → Keeps a b
 keeps_same a b is = record {
   fronts = λ p. (let same = ap (λ (x : State). front_at x.taken p) is in omega (arith, same));
   number = (let same = ap number_taken is in omega (arith, same));
 }
 
+-- an analyst that took segments, and one more that doesn't fall, took all of them
 pub takes_one : (segments : List Content) (a b : State) (s : Content) (took : Took) → HasTakenAll segments a
     → b ≡ taken_as took a s → TakeAccepted a s → IsFallen a s false
     → ((p n : ℕ) → HasTaken b p n ↔ (HasTaken a p n ⊎ ((p ≡ s.processor) × (n ≡ s.number))))
@@ -485,6 +501,7 @@ takes_one segments a b s took before is accepted rising keys right = record {
 
 module _ (segments : List Content) (a : State) (T : Trace) (folded : AreFolded (Some a) segments) (case : IsCaseOf segments T)
     (parts : List Contents) (of : AreEventsOf parts (taken_events T a)) where
+  -- the parts of the analyst stand for all events of the case
   pub parts_of_case : AreEventsOf parts (all_events T.segments)
   parts_of_case = subst (AreEventsOf parts) (events_of_case segments a T folded.taken.1 folded.taken.0 case) of
 
@@ -507,6 +524,7 @@ all_count job none = (
     no_moment None is = refl
     no_moment (Some moment) is = absurd (cc is)
 
+-- a question about events, other than the summary, is answered from parts
 pub of_parts : (question : Question) → is_of_events question ≡ false → (question ≡ questions.Summary → ⊥) → IsOfParts question
 of_parts questions.Summary none other = absurd (other refl)
 of_parts (questions.Trace process handle) none other = absurd (cc none)

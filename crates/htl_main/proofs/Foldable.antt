@@ -332,6 +332,7 @@ compacted_to a is (suc n) le =
     let more : AreCompacted a next.0 (n + 1) = AreCompacted-more a old.0 next.0 n old.1 lt next.1 in
     (next.0, subst (λ (m : ℕ). AreCompacted a next.0 m) (omega arith) more)
 
+-- each state that is right about a trace can be compacted
 pub any_can_be_compacted : AnyCanBeCompacted
 any_can_be_compacted T a right =
     let all = compacted_to a right.state a.processors (omega arith) in
@@ -360,5 +361,6 @@ module _ (T : Trace) (trace : IsTrace T) (some : 0 < T.processors) (few : T.proc
       let old = state_after before names in
       (old.0, (old.0, old.1, record { keys = λ p n. (λ h. h, λ h. h); right = λ trace right. right }))
 
+-- each history on a trace leaves some state
 pub any_history_leaves_a_state : AnyHistoryLeavesAState
 any_history_leaves_a_state = state_after

@@ -1,4 +1,4 @@
--- What was taken of the segments that were given, one segment more at a time.
+-- Of the segments that were given one after the other, those before the first that is unfit were taken.
 use Rattle.std.proofs.Common.{◌≡◌, ◌≢◌, ℕ, ◌+◌, ◌<◌, ◌-◌, ◌^◌, List, [], ◌∷◌, ◌++◌, min, refl, sym, ap, ◌∙◌, subst}
 use Rattle.std.proofs.Common.{arith, append_assoc, append-nil, length-append, Some, None, Option, true, false}
 use Rattle.std.specs.Prelude.{Contains, OnOk, Result, Ok, Err, is_some}
@@ -85,6 +85,7 @@ module _ (first : Option State) (new : State) (given : List Content) (n : ℕ) (
   none_taken : so_far.taken ≡ []
   none_taken = so_far.kept [] (record { taken = rw (none_first first so_far.keeps) refl; far = rw (none_first first so_far.keeps) tt })
 
+  -- the first segment begins what was taken
   pub took_first : Folds first (Some new) None 1 (given ++ s ∷ [])
   took_first = record {
     taken = s ∷ [];
@@ -171,6 +172,7 @@ folded_too first old new unfit n given so_far some keeps took = record {
 -- What came of one segment more: it was taken, or is unfit and changed nothing.
 module _ (first : Option State) (old new : State) (given : List Content) (n : ℕ) (s : Content)
     (so_far : Folds first (Some old) None n given) where
+  -- the next segment is unfit, and the analyst stays as it was
   pub unfit_next : (unfit : Option CaseFault) → is_some unfit ≡ true → (is_some unfit ≡ true → new ≡ old)
       → ((segments : List Content) → segments ≢ [] → HasTakenAll segments old → TookFit segments s n old new unfit)
       → Folds first (Some new) unfit n (given ++ s ∷ [])
@@ -179,12 +181,14 @@ module _ (first : Option State) (old new : State) (given : List Content) (n : �
       rw (same is) (found_unfit first (Some old) given n s fault so_far
       (λ before was. (let kept = so_far.kept before was in next (before ++ so_far.taken) kept.0 kept.1)))
 
+  -- the next segment was taken behind those before it
   pub fit_next : (unfit : Option CaseFault) (m : ℕ) → is_some unfit ≡ false → m ≡ min (n + 1) (2 ^ 64 - 1) → Keeps old new
       → ((segments : List Content) → segments ≢ [] → HasTakenAll segments old → TookFit segments s n old new unfit)
       → Folds first (Some new) unfit m (given ++ s ∷ [])
   fit_next None m is more keeps next = took_next first old new given n m s so_far more next keeps
   fit_next (Some fault) m is more keeps next = absurd (cc is)
 
+-- behind a segment that is unfit, none more is taken
 pub stays : (first now : Option State) (unfit : Option CaseFault) (given : List Content) (n : ℕ) (s : Content) → is_some unfit ≡ true
     → Folds first now unfit n given → Folds first now unfit n (given ++ s ∷ [])
 stays first now None given n s is so_far = absurd (cc is)

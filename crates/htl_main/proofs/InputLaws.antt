@@ -1,4 +1,4 @@
--- Inputs one after another: what is decoded, and what is reported of the first that is refused.
+-- Inputs are decoded one after another, and the first that is refused is reported.
 use Rattle.std.proofs.Common.{◌≡◌, ◌+◌, ◌<◌, ℕ, Bool, true, false, List, [], ◌∷◌, ◌++◌, length, map, take, refl, ap, ◌∙◌, sym}
 use Rattle.std.proofs.Common.{append_assoc, inl, inr, Some, arith, Vec, Global}
 use Rattle.std.specs.Prelude.{slice_get}
@@ -79,6 +79,7 @@ asks false input bytes rest [] has split some = absurd (omega arith)
 asks false input bytes rest (t ∷ ts) has split some =
     (0, first_at input t ts rest (sym has ∙ split.parts) (All-head Fits t ts split.fits))
 
+-- memory is asked for where an input has a segment
 pub asked_for : (form : InputForm) (input : List ℕ) (segments : List Content) → Decodes form input segments → 0 < length segments
     → AsksMemory form.hex input
 asked_for form input segments decoded some = asks form.hex input decoded.bytes decoded.rest segments decoded.has decoded.splits some

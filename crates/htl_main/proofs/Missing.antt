@@ -74,6 +74,7 @@ begin_more T is p own mine gaps so_far = joined T gaps (gaps_of p 0 (numbers_of 
     let found = begin_of p (2 ^ 32) (numbers_of own) gap more (own_rise T is p own mine) here in
     rw (found.0, found.1) (own_first T is p own mine))
 
+-- a gap before another is of no later processor
 pub no_later : (a b : Gap) → IsGapBefore a b → processor_of a ≤ processor_of b
 no_later a b (inl lt) = omega (arith, lt)
 no_later a b (inr both) = let e = both.0 in omega (arith, e)

@@ -10,6 +10,7 @@ use Rattle.htl_main.specs.Moments.{IsCompleteUntil, IsMomentOf, is_above}
 use Rattle.htl_main.specs.declared.coverage.Missed.{Missed}
 use Rattle.htl_main.proofs.OneSummary.{one_complete}
 
+-- a job's moment over a trace is one
 pub one_moment : (T : Trace) (named : Option Moment) (a b : Option ℕ) → IsMomentOf T named a → IsMomentOf T named b → a ≡ b
 one_moment T None a b p q = p ∙ sym q
 one_moment T (Some (Sequence n)) a b p q = p ∙ sym q

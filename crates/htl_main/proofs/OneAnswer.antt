@@ -117,6 +117,7 @@ one_span events (Some a) (Some b) p q =
     let last : a.last ≡ b.last = omega (arith, high, high_too, p.has_last.2, q.has_last.2) in
     ap (λ (s : Span). Some s) (same_span a b first last)
 
+-- two answers to a question over a trace have the same rows
 pub one_answer : (T : Trace) (until : Option ℕ) (question : Question) (a b : Answer) → IsAnswer T until question a
     → IsAnswer T until question b → AreSame a b
 one_answer T until questions.Summary (Summary t gs ps os) (Summary u hs qs ns) p q = (
@@ -164,6 +165,7 @@ same_text table until top (Growth p rs) other same = absurd same
 same_text table until top (Summary t gs ps os) (Summary u hs qs ns) same = rw (same.0, same.1, same.2, same.3) refl
 same_text table until top (Summary t gs ps os) other same = absurd same
 
+-- answers with the same rows find the same
 pub same_finding : (a b : Answer) → AreSame a b → has_finding a ≡ has_finding b
 same_finding (Outstanding p rs) (Outstanding q ss) same = rw (same.1) refl
 same_finding (Outstanding p rs) other same = absurd same

@@ -1,4 +1,4 @@
--- Inputs have one coverage, and a summary reports the same.
+-- All segments of inputs have one coverage, and a summary of their case reports the same.
 use Rattle.std.proofs.Common.{◌≡◌, ℕ, List, Option, length, ap, sym, ◌∙◌, subst}
 use Rattle.htl_command.specs.declared.question.InputForm.{InputForm}
 use Rattle.htl_segment.specs.Content.{Content}
@@ -23,12 +23,14 @@ of_trace T a b p q =
     let complete_to = one_complete T a.complete_to b.complete_to p.complete_to q.complete_to in
     ap (λ (n : ℕ). coverage_of n a.complete_to) gaps ∙ ap (λ (n : ℕ). coverage_of b.gaps n) complete_to
 
+-- inputs have one coverage
 pub one_coverage : (form : InputForm) (inputs : List (List ℕ)) (a b : Coverage) → Covers form inputs a → Covers form inputs b → a ≡ b
 one_coverage form inputs a b p q =
     let same = one_decoding form inputs p.0 q.0 p.1 q.1 in
     let trace = one_case q.0 p.2.0 q.2.0 (subst (λ (ss : List Content). IsCaseOf ss p.2.0) same p.2.1) q.2.1 in
     of_trace q.2.0 a b (subst (λ (T : Trace). IsCoverage T a) trace p.2.2) q.2.2
 
+-- a summary has as many gaps as the coverage says, and is complete to the same sequence
 pub summary_reports : (T : Trace) (until : Option ℕ) (coverage : Coverage) (totals : Totals) (gaps : List Gap) → IsCoverage T coverage
     → AreTotals T until totals → IsGaps (HasKey T) T.processors gaps → (coverage.gaps ≡ length gaps) × (coverage.complete_to ≡ totals.complete_to)
 summary_reports T until coverage totals gaps is reported listed = (

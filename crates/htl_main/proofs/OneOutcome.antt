@@ -118,6 +118,7 @@ decoded_not_reported form place input ss fault is (inr p) = no_hex_fault form.he
 
 -- ---- all inputs
 
+-- inputs are decoded to one list of segments
 pub one_decoding : (form : InputForm) (inputs : List (List ℕ)) (ss ts : List Content) → DecodeAll form inputs ss → DecodeAll form inputs ts → ss ≡ ts
 one_decoding form [] ss ts p q = p ∙ sym q
 one_decoding form (input ∷ inputs) ss ts p q =
@@ -323,6 +324,7 @@ cases_printed job inputs symbols (Err (Segment at offset fault)) is =
 cases_printed job inputs symbols (Err (Hex at fault)) is = inr (is.0, inl (Hex at fault, refl, (λ same. cc), is.1))
 cases_printed job inputs symbols outcome is = inr (is.0, inr (is.1, is.2, is.3))
 
+-- a job over its inputs and symbols comes to one outcome
 pub one_outcome : (job : Job) (inputs : List (List ℕ)) (symbols : Option (List ℕ)) (a b : Result (List ℕ) RunFault)
     → Printed job inputs symbols a → Printed job inputs symbols b → a ≡ b
 one_outcome job inputs symbols a b p q =
@@ -353,6 +355,7 @@ module _ (job : Job) (workers other : ℕ) (inputs : List (List ℕ)) (symbols :
   same_coming outcome (inl p) = inl p
   same_coming outcome (inr p) = inr (p.0, p.1, same_printed p.0 outcome p.2)
 
+  -- whatever number of workers is allowed, a job comes to the same outcome
   pub for_all_workers : (a b : Result (List ℕ) RunFault) → WorkersFit workers → WorkersFit other → Printed (with_workers workers) inputs symbols a
       → Printed (with_workers other) inputs symbols b → a ≡ b
   for_all_workers a b few few_too p q =
@@ -372,6 +375,7 @@ finds_one T job a b p q =
     let is = subst (λ (n : Option ℕ). IsAnswer T n job.question p.2) until p.3 in
     p.4 ∙ same_finding p.2 q.2 (one_answer T q.0 job.question p.2 q.2 is q.3) ∙ sym q.4
 
+-- what the answer of a job over its inputs finds is one thing
 pub one_finding : (job : Job) (inputs : List (List ℕ)) (a b : Bool) → Finds job inputs a → Finds job inputs b → a ≡ b
 one_finding job inputs a b p q =
     let same = one_decoding job.setting.form inputs p.0 q.0 p.1 q.1 in

@@ -1,4 +1,4 @@
--- One source of bytes: what is reported of it, as a fault of the run.
+-- What is reported of one source of bytes is reported as a fault of the run, which reads the source so.
 use Rattle.std.proofs.Common.{◌≡◌, ◌≢◌, ◌⊎◌, ◌<◌, ◌≤◌, ◌+◌, ℕ, Bool, true, false, List, length, refl, ap, inl, inr}
 use Rattle.std.proofs.Common.{Option, Some, None, IfSome, Result, Ok, Err}
 use Rattle.std.specs.Prelude.{IfErr, OnOk}
@@ -60,6 +60,7 @@ names_place place (sources.Segment offset fault) later before = before
 names_place place sources.Read later before = before
 names_place place sources.NoMemory later before = absurd before
 
+-- no fault of a source is a failed write
 pub never_write : (place : ℕ) (fault : SourceFault) → of_source place fault ≢ Write
 never_write place (sources.Segment offset fault) is = cc is
 never_write place sources.Read is = cc is
@@ -101,6 +102,7 @@ module _ {R T : Type 0} (has_failed has_ended : R → Bool) (good_reads : R → 
     to_fault = λ bytes. is.to_fault;
   }
 
+  -- a source that was read by a call that ends well is read so by one that ends well or for a fault of its segments
   pub accepted_read : {S : Type 0} (made : S) (result : Result T RunFault) → IfErr result (IsSegmentOf place)
       → IsSourceRead MAX_READS has_failed has_ended good_reads remaining (remaining old) old new (made_of made)
       → IsRead false MAX_READS has_failed has_ended good_reads remaining place old new result

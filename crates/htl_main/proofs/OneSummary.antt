@@ -19,6 +19,7 @@ use Rattle.htl_main.specs.Summaries.{AreTotals}
 determined : (events : List Event) → SummariesAreDetermined events events
 determined events = summaries_are_determined events events (IsPermutation-refl events)
 
+-- a trace is complete to one sequence
 pub one_complete : (T : Trace) (n m : ℕ) → IsCompleteTo T n → IsCompleteTo T m → n ≡ m
 one_complete T n m p q =
     let le = p.bound q.processor m q.within q.reached in
@@ -34,6 +35,7 @@ totals processors segments events complete_to objects = record {
   objects = objects;
 }
 
+-- a trace has one list of totals up to a moment
 pub one_totals : (T : Trace) (until : Option ℕ) (a b : Totals) → AreTotals T until a → AreTotals T until b → a ≡ b
 one_totals T until a b p q =
     let processors : a.processors ≡ b.processors = p.processors ∙ sym q.processors in
@@ -47,13 +49,16 @@ one_totals T until a b p q =
     ∙ ap (λ (n : ℕ). totals b.processors b.segments b.events n a.objects) complete_to
     ∙ ap (λ (n : ℕ). totals b.processors b.segments b.events b.complete_to n) objects
 
+-- a trace has one list of gaps
 pub one_gaps : (T : Trace) (a b : List Gap) → IsGaps (HasKey T) T.processors a → IsGaps (HasKey T) T.processors b → a ≡ b
 one_gaps T a b =
     Lists-same IsGapBefore IsGapBefore-strict (IsGap (HasKey T) T.processors) (IsGap (HasKey T) T.processors) a b
     (λ gap. ((λ h. h), (λ h. h)))
 
+-- events have one list of processes
 pub one_processes : (events : List Event) (a b : List ProcessRow) → IsProcesses events a → IsProcesses events b → a ≡ b
 one_processes events = (determined events).processes
 
+-- events have one list of unbalanced objects
 pub one_objects : (events : List Event) (a b : List ObjectRow) → IsUnbalanced events a → IsUnbalanced events b → a ≡ b
 one_objects events = (determined events).unbalanced

@@ -31,11 +31,13 @@ pub record AreOwnOutlines (T : Trace) (p : ℕ) (own : List Outline) : Type 0 wh
   pub mine : AreOwn T p segments
   pub outlines : own ≡ map outline_of segments
 
+-- the rest has the outlines of the trace's segments of the processors from p on, in order
 pub record AreOutlinesFrom (T : Trace) (p : ℕ) (rest : List Outline) : Type 0 where
   pub segments : List Content
   pub from : AreFrom T p segments
   pub outlines : rest ≡ map outline_of segments
 
+-- from the first processor on, the rest are all outlines
 pub outlines_from_first : (T : Trace) (n : ℕ) (outlines : List Outline) → AreOutlinesOf n outlines T → AreOutlinesFrom T 0 outlines
 outlines_from_first T n outlines are = record { segments = T.segments; from = from_first T are.0.trace; outlines = are.2 }
 
@@ -110,6 +112,7 @@ module _ (T : Trace) (p : ℕ) (rest own after : List Outline) (from : AreOutlin
   back_is : All (λ s. p < s.processor) parts.back
   back_is = let all = is_after (in_order T p rest from) in each_segment (λ q. p < q) parts.back (rw parts.after_are at all)
 
+  -- what the search cuts off in front of the rest are the processor's outlines
   pub own_outlines : AreOwnOutlines T p own
   own_outlines = record {
     segments = parts.front;
@@ -117,6 +120,7 @@ module _ (T : Trace) (p : ℕ) (rest own after : List Outline) (from : AreOutlin
     outlines = parts.own_are;
   }
 
+  -- what the search leaves of the rest are the outlines of the processors after it
   pub outlines_after : AreOutlinesFrom T (p + 1) after
   outlines_after = record {
     segments = parts.back;
@@ -150,14 +154,17 @@ module _ (T : Trace) (is : IsTrace T) (p : ℕ) (own : List Outline) (mine : Are
   numbers_are : numbers ≡ numbers_of own
   numbers_are = sym (ap numbers_of mine.outlines ∙ same_numbers mine.segments)
 
+  -- the numbers of a processor's outlines rise
   pub own_rise : Rises 0 (2 ^ 32) (numbers_of own)
   own_rise = subst (Rises 0 (2 ^ 32)) numbers_are (rises T is p mine.segments mine.mine)
 
+  -- the gaps of the processors so far, with those before the numbers of this one's outlines, are those of one processor more
   pub own_gaps : (gaps : List Gap) → IsGaps (HasKey T) p gaps → IsGaps (HasKey T) (p + 1) (gaps ++ gaps_of p 0 (numbers_of own))
   own_gaps gaps so_far =
       subst (λ (ns : List ℕ). IsGaps (HasKey T) (p + 1) (gaps ++ gaps_of p 0 ns)) numbers_are
       (more_gaps T is p mine.segments mine.mine gaps so_far)
 
+  -- the first number that isn't next among those of the processor's outlines is its first missing one
   pub own_first : IsFirstMissing T p (reach_from 0 (numbers_of own))
   own_first = subst (λ (ns : List ℕ). IsFirstMissing T p (reach_from 0 ns)) numbers_are (first_is T is p mine.segments mine.mine)
 
@@ -169,6 +176,7 @@ module _ (T : Trace) (is : IsTrace T) (p : ℕ) (own : List Outline) (mine : Are
       let here = ((cut T is p mine.segments mine.mine s).0 h).0 in
       at_member Fits T.segments s is.fit ((mine.mine.members s).0 here).0)
 
+  -- the greatest last sequence of the outlines below the first missing number is what the processor is unbroken to
   pub own_unbroken : IsUnbrokenTo T p (greatest_from 0 (take (reach_from 0 (numbers_of own)) own))
   own_unbroken =
       let greatest = unbroken_to T is p mine.segments mine.mine (greatest_from 0 (map outline_of (take till mine.segments)))

@@ -59,6 +59,7 @@ first_least version low (x ∷ es) first fit at e h =
       | inr there ↦ (let up = above version x.sequence es fit.2 e there in omega (arith, up, same))
     ]
 
+-- the first event of a segment that fits has the least sequence
 pub least_sequence : (s : Content) (first : Event) → Fits s → slice_get s.events 0 ≡ Some first
     → IsLeastSequence s.events first.sequence
 least_sequence s first fit at = record {
@@ -70,10 +71,12 @@ least_sequence s first fit at = record {
 
 -- ---- going through the segments for another one
 
+-- all segments before the place that have the key, or an event of the sequence, are this one
 abbrev pub AreOneBefore : Shared → List Content → Content → ℕ → Type 0
 AreOneBefore shared segments one place =
     (k : ℕ) (s : Content) → k < place → slice_get segments k ≡ Some s → has_shared shared s ≡ true → s ≡ one
 
+-- where the segment at the place is this one, or hasn't the key or the sequence, all of one place more are this one
 pub one_more : (shared : Shared) (segments : List Content) (one here : Content) (place : ℕ) → slice_get segments place ≡ Some here
     → (has_shared shared here ≡ true → here ≡ one) → AreOneBefore shared segments one place
     → AreOneBefore shared segments one (place + 1)
@@ -84,11 +87,13 @@ one_more shared segments one here place at same before = λ k s below there has.
   | inr ne ↦ before k s (omega (arith, below, ne)) there has
 ]
 
+-- past the last place, all segments that have the key or the sequence are this one
 pub one_of_all : (shared : Shared) (segments : List Content) (one : Content) (place : ℕ) → length segments ≤ place
     → AreOneBefore shared segments one place → HaveOne shared segments one
 one_of_all shared segments one place long before = λ s h has.
     before h.0 s (let within = h.1 in omega (arith, long, within)) (member_at segments s h) has
 
+-- where all segments that have the key or the sequence are this one, they are one
 pub are_one : (shared : Shared) (segments : List Content) (one : Content) → HaveOne shared segments one → AreOne shared segments
 are_one shared segments one have = λ s t h k p q. have s h p ∙ sym (have t k q)
 
@@ -119,6 +124,7 @@ sequence_is sequence s has =
 
 -- ---- the pair of each fault
 
+-- the two segments found for a key with two contents break the rule, and where none are found the fault is of no two
 pub contents_pair : (segments : List Content) (processor number : ℕ) (found : Option (ℕ × ℕ)) → IsRefusal segments (TwoContents processor number)
     → MatchOption found (AreOne (Key processor number) segments) (λ pair. AreTwoAt segments (Key processor number) pair.0 pair.1)
     → MatchOption found (is_about_two (TwoContents processor number) ≡ false)
@@ -139,6 +145,7 @@ contents_pair segments processor number (Some pair) refusal two = record {
   );
 }
 
+-- the two segments found for a sequence that comes twice break the rule, and where none are found the fault is of no two
 pub sequence_pair : (segments : List Content) (sequence : ℕ) (found : Option (ℕ × ℕ)) → IsRefusal segments (SequenceTwice sequence)
     → MatchOption found (AreOne (Sequence sequence) segments) (λ pair. AreTwoAt segments (Sequence sequence) pair.0 pair.1)
     → MatchOption found (is_about_two (SequenceTwice sequence) ≡ false)
@@ -159,6 +166,7 @@ sequence_pair segments sequence (Some pair) refusal two = record {
   );
 }
 
+-- the two segments found for a key that falls break the rule, and where none are found the fault is of no two
 pub falling_pair : (segments : List Content) (processor number : ℕ) (found : Option (ℕ × ℕ)) → IsRefusal segments (Falling processor number)
     → MatchOption found (Falls segments (processor, number) → ⊥) (λ pair. BreakRuleAt segments (Falling processor number) pair.0 pair.1)
     → MatchOption found (is_about_two (Falling processor number) ≡ false)
@@ -169,6 +177,7 @@ falling_pair segments processor number (Some pair) refusal two = two
 -- ---- a segment that falls, and one of a lower number
 
 module _ (segments : List Content) (processor number : ℕ) where
+  -- a key that no segment has doesn't fall
   pub no_key : NonePasses (has_shared (Key processor number)) segments → Falls segments (processor, number) → ⊥
   no_key none falls = none falls.segment falls.has_segment (has_key processor number falls.segment falls.segment_key)
 
@@ -178,12 +187,14 @@ module _ (segments : List Content) (processor number : ℕ) where
       content falls.segment s falls.has_segment (at_place segments place s at)
       (falls.segment_key ∙ sym (key_is processor number s has))
 
+  -- a key whose segment has no events doesn't fall
   pub no_event : HaveOneContent segments → (place : ℕ) (s : Content) → slice_get segments place ≡ Some s
       → has_shared (Key processor number) s ≡ true → s.events ≡ [] → Falls segments (processor, number) → ⊥
   no_event content place s at has none falls =
       let is = segment_is content place s at has falls in
       Contains-nil falls.event (subst (λ (es : List Event). Contains es falls.event) (ap (λ (t : Content). t.events) is ∙ none) falls.has_event)
 
+  -- a key doesn't fall where no segment of a lower number reaches the least sequence of its segment
   pub no_lower : HaveOneContent segments → (place : ℕ) (s : Content) → slice_get segments place ≡ Some s
       → has_shared (Key processor number) s ≡ true → (floor : ℕ) → IsLeastSequence s.events floor
       → NonePasses (reaches processor number floor) segments → Falls segments (processor, number) → ⊥
@@ -203,6 +214,7 @@ module _ (segments : List Content) (processor number : ℕ) where
       let here : (falls.lower.processor == processor) ≡ true = eq-eqb falls.lower.processor processor p in
       none falls.lower falls.has_lower (both_true here (both_true (lt-ltb falls.lower.number number n) any))
 
+  -- a segment of a lower number that reaches the least sequence of the key's segment breaks the rule with it
   pub fall_found : (place : ℕ) (s : Content) → slice_get segments place ≡ Some s → has_shared (Key processor number) s ≡ true
       → (floor : ℕ) → IsLeastSequence s.events floor → (lower : ℕ) → PassesAt (reaches processor number floor) segments lower
       → BreakRuleAt segments (Falling processor number) place lower

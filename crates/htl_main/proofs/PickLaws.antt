@@ -1,4 +1,4 @@
--- What is asked about of one source more.
+-- What is asked about of one source more is picked, or its fault is reported.
 use Rattle.std.proofs.Common.{◌≡◌, ◌≢◌, ◌+◌, ℕ, Bool, false, List, [], ◌++◌, length, take, refl, sym, subst, Option, None, Some}
 use Rattle.std.proofs.Common.{IfErr, IfOk, IfSome, Result, Ok, Err}
 use Rattle.std.specs.Prelude.{slice_get}
@@ -44,6 +44,7 @@ Gathered old new bytes =
     (more : List Content) × (rest : List ℕ) × Splits bytes more rest × IsLeft more rest new.early_end
     × ((kind : Picks) (before : List Content) → gathers kind old before → gathers kind new.segments (before ++ more))
 
+-- what was gathered of a source, where its rest may be left, is picked of one source more
 pub accepted_more : (form : InputForm) (given : Option (List ℕ)) (old : Picks) (new : Bundle Picks)
     (result : Result (Accepted Picks) RunFault) → form.hex ≡ false → IfSome given (Gathered old new)
     → IfOk result (λ it. it.segments ≡ new.segments)
@@ -54,6 +55,7 @@ accepted_more form (Some bytes) old new (Ok it) is of kept end =
     rw kept (picks_more form old new.segments bytes of.1 of.0 it.is_cut is of.2 of.4 (end of.0 of.1 of.3))
 accepted_more form given old new (Err fault) is of kept end = tt
 
+-- what was gathered of a source, where its rest may not be left, is reported
 pub refused_more : (form : InputForm) (given left : Option (List ℕ)) (ended : Bool) (place : ℕ) (old : Picks) (new : Bundle Picks)
     (result : Result (Accepted Picks) RunFault) → form.hex ≡ false → IfSome given (Gathered old new)
     → ((segments : List Content) (rest : List ℕ) → IsLeft segments rest new.early_end
@@ -64,10 +66,12 @@ refused_more form None left ended place old new (Err fault) is of refused = tt
 refused_more form (Some bytes) left ended place old new (Err fault) is of refused =
     source_refused form bytes of.1 of.0 is of.2 left ended place fault (refused of.0 of.1 of.3)
 
+-- before the first input nothing was picked
 pub none_picked : (form : InputForm) (interest : Interest) (inputs : List (List ℕ)) (picks : Picks) → ArePicksOf interest picks []
     → ArePicksOfAll form interest (take 0 inputs) picks
 none_picked form interest inputs picks are = record { segments = []; decoded = refl; picks_of = are }
 
+-- what was picked of the inputs before a place, with that of the one there, is picked of one input more
 pub one_picked : (form : InputForm) (interest : Interest) (inputs : List (List ℕ)) (place : ℕ) (input : List ℕ) (old new : Picks)
     (is_cut : Bool) → slice_get inputs place ≡ Some input → ArePicksOfAll form interest (take place inputs) old
     → ArePicksMore form old new input is_cut → ArePicksOfAll form interest (take (place + 1) inputs) new

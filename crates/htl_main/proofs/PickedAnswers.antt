@@ -29,6 +29,7 @@ use Rattle.htl_main.specs.Subjects.{HasSubject, is_about, names_handle, names_ob
 
 -- ---- questions
 
+-- a question about a process or an object, other than a listing or a growth, is answered from parts
 pub of_parts : (question : Question) → is_some (interest_of question) ≡ true
     → ((process handle : ℕ) → question ≡ questions.Trace process handle → ⊥)
     → ((process points : ℕ) → question ≡ questions.Growth process points → ⊥) → IsOfParts question
@@ -47,6 +48,7 @@ of_parts questions.Summary some trace growth = absurd cc
 is_interest : (interest other : Interest) → Some other ≡ Some interest → other ≡ interest
 is_interest interest other is = cc is
 
+-- the answers about a process follow from the events that are wanted for it
 pub of_process : (p : ℕ) (interest : Interest) (es own : List Event) → Some (Process p) ≡ Some interest
     → IsPermutation (wanted interest es) own → ProcessNeedsItsOwn p es own
 of_process p interest es own is moved =
@@ -69,6 +71,7 @@ same_since_if_given p es own same None moment is = is
 same_since_if_given p es own same (Some since) None is = is
 same_since_if_given p es own same (Some since) (Some n) is = same_since p es own same since n is
 
+-- an answer over the wanted events is one over all events
 pub over_all : (question : Question) (interest : Interest) (es own : List Event) (answer : Answer)
     → interest_of question ≡ Some interest → IsPermutation (wanted interest es) own → IsAnswerOver own question answer
     → IsAnswerOver es question answer

@@ -1,4 +1,4 @@
--- Sources that are read one after another, and the one at which a run ends.
+-- Sources are read one after another to their ends, up to the one at which a run ends.
 use Rattle.std.proofs.Common.{◌≡◌, ◌<◌, ◌≤◌, ◌+◌, ℕ, Bool, false, List, length, map, All, refl, sym, ap, ◌∙◌, arith, inl, inr}
 use Rattle.std.proofs.Common.{Option, Some, Result, Ok, Err}
 use Rattle.std.specs.Prelude.{IfErr, option_map, slice_get}
@@ -17,9 +17,11 @@ use Rattle.htl_main.proofs.SourceLaws.{ended_next, endless_at, known_now, none_r
 use Rattle.htl_main.proofs.SourceLaws.{read_no_fault, slice_get-set_other, stopped_at, stopped_before, true_nowhere, true_of_all, true_of_new}
 use Rattle.htl_main.proofs.SourceLaws.{true_there}
 
+-- a run that ends well, with a value
 abbrev pub well : {S : Type 0} → S → Result S RunFault
 well value = Ok value
 
+-- a run that ends for a fault
 abbrev pub ill : {S : Type 0} → RunFault → Result S RunFault
 ill fault = Err fault
 

@@ -59,6 +59,7 @@ latest_sync = search (sendable, crosses, event_sync) depth 20
 folded_sync : IsSync (folded.the_row Heap.the_row ghosts)
 folded_sync = search (sendable, crosses, tree_sync, latest_sync) depth 20
 
+-- threads may share what an analyst keeps of a processor
 pub part_sync : IsSync (part.the_row Heap.the_row ghosts)
 part_sync = search (sendable, crosses, segment_sync, folded_sync) depth 20
 

@@ -1,4 +1,4 @@
--- Sources one after another: which of them has failed or ended, and what is reported of the one that was read last.
+-- Of sources that are read one after another, what is known and reported follows from those before and from the last one read.
 use Rattle.std.proofs.Common.{◌≡◌, ◌⊎◌, ◌<◌, ◌≤◌, ◌+◌, ℕ, zero, suc, Bool, true, false, List, [], ◌∷◌, length, map, All, refl, sym, ap, ◌∙◌}
 use Rattle.std.proofs.Common.{Option, Some, None, IfSome, arith, inl, inr}
 use Rattle.std.specs.Prelude.{slice_get, option_map}
@@ -17,6 +17,7 @@ use Rattle.htl_main.specs.declared.fault.RunFault.{RunFault}
 use Rattle.htl_reading.specs.Sources.{IsReadToFault}
 use Rattle.htl_reading.proofs.FaultLaws.{read_without_fault}
 
+-- setting one place of a list leaves each other as it is
 pub slice_get-set_other : {X : Type 0} (xs : List X) (i k : ℕ) (y : X) → (k ≡ i → ⊥) → slice_get (set xs i y) k ≡ slice_get xs k
 slice_get-set_other [] i k y other = refl
 slice_get-set_other (x ∷ xs) zero zero y other = absurd (other refl)
@@ -35,6 +36,7 @@ pub other_value : {X Y : Type 0} (f : X → Y) (xs : List X) (i k : ℕ) (y : X)
 other_value f xs i k y other =
     slice_get-map f (set xs i y) k ∙ ap (option_map f) (slice_get-set_other xs i k y other) ∙ sym (slice_get-map f xs k)
 
+-- a test that passes a new element is true at its place
 pub true_there : {X : Type 0} (f : X → Bool) (xs : List X) (i : ℕ) (y : X) → i < length xs → f y ≡ true → IsTrueAt (map f (set xs i y)) i
 true_there f xs i y within holds =
     slice_get-map f (set xs i y) i ∙ ap (option_map f) (slice_get-set_same xs i y within) ∙ ap Some holds
@@ -76,6 +78,7 @@ pub known_now : {X Y : Type 0} (f : X → Y) (first now : List X) (place : ℕ) 
     → slice_get now place ≡ slice_get first place → slice_get now place ≡ Some x → slice_get (map f first) place ≡ Some (f x)
 known_now f first now place x left here = slice_get-map f first place ∙ ap (option_map f) (sym left ∙ here)
 
+-- the known bytes of the source that is read next are those of its input
 pub knows_now : {X : Type 0} (f : X → Option (List ℕ)) (first now : List X) (inputs : List (List ℕ)) (place : ℕ) (x : X)
     → slice_get now place ≡ slice_get first place → slice_get now place ≡ Some x
     → map f first ≡ map (λ (y : List ℕ). Some y) inputs → Knows inputs place (f x)
@@ -202,6 +205,7 @@ read_no_fault f known now i x y within here one given left is new =
 
 -- ---- how often sources are read
 
+-- where no source was read, none was read too often
 pub none_read_within : (reads : List ℕ) → AreReadWithin reads reads
 none_read_within reads place old new is there = let same : old ≡ new = cc (is, there) in omega (arith, same)
 

@@ -1,4 +1,4 @@
--- The spans of the segments so far and of those of one input more.
+-- The spans of the segments so far, with that of one input more, tell of each segment which input it is of.
 use Rattle.std.proofs.Common.{◌≡◌, ◌⊎◌, ◌<◌, ◌≤◌, ◌+◌, ℕ, zero, suc, List, [], ◌∷◌, ◌++◌, All, false, length, Some, None, refl, arith, inl, inr}
 use Rattle.std.specs.Prelude.{Contains, nat_lt, slice_get}
 use Rattle.std.proofs.lemmas.Bool.{le-ltb, lt-ltb}
@@ -12,6 +12,7 @@ use Rattle.htl_main.specs.Inputs.{Decodes}
 use Rattle.htl_main.specs.Spans.{AreSpans, span_at}
 use Rattle.htl_main.specs.declared.decoded.InputSpan.{InputSpan}
 
+-- no spans tell of no segments
 pub no_spans : (form : InputForm) (inputs : List (List ℕ)) → AreSpans form inputs [] []
 no_spans form inputs = record { within = All-nil _; each = λ place s at. absurd cc }
 
@@ -40,6 +41,7 @@ reach_more (span ∷ spans) n m below within =
     All-cons (λ (p : InputSpan). p.end ≤ m) span spans (omega (arith, here, below))
     (reach_more spans n m below (All-tail (λ (p : InputSpan). p.end ≤ n) span spans within))
 
+-- the span of one input more, behind the others, tells of its segments
 pub spans_more : (form : InputForm) (inputs : List (List ℕ)) (segments more : List Content) (spans : List InputSpan) (span : InputSpan) (text : List ℕ)
     → slice_get inputs span.input ≡ Some text → Decodes form text more → span.end ≡ length (segments ++ more)
     → length (segments ++ more) ≡ length segments + length more

@@ -12,6 +12,7 @@ use Rattle.htl_segment.specs.Traces.{Trace, IsTrace, all_events}
 use Rattle.htl_case.proofs.Counted.{counted-append}
 use Rattle.htl_main.proofs.FewSegments.{few_events}
 
+-- the events of a trace up to a moment are fewer than 2 ^ 64
 pub few_counted : (T : Trace) (until : Option ℕ) → IsTrace T → length (counted_events until (all_events T.segments)) < 2 ^ 64
 few_counted T None trace = few_events T trace
 few_counted T (Some moment) trace =
@@ -42,6 +43,7 @@ any_in_lists : (p : Event → Bool) (lists : List (Vec Event Global))
 any_in_lists p [] = refl
 any_in_lists p (l ∷ lists) = rw (list_any-append p l.items (events_in lists), any_in_lists p lists) refl
 
+-- a test passes an event of some list exactly where it passes one of all events
 pub found_in_lists : (p : Event → Bool) (lists : List (Vec Event Global)) (events : List Event) (found : Bool)
     → found ≡ list_any (λ (l : Vec Event Global). list_any p l.items) lists → events_in lists ≡ events → found ≡ list_any p events
 found_in_lists p lists events found is same = is ∙ any_in_lists p lists ∙ ap (list_any p) same

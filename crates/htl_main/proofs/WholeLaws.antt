@@ -8,6 +8,7 @@ use Rattle.htl_command.specs.declared.question.Question.TheVariants as questions
 use Rattle.htl_main.specs.Answers.{IsAnswer, IsAnswerOver}
 use Rattle.htl_main.specs.Questions.{IsOfParts}
 
+-- an answer from parts over the case's events up to a moment is the answer over the case
 pub over_events : (T : Trace) (until : Option ℕ) (question : Question) (answer : Answer) → IsOfParts question
     → IsAnswerOver (counted_events until (all_events T.segments)) question answer → IsAnswer T until question answer
 over_events T until (questions.Outstanding process) answer of is = is

@@ -1,4 +1,4 @@
--- Digits and the number that they write, as they are read one after another; and texts that write none.
+-- Digits are read one after another as the number that they write, and some texts write none.
 use Rattle.std.proofs.Common.{◌≡◌, ◌≤◌, ◌<◌, ◌+◌, ◌*◌, ℕ, zero, suc, Bool, true, false, List}
 use Rattle.std.proofs.Common.{[], ◌∷◌, length, take, drop, get_or, refl, sym, ap, ◌∙◌, arith}
 use Rattle.std.proofs.Common.{◌++◌, take-append-drop, mul-le-mul, le_refl, le_trans}
@@ -19,6 +19,7 @@ all_tested : (radix : ℕ) (ds : List ℕ) → AllDigits radix ds → list_all (
 all_tested radix [] h = refl
 all_tested radix (c ∷ cs) h = rw (lt-ltb (digit_value c) radix h.0, all_tested radix cs h.1) refl
 
+-- digits that write a number within the bound are read as this number
 pub number_read : (radix most n : ℕ) (ds : List ℕ) → Writes radix n ds → n ≤ most → number_of radix most ds ≡ Some n
 unfolding number_of
 number_read radix most n ds w low =
@@ -86,6 +87,7 @@ pub all_digits_read : (radix most : ℕ) (text : List ℕ) (number : ℕ) → 0 
 all_digits_read radix most text number some all is low =
     sym (number_read radix most number text (record { numeral = (some, all); value = sym is }) low)
 
+-- an empty text writes no number
 pub no_digits : (radix most : ℕ) (text : List ℕ) → length text ≡ 0 → None ≡ number_of radix most text
 unfolding number_of
 no_digits radix most [] none = refl

@@ -16,6 +16,7 @@ module _ {S Host : Type 0} (answers : Answers S) (wanted : Bool) (before : S) (t
       → BeginsAndGets old new told audience after opening replies notes
   gets replies notes got = (got.0, rw is at got.1)
 
+  -- a dialogue that gets the notes after its beginning gets all its notes, with that of the beginning first
   pub converses_begun : (conversed : Conversed) → Converses answers wanted before text (Gets old new told host after) conversed
       → Converses answers wanted before text (BeginsAndGets old new told audience after opening) conversed
   converses_begun conversed all = record {
@@ -44,6 +45,7 @@ module _ {S Host : Type 0} (answers : Answers S) (wanted : Bool) (before : S) (t
   got_at state failed Questions later replies notes got = waited failed replies notes got
   got_at state failed NoMemory later replies notes got = waited failed replies notes got
 
+  -- a dialogue that stops with the notes after its beginning stops with all its notes, that of the beginning first
   pub stops_begun : (left : Option (List ℕ)) (failed : Bool) (fault : DialogueFault)
       → DialogueStops answers wanted before text left failed (Gets old new told host after) fault
       → DialogueStops answers wanted before text left failed (BeginsAndGets old new told audience after opening) fault

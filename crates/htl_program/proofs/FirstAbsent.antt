@@ -41,12 +41,14 @@ same (h ∷ hs) (a ∷ bs) (suc p) (suc q) [] here before there front = absurd (
 same (h ∷ hs) (a ∷ bs) (suc p) (suc q) (text ∷ texts) here before there front =
     ap suc (same hs bs p q texts here (λ k d lt. before (suc k) d (omega (arith, lt))) there (ap rest front))
 
+-- where no name is absent, none is the first that is
 pub none_absent : (holds : List (Option (List ℕ))) (absences : List Bool) (place : ℕ)
     → All (λ absent. absent ≡ false) absences → IsFirstAbsent holds absences place → ⊥
 none_absent holds absences place all a =
     true≢false (sym (get_or_from_slice_get absences place true true a.here)
     ∙ all place true (slice_get_within absences place true a.here))
 
+-- inputs whose bytes are known, and that could not be opened, could not be for want of memory alone
 pub only_memory : {A : Type 0} (of : List ℕ → Option (List ℕ)) (standard : Option (List ℕ)) (names : List (String A)) (texts : List (List ℕ))
     (absences : List Bool) (fault : RunFault) → of_inputs of standard names ≡ map (λ x. Some x) texts
     → IsUnopenedFor (of_each of names) absences fault → fault ≡ Memory
@@ -61,6 +63,7 @@ held_memory holds absences texts fault all (inl memory) = memory
 held_memory holds absences texts fault all (inr (place, is, first)) =
     absurd (known texts place (sym (ap (λ l. slice_get l place) all) ∙ first.here))
 
+-- a run over names of which one is absent ends for the first of these, or for want of memory
 pub first_or_memory : {S : Type 0} (ended : Result S RunFault) (holds : List (Option (List ℕ))) (absences : List Bool) (fault : RunFault) (place : ℕ)
     → ended ≡ Err fault → IsUnopenedFor holds absences fault → IsFirstAbsent holds absences place
     → (ended ≡ Err (Read place)) ⊎ (ended ≡ Err Memory)

@@ -20,6 +20,7 @@ use Rattle.htl_program.proofs.NamesRead.{AreOpenedBy, all_read, none_read}
 
 -- What holds of all that were taken holds of a list that these are.
 module _ (setting : Setting) (before : List Content) (texts : List (List ℕ)) (Keeps : List Content → Type 0) where
+  -- what was folded, of which something holds, is of one list of segments of which it holds
   pub took_all : (added : Added) → IsFolded setting before texts Keeps added
       → (taken : List Content) × Keeps taken × IsFolded setting before texts (λ all. all ≡ taken) added
   took_all added is = (
@@ -73,6 +74,7 @@ module _ (setting : Setting) (before : List Content) (texts : List (List ℕ)) (
     took_before faults.Memory known is = absurd (known refl)
     took_before faults.NoThread known is = took_part faults.NoThread is
 
+    -- what came of folding, where it goes on, is of one list of segments of which what is kept holds
     pub took : (ended : Result Added Refused) → GoesOn ended → IsFolding setting before texts lefts ends Keeps ended
         → (taken : List Content) × Keeps taken × IsFolding setting before texts lefts ends (λ all. all ≡ taken) ended
     took (Ok added) known is = took_all added is

@@ -24,6 +24,7 @@ pub record Holds (setting : Setting) (symbols : Option (List ℕ)) (kept : Kept)
   pub are : IfSome read (AreKept setting symbols kept)
 
 module _ (setting : Setting) (symbols : Option (List ℕ)) where
+  -- a text over what is kept is one over what was read
   pub holds_text : (kept : Kept) (read : Option Taken) (job : Job) (text : List ℕ) → Holds setting symbols kept read
       → HasTextIn kept job text → IsTextOver setting symbols read job text
   holds_text kept None job text holds has = tt
@@ -35,6 +36,7 @@ module _ (setting : Setting) (symbols : Option (List ℕ)) where
       let are : AreFolded folded.analyst taken × HasSymbols symbols folded.symbols = holds.are in
       λ T case. (folded.symbols, are.1, has taken T are.0 case)
 
+  -- whether what is kept has an event of the subject is what a run over what was read reports
   pub holds_subject : (kept : Kept) (read : Option Taken) (job : Job) (found : Bool) → Holds setting symbols kept read
       → HasSubjectIn kept job found → IsSubjectOver setting read job found
   holds_subject kept None job found holds has = tt
@@ -124,6 +126,7 @@ module _ {R : Type 0} (world : Known) (ways : Opened R) (setting : Setting) (sym
           (fine, now.0, refl, now.2),
         )
 
+  -- where files are read into what is kept, what is kept then is of what was read then
   pub reading_more : (before : Kept) (read : Option Taken) (after : Kept) (ended : Result Added Refused)
       → Holds setting symbols before read → ReadsFiles world ways setting before names after ended
       → (then : Option Taken) × Holds setting symbols after then × ReadsMore world ways setting read names then ended

@@ -36,15 +36,18 @@ use Rattle.htl_program.proofs.NamesRead.{AreOpenedBy, all_read, none_read}
 
 module _ (setting : Setting) (inputs : List (List ℕ)) (symbols : Option (List ℕ)) (T : Trace) (table : List Range)
     (loaded : AreLoadedOf inputs symbols setting None T table) where
+  -- what is told of what was loaded, its coverage and its cut inputs, is that of the inputs
   pub loaded_opens : (coverage : Coverage) (cut : Option CutInputs) → IsCoverage T coverage → AreCut setting.form.hex inputs cut
       → Opens setting.form inputs (record { coverage = coverage; cut = cut })
   loaded_opens coverage cut is are = record { coverage = (loaded.segments, loaded.decoded, (T, loaded.loaded.case, is)); cut = are }
 
+  -- a text over what was loaded is one of a run of its own
   pub loaded_text : (job : Job) (text : List ℕ) → IsText T table job text → IsRunsText setting symbols inputs job text
   loaded_text job text is =
       let own = own_run setting job in
       runs_text setting inputs symbols T table own (as_of inputs symbols setting own T table loaded) text (λ coded. absurd (cc coded)) is
 
+  -- whether what was loaded has an event of the subject is what a run of its own reports
   pub loaded_subject : (job : Job) (found : Bool) → HasSubject T job found → IsRunsSubject setting inputs job found
   loaded_subject job found is =
       let own = own_run setting job in
@@ -84,6 +87,7 @@ case_both segments more T after case then = record {
 -- Files were added to what was loaded of inputs, or were not.
 module _ {R : Type 0} (world : Known) (ways : Opened R) (setting : Setting) (symbols : Option (List ℕ)) (before after : Loaded)
     (names : List (List ℕ)) (inputs : List (List ℕ)) (old : AreLoadedOf inputs symbols setting None before.case before.symbols) where
+  -- what is loaded once files were added is loaded of the inputs and these files
   pub loaded_then : (texts : List (List ℕ)) (added : Added) → map world.holds names ≡ map (λ t. Some t) texts
       → AddsFiles world ways setting before names after (Ok added)
       → AreLoadedOf (inputs ++ texts) symbols setting None after.case after.symbols
@@ -104,6 +108,7 @@ module _ {R : Type 0} (world : Known) (ways : Opened R) (setting : Setting) (sym
       only_added (inl is) = is
       only_added (inr is) = absurd is
 
+  -- what came of adding files is an addition of their texts to the inputs, or memory ran out
   pub adds_to : (texts : List (List ℕ)) (ended : Result Added Refused) (adds : AddsFiles world ways setting before names after ended)
       → map world.holds names ≡ map (λ t. Some t) texts
       → AddsTo setting inputs texts (lefts (record ways { files = adds.sources })) (ends (record ways { files = adds.sources })) ended

@@ -1,4 +1,4 @@
--- How names are read: not at all where one could not be opened, and otherwise as any run reads its sources.
+-- Names aren't read at all where one could not be opened, and otherwise as any run reads its sources.
 use Rattle.std.proofs.Common.{◌≡◌, ◌∙◌, ℕ, Bool, List, [], ◌∷◌, ap, inl, inr, map, refl, sym}
 use Rattle.std.specs.Prelude.{Result, Ok, Err, String, Vec, string_bytes}
 use Rattle.std.proofs.lemmas.List.Elements.{All-nil}
@@ -26,6 +26,7 @@ by_bytes of [] = refl
 by_bytes of (name ∷ names) = ap (λ l. of (string_bytes name) ∷ l) (by_bytes of names)
 
 module _ {R S : Type 0} (world : Known) (ways : Opened R) (is_text : Bool) (names : List (List ℕ)) where
+  -- where a name could not be opened, no source was read
   pub none_read : (fault : RunFault) → IsUnopenedFor (map world.holds names) (map world.is_absent names) fault
       → ReadsNames {S = S} world is_text names (record ways { files = [] }) (Err fault)
   none_read fault unopened = record {
@@ -39,6 +40,7 @@ module _ {R S : Type 0} (world : Known) (ways : Opened R) (is_text : Bool) (name
       first place told (inl memory) = absurd (cc (memory, told))
       first place told (inr (at, is, unopened)) = rw (← same_place at place (sym is ∙ told)) unopened
 
+  -- where all names were opened, they were read as the sources of a run
   pub all_read : {A : Type 0} (sources : Vec R A) (now : List R) (result : Result S RunFault) → AreOpenedBy world ways names (Ok sources)
       → AreRead is_text ways.has_failed ways.has_ended ways.good_reads ways.remaining sources.items now result
       → ReadsNames world is_text names (record ways { files = now }) result

@@ -20,6 +20,7 @@ needs_none job quits is = absurd (cc is)
 needs_none job (reads files) is = absurd (cc is)
 needs_none job wrong is = absurd (cc is)
 
+-- what is heard of a line, where events are forgotten or not, is of this form
 pub of_form : (forgets : Bool) (of : Said) (bytes : List ℕ) → saying of ≡ saying_in forgets bytes → IsOfForm forgets of
 of_form forgets (said.Asks job) bytes is = λ forgotten. needs_none job (saying_of bytes) (rw forgotten at is)
 of_form forgets said.Nothing bytes is = tt

@@ -1,4 +1,4 @@
--- A fault is passed on, and inputs that were opened are all there.
+-- A fault is passed on as it is, and inputs that were opened are all there.
 use Rattle.std.proofs.Common.{◌≡◌, ◌∙◌, Bool, false, inl, inr, true, ℕ, ap, refl, sym}
 use Rattle.std.specs.Prelude.{Result, Ok, Err}
 use mathlib.Core.Bool.{true≢false}

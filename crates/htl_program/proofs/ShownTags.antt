@@ -4,6 +4,7 @@ use Rattle.std.proofs.Math.Utf8.{encode}
 use Rattle.std.proofs.lemmas.Str.{encode_ascii}
 use Rattle.htl_report.specs.Parts.{shown_byte, shown_tag}
 
+-- the four characters of a tag's shown bytes are the tag as it is shown
 pub four_shown : (tag : List ℕ) (a b c d : ℕ) → length tag ≡ 4
     → a ≡ shown_byte (get_or tag 0 0) → b ≡ shown_byte (get_or tag 1 0) → c ≡ shown_byte (get_or tag 2 0) → d ≡ shown_byte (get_or tag 3 0)
     → a < 128 → b < 128 → c < 128 → d < 128

@@ -5,6 +5,7 @@ use Rattle.htl_main.specs.Readings.{AreRead}
 use Rattle.htl_main.specs.declared.fault.RunFault.{RunFault}
 use Rattle.htl_program.proofs.PassedOn.{no_fault, same_fault}
 
+-- sources that a run read that ended well were read so whatever it answers
 pub as_answered : {R S T : Type 0} (is_text : Bool) (has_failed has_ended : R → Bool) (good_reads : R → ℕ)
     (remaining : R → Option (List ℕ)) (old new : List R) (done : S) (other : T)
     → AreRead is_text has_failed has_ended good_reads remaining old new (Ok done)
@@ -20,6 +21,7 @@ as_answered is_text has_failed has_ended good_reads remaining old new done other
   to_fault = read.to_fault;
 }
 
+-- sources that a run read that ended for a fault were read so whatever it would have answered
 pub as_refused : {R S T : Type 0} (is_text : Bool) (has_failed has_ended : R → Bool) (good_reads : R → ℕ)
     (remaining : R → Option (List ℕ)) (old new : List R) (fault : RunFault)
     → AreRead {S = S} is_text has_failed has_ended good_reads remaining old new (Err fault)

@@ -1,9 +1,10 @@
--- What a person is told of a run: that it begins, and that it has ended.
+-- A person is told of a run that it begins, and then that it has ended.
 use Rattle.std.proofs.Common.{◌≡◌, ◌++◌, ◌∷◌, [], List, append_assoc, refl}
 use Rattle.std.specs.Prelude.{Option, Some, None}
 use Rattle.htl_command.specs.declared.command.Command.{Command}
 use Rattle.htl_program.specs.Sayings.{Hears, HearsRun, Saying, begun, over}
 
+-- a person that is told of the beginning and then of the end was told of the run
 pub run_told : (old within new : Option (List Saying)) (command : Command) → Hears old within (begun command) → Hears within new over
     → HearsRun command old new
 run_told None within new command first last = tt

@@ -15,7 +15,6 @@ use Rattle.htl_command.specs.declared.question.InputForm.{InputForm}
 use Rattle.htl_device.specs.Devices.{AppendsPrefix}
 use Rattle.htl_dialogue.specs.Notes.{Note}
 use Rattle.htl_dialogue.specs.declared.dialogue.Conversed.{Conversed}
-use Rattle.htl_dialogue.specs.declared.dialogue.DialogueFault.{DialogueFault}
 use Rattle.htl_dialogue.specs.declared.dialogue.DialogueFault.TheVariants as dialogues
 use Rattle.htl_main.specs.Origins.{by_fault}
 use Rattle.htl_main.specs.declared.completed.Completed.{Completed}

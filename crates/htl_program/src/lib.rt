@@ -5,16 +5,17 @@
 //! memory, and that there is nothing for a name. The functions here are proved for every world.
 //!
 //! `program` does what the arguments of a command line ask for. Files, in reading order:
-//! `commands.rt`, `console.rt` (where the program writes and speaks), `output.rt` (where answers go),
-//! `person.rt` (who reads what is said beside the output), `saying.rt` (what is said of how a run
-//! ended), `speaker.rt` (who types the lines of a dialogue), `ending.rt` (the statuses), `world.rt`
-//! (what is opened), `inputs.rt` (what was opened), `opening.rt` (how inputs and the table are opened),
-//! `answering.rt` and `running.rt` (a question, from the names that it is asked of to its end),
-//! `converting.rt` (`dump` and `encode`), `conversing.rt`, `dialogue.rt` and `files.rt` (a dialogue:
-//! each line is answered as by a run over all that was read so far), `kept.rt` (what is kept of that:
-//! all segments, or what they come to), `ask_fault.rt` (why it ends before its lines do),
-//! `explained.rt` and `words.rt` (what a fault means), `named_part.rt` (the part of the inputs that it
-//! names), `subject.rt` (what a question is about).
+//! `commands.rt`, `printing.rt` (texts that need no input), `performing.rt` (runs of commands, and
+//! what a person hears of them), `console.rt` (where the program writes and speaks), `output.rt`
+//! (where answers go), `person.rt` (who reads what is said beside the output), `saying.rt` (what is
+//! said of how a run ended), `speaker.rt` (who types the lines of a dialogue), `ending.rt` (the
+//! statuses), `world.rt` (what is opened), `inputs.rt` (what was opened), `opening.rt` (how inputs
+//! and the table are opened), `answering.rt` and `running.rt` (a question, from the names that it is
+//! asked of to its end), `converting.rt` (`dump` and `encode`), `conversing.rt`, `dialogue.rt` and
+//! `files.rt` (a dialogue: each line is answered as by a run over all that was read so far),
+//! `kept.rt` (what is kept of that: all segments, or what they come to), `ask_fault.rt` (why it ends
+//! before its lines do), `explained.rt` and `words.rt` (what a fault means), `named_part.rt` (the
+//! part of the inputs that it names), `subject.rt` (what a question is about).
 #![tactic(auto)]
 
 mod answering;
@@ -32,7 +33,9 @@ mod kept;
 mod named_part;
 mod opening;
 mod output;
+mod performing;
 mod person;
+mod printing;
 mod running;
 mod saying;
 mod speaker;
@@ -42,7 +45,7 @@ mod world;
 
 pub use answering::answer;
 pub use ask_fault::AskFault;
-pub use commands::{program, refuse};
+pub use commands::program;
 pub use console::Console;
 pub use conversing::converse;
 pub use converting::{dump, encode};
@@ -50,6 +53,7 @@ pub use inputs::Inputs;
 pub use named_part::NamedPart;
 pub use output::Output;
 pub use person::Person;
+pub use printing::refuse;
 pub use speaker::Speaker;
 pub use subject::Subject;
 pub use words::{FREE_MEMORY, advice, form_wrong, wrong};

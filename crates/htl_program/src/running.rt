@@ -1,6 +1,6 @@
 //! The run of a question over opened inputs.
 
-ghost use Rattle.std.specs.Prelude.{◌≡◌, ◌≢◌, ℕ, All, IfNone, IfSome, List, Some, false};
+ghost use Rattle.std.specs.Prelude.{◌≡◌, ℕ, All, IfNone, IfSome, List, Some, false};
 ghost use Rattle.std.specs.Option.{option_copied};
 ghost use Rattle.htl_case.specs.declared.fault.CaseFault.{CaseFault};
 ghost use Rattle.htl_command.specs.declared.question.InputForm.{InputForm};

@@ -1,4 +1,4 @@
--- Bytes that are refused: what is reported of them, whichever follow, and how far a source is read.
+-- What is reported of bytes that are refused is so whichever bytes follow them, and a source is read no further than its fault.
 use Rattle.std.proofs.Common.{◌≡◌, ◌+◌, ◌<◌, ◌≤◌, ℕ, Bool, false, List, [], ◌∷◌, ◌++◌, length, All, refl, sym, ap, ◌∙◌, append_assoc}
 use Rattle.std.proofs.Common.{arith, inl, inr, subst, Option, Some, None, IfSome, append-nil}
 use Rattle.std.proofs.KnownBytes.{Consumes-trans}
@@ -23,6 +23,7 @@ use Rattle.htl_reading.specs.Sources.{IsReadToFault, IsReportedOfBundle}
 
 -- ---- bytes that were taken in
 
+-- bytes of segments with a rest behind them are split into these segments and the rest
 pub taken_splits : (segments : List Content) (rest : List ℕ) → All Fits segments → Splits (taken segments rest) segments rest
 taken_splits segments rest fits = record { parts = refl; fits = fits }
 
@@ -34,6 +35,7 @@ taken_next first mid last segments more rest new piece fits given read next =
     let both = splits_next (taken segments rest) piece rest new segments more (taken_splits segments rest fits) next in
     (both, subst (Consumes first last) (both.parts) (Consumes-trans first mid last (taken segments rest) piece given read))
 
+-- no bytes are the beginning of a segment
 pub begins_none : IsRest []
 begins_none = record { cut_off = inl (omega arith) }
 

@@ -1,4 +1,4 @@
--- What several workers take of the parts of some bytes: the segments of all bytes, in order.
+-- Several workers take the parts of some bytes, and what they took are the segments of all bytes, in order.
 use Rattle.std.proofs.Common.{◌≡◌, ◌+◌, ◌<◌, ◌≤◌, ℕ, List, [], ◌∷◌, ◌++◌, length, drop, take, refl, sym, ap, ◌∙◌, append_assoc, append-nil}
 use Rattle.std.proofs.Common.{All, arith, false, subst, Bool, Option, Some, None, IfSome, map, slice_index_or}
 use native.Mathlib.Numerals.{unary_clauses}
@@ -163,6 +163,7 @@ module _ {S K : Type 0} (gathers : S → K → List Content → Type 0) (start m
   known_skipped new (Some bytes) None at took = absurd at.read
   known_skipped new (Some bytes) (Some ys) at took = of_skipped at took.0 took.1
 
+  -- where a source skips the segments that were taken of it, they were taken up to the offset behind them
   pub taken_skipped : (new : K) {given left : Option (List ℕ)} → IsTakenTo gathers start mid given left [] offset 0 → Skipped new left
       → IsTakenTo gathers start new given (tail_of len left) [] (offset + len) 0
   taken_skipped new {given = given} {left = left} at took = record { known = known_skipped new given left at.known took }
@@ -184,6 +185,7 @@ module _ {S K : Type 0} (gathers : S → K → List Content → Type 0) (start m
         length-take-le len ys there.0,
       )) not_ended
 
+  -- where segments stand before an end that wasn't found, memory may be asked for to take them
   pub skipped_memory : {given left : Option (List ℕ)} (ended : Bool) → 0 < len → ended ≡ false
       → IsTakenTo gathers start mid given left [] offset 0 → AreThere len left → IfSome given (AsksMemory (tail_of len left) ended)
   skipped_memory {given = given} {left = left} ended some not_ended at there = known_memory given left ended some not_ended at.known there
@@ -197,6 +199,7 @@ module _ {S K : Type 0} (gathers : S → K → List Content → Type 0) (start m
       let next = skipped_all at.segments there.1 bytes ys len at.fits at.read there.0 there.2 in
       read_without_fault most (Some bytes) (Some (drop len ys)) (at.segments ++ there.1) [] next.0.fits begins_none next.1
 
+  -- where a source skips segments, it is read without a fault
   pub skipped_read : {given left : Option (List ℕ)} (most : ℕ) → IsTakenTo gathers start mid given left [] offset 0 → AreThere len left
       → IsReadToFault most given (tail_of len left)
   skipped_read {given = given} {left = left} most at there = known_read given left most at.known there

@@ -1,4 +1,4 @@
--- A source is read as a call says that ends with another value, or with the same fault; and how one is read that hasn't failed.
+-- How a source is read doesn't depend on the value that a call ends with, and so it is for one fault.
 use Rattle.std.proofs.Common.{◌≡◌, ◌≢◌, ◌≤◌, ◌+◌, ℕ, Bool, false, true, List, Option, Result, Ok, Err, ap, arith}
 use Rattle.std.specs.Prelude.{OnOk}
 use Rattle.htl_device.specs.declared.source.TheConstants.{MAX_READ_LEN}
@@ -17,6 +17,7 @@ same_fault {S} {T} fault other is = ap (ill {S = T}) (cc is)
 
 module _ {R S T : Type 0} (most : ℕ) (has_failed has_ended : R → Bool) (good_reads : R → ℕ) (remaining : R → Option (List ℕ))
     (given : Option (List ℕ)) (old new : R) where
+  -- a source that is read by a call that ends well is read so whatever value the call gives
   pub read_well : (value : S) (other : T) → IsSourceRead most has_failed has_ended good_reads remaining given old new (well value)
       → IsSourceRead most has_failed has_ended good_reads remaining given old new (well other)
   read_well value other is = record {
@@ -28,6 +29,7 @@ module _ {R S T : Type 0} (most : ℕ) (has_failed has_ended : R → Bool) (good
     to_fault = is.to_fault;
   }
 
+  -- a source that is read by a call that ends with a fault is read so by each that ends with this fault
   pub read_ill : (fault : SourceFault) → IsSourceRead most has_failed has_ended good_reads remaining given old new (ill {S = S} fault)
       → IsSourceRead most has_failed has_ended good_reads remaining given old new (ill {S = T} fault)
   read_ill fault is = record {

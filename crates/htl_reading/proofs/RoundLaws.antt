@@ -1,4 +1,4 @@
--- What a keeper takes of lists of segments, which several workers gathered.
+-- A keeper takes the segments of lists, which several workers gathered, one list after the other.
 use Rattle.std.proofs.Common.{◌≡◌, ℕ, List, [], ◌∷◌, ◌++◌, append-nil, refl}
 use Rattle.std.proofs.lemmas.List.Elements.{All-nil}
 use Rattle.htl_segment.specs.Content.{Content, Fits}
@@ -12,6 +12,7 @@ use Rattle.htl_reading.proofs.PartLaws.{took_last}
 abbrev pub lists_of : Segments → Segments → List Content → Type 0
 lists_of kind now segments = now.list.items ≡ segments
 
+-- where the keeper took the segments of some lists, and then those of one more, it took those of all in order
 pub took_list : {K : Type 0} (gathers : K → K → List Content → Type 0) (start mid new : K) (none : Segments) → none.list.items ≡ []
     → (before : List Segments) (last : Segments)
     → ((bytes : List ℕ) → TookInOrder lists_of none before bytes → TookAll gathers start mid bytes)

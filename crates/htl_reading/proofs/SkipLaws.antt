@@ -1,4 +1,4 @@
--- What a keeper took of a source that skips its front: all that stands there, or nothing.
+-- A keeper took all that stands at the front of a source which skips it, or nothing.
 use Rattle.std.proofs.Common.{◌≡◌, ◌+◌, ◌<◌, ◌≤◌, ◌^◌, ℕ, Bool, false, List, [], length, take, arith, Option, IfSome, Result, Ok, Err}
 use Rattle.std.specs.Prelude.{IfOk}
 use Rattle.std.proofs.lemmas.Option.{IfSome_then}
@@ -11,6 +11,7 @@ use Rattle.htl_reading.specs.Parts.{Skips, TookInOrder}
 use Rattle.htl_reading.proofs.PartLaws.{AreThere, order_splits, skipped_memory, skipped_read, taken_skipped}
 use Rattle.htl_reading.proofs.TakenLaws.{offset_memory, taken_still, taken_to_fault}
 
+-- the answer that a source skipped up to an offset
 abbrev pub skipped : {E : Type 0} → ℕ → Result ℕ E
 skipped end = Ok end
 
@@ -30,6 +31,7 @@ front_there gathers part keepers len left front =
 
 module _ {K R E : Type 0} (gathers : K → K → List Content → Type 0) (has_failed has_ended : R → Bool) (good_reads : R → ℕ)
     (remaining : R → Option (List ℕ)) (old : R) (before : K) (offset : ℕ) (few : offset ≤ 2 ^ 61) where
+  -- where nothing is skipped, the source and the keeper stay as they were
   pub none_skipped : has_failed old ≡ false → has_ended old ≡ false
       → Skips {E = E} gathers has_failed has_ended good_reads remaining old old before before offset (skipped offset)
   none_skipped fresh inside = record {
@@ -45,6 +47,7 @@ module _ {K R E : Type 0} (gathers : K → K → List Content → Type 0) (has_f
   module _ (new : R) (len : ℕ) (short : len ≤ 2 ^ 61) (fresh : has_failed new ≡ false) (inside : has_ended new ≡ false)
       (counts : good_reads new ≤ good_reads old) (bytes : remaining new ≡ tail_of len (remaining old)) (there : AreThere len (remaining old))
       (after : K) where
+    -- where the keeper took the segments of so many bytes, the source skips them
     pub front_skipped : (end : ℕ) → end ≡ offset + len → IfSome (remaining old) (λ bytes. (len ≤ length bytes) × TookAll gathers before after (take len bytes))
         → Skips {E = E} gathers has_failed has_ended good_reads remaining old new before after offset (skipped end)
     front_skipped end is took = rw is (record {
@@ -57,6 +60,7 @@ module _ {K R E : Type 0} (gathers : K → K → List Content → Type 0) (has_f
       to_fault = λ start given at. rw bytes (skipped_read gathers start before offset len MAX_READ_LEN at there);
     })
 
+    -- where memory for the segments was refused, the source skips them, and memory may be asked for there
     pub front_refused : (fault : E) → 0 < len
         → Skips {E = E} gathers has_failed has_ended good_reads remaining old new before after offset (refused fault)
     front_refused fault some = record {
@@ -114,11 +118,13 @@ module _ {K R E : Type 0} (gathers : K → K → List Content → Type 0) (has_f
     to_fault = λ start given at. second.to_fault start given (first.taken start given at);
   }
 
+  -- what was skipped and then skipped further on was skipped in one
   pub next_skipped : (new : R) (after : K) (end : ℕ)
       → Skips {E = E} gathers has_failed has_ended good_reads remaining mid new between after offset (skipped end)
       → Skips {E = E} gathers has_failed has_ended good_reads remaining old new before after 0 (skipped end)
   next_skipped new after end second = both_skipped new after (skipped end) second (omega arith, second.few.1)
 
+  -- what was skipped before memory was refused further on was refused as one
   pub next_refused : (new : R) (after : K) (fault : E)
       → Skips {E = E} gathers has_failed has_ended good_reads remaining mid new between after offset (refused fault)
       → Skips {E = E} gathers has_failed has_ended good_reads remaining old new before after 0 (refused fault)

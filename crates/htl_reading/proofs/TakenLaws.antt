@@ -1,4 +1,4 @@
--- What reads come to: the bytes held in a block, and the segments that keepers took.
+-- What reads come to are the bytes held in a block, and the segments that keepers took before them.
 use Rattle.std.proofs.Common.{◌≡◌, ◌+◌, ◌-◌, ◌<◌, ◌≤◌, ℕ, Bool, false, List, [], ◌∷◌, ◌++◌, length, drop, take, All, refl, sym, ap, ◌∙◌}
 use Rattle.std.proofs.Common.{append-nil, append_assoc, arith, inr, subst, Option, Some, None, IfSome, Result, Ok, Err, true}
 use Rattle.std.specs.Prelude.{is_err, OnErr}
@@ -262,30 +262,37 @@ module _ {S K : Type 0} {gathers : S → K → List Content → Type 0} {old new
   taken_more count len behind some off inside =
       record { known = IfSome_then given at.known (λ bytes is. of_more is count len behind some off inside) }
 
+  -- at the end of a source the keeper took its segments, and what is left behind them is told
   pub taken_to_end : (early_end : Option EarlyEnd) → IsAtEnd left
       → ((segments : List Content) → offset ≡ length (bundle segments) → IsRest rest → IsLeft segments rest early_end)
       → IfSome given (TookToEnd gathers old new early_end)
   taken_to_end early_end end is_left = IfSome_then given at.known (λ bytes is. of_to_end is early_end end is_left)
 
+  -- what is reported of the bytes held behind the segments that were taken is reported of the source
   pub taken_refused : {last : Option (List ℕ)} {held : List ℕ} {count : ℕ} (ended : Bool) (fault : SourceFault)
       → IsReadBehind left last rest held count → IsRefusedAt offset held fault
       → IfSome given (λ bytes. IsReportedOfBundle last ended bytes fault)
   taken_refused ended fault behind refused = IfSome_then given at.known (λ bytes is. of_refused is ended fault behind refused)
 
+  -- once some bytes were read and the end isn't found, refused memory may be reported
   pub taken_memory : (ended : Bool) → 0 < reads → ended ≡ false → IfSome given (λ bytes. IsReportedOfBundle left ended bytes NoMemory)
   taken_memory ended some not_ended = IfSome_then given at.known (λ bytes is. of_memory is ended some not_ended)
 
+  -- once some segments were taken and the end isn't found, memory may be asked for
   pub offset_memory : (ended : Bool) → 0 < offset → ended ≡ false → IfSome given (AsksMemory left ended)
   offset_memory ended some not_ended = IfSome_then given at.known (λ bytes is. of_offset_memory is ended some not_ended)
 
+  -- before a read that failed the keeper took the segments of what was read
   pub taken_before : IfSome given (λ bytes. TookBefore gathers old new left bytes Read)
   taken_before = IfSome_then given at.known (λ bytes is. of_before is)
 
+  -- before a fault of the bytes held the keeper took the segments before it
   pub taken_before_refused : {next : K} {last : Option (List ℕ)} {held : List ℕ} {count : ℕ} (fault : SourceFault)
       → IsReadBehind left last rest held count → IsKeptAt gathers new next offset held fault
       → IfSome given (λ bytes. TookBefore gathers old next last bytes fault)
   taken_before_refused fault behind kept = IfSome_then given at.known (λ bytes is. of_before_refused is fault behind kept)
 
+  -- where so many reads gave bytes, the source has as many bytes
   pub taken_many : (most : ℕ) → most ≤ reads → IfSome given (λ bytes. most ≤ length bytes)
   taken_many most many = IfSome_then given at.known (λ bytes is. of_many is most many)
 

@@ -10,23 +10,23 @@ use Rattle.htl_reading.specs.Keepers.{IsTakenOff}
 use Rattle.htl_reading.specs.declared.fault.SourceFault.{SourceFault}
 use Rattle.htl_reading.specs.declared.fault.SourceFault.TheVariants.{Segment, NoMemory}
 
--- of the bytes at an offset
+-- how a fault of the bytes at an offset is reported
 abbrev pub of_segment : ℕ → Fault → SourceFault
 of_segment offset faults.NoMemory = NoMemory
 of_segment offset fault = Segment offset fault
 
--- out of memory, whatever reports it
+-- it is out of memory
 abbrev pub IsNoMemory : SourceFault → Type 0
 IsNoMemory fault = fault ≡ NoMemory
 
 -- ---- a block
 
--- the bytes held, and how many fit behind them
+-- the bytes that are held, and how many more fit behind them
 pub record BlockState : Type 0 where
   pub held : List ℕ
   pub room : ℕ
 
--- a read put so many bytes behind those held, and where it put none the source has ended
+-- a read put `count` bytes behind those that were held; where that is 0, the source has ended
 pub record IsReadBehind (first last : Option (List ℕ)) (old new : List ℕ) (count : ℕ) : Type 0 where
   pub more : List ℕ
   pub read : Consumes first last more

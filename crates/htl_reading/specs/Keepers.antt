@@ -13,14 +13,14 @@ taken segments bytes = bundle segments ++ bytes
 abbrev pub TookAll : {S K : Type 0} → (S → K → List Content → Type 0) → K → K → List ℕ → Type 0
 TookAll gathers old new bytes = (segments : List Content) × Splits bytes segments [] × Took gathers old new segments
 
--- it took the segments that the first `len` bytes are, and the others begin no whole one
+-- it took the segments that the first `len` bytes are, and the other bytes begin no whole segment
 pub record IsTakenOff {S K : Type 0} (gathers : S → K → List Content → Type 0) (old new : K) (bytes : List ℕ) (len : ℕ) : Type 0 where
   pub segments : List Content
   pub splits : Splits bytes segments (drop len bytes)
   pub is_rest : IsRest (drop len bytes)
   pub took : Took gathers old new segments
 
--- it took the segments that a source of these bytes gave by some reads, up to an offset, and the bytes after them begin no whole one
+-- it took the segments that reads gave of a source of these bytes, up to an offset, and the bytes after them begin no whole segment
 pub record IsTakenOf {S K : Type 0} (gathers : S → K → List Content → Type 0) (old new : K) (bytes : List ℕ) (left : Option (List ℕ))
     (rest : List ℕ) (offset reads : ℕ) : Type 0 where
   pub segments : List Content

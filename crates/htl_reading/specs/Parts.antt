@@ -13,7 +13,7 @@ use Rattle.htl_reading.specs.declared.parts.SourcePart.{SourcePart}
 abbrev pub IsAnother : {K : Type 0} → (K → K → List Content → Type 0) → K → K → List Content → Type 0
 IsAnother {K} gathers keeper new segments = (kind : K) (before : List Content) → gathers kind keeper before → gathers kind new segments
 
--- Each keeper, of the kind of another one, took the segments of some of the bytes, one after the other.
+-- Keepers of this one's kind took the segments of the bytes: each of them those of a piece, one piece after the other.
 abbrev pub TookInOrder : {K : Type 0} → (K → K → List Content → Type 0) → K → List K → List ℕ → Type 0
 TookInOrder gathers keeper [] bytes = bytes ≡ []
 TookInOrder gathers keeper (new ∷ more) bytes =
@@ -30,7 +30,7 @@ pub record IsPartOf {K R : Type 0} (gathers : K → K → List Content → Type 
   pub bytes_are : take_remaining remaining part.bytes ≡ Some piece
   pub fresh : IsAnother gathers keeper part.keeper []
 
--- these are all bytes, one part after the other
+-- the parts have all of these bytes, one part after the other
 abbrev pub ArePartsOf : {K R : Type 0} → (K → K → List Content → Type 0) → (R → Option (List ℕ)) → K → List (SourcePart R K) → List ℕ
     → Type 0
 ArePartsOf gathers remaining keeper [] bytes = bytes ≡ []

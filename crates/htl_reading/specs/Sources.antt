@@ -35,13 +35,13 @@ IsReportedOfBundle left ended bytes (Segment offset fault) = BundleFault bytes o
 IsReportedOfBundle left ended bytes Read = ⊤
 IsReportedOfBundle left ended bytes NoMemory = AsksMemory left ended bytes
 
--- a failed read is reported only where one failed, or so many reads gave bytes
+-- a failed read is reported only where one failed, or where `most` reads gave bytes
 abbrev pub FailsOnly : {S : Type 0} → Bool → ℕ → Option (List ℕ) → ℕ → Result S SourceFault → Type 0
 FailsOnly failed reads known most result =
     result ≡ Err Read → (failed ≡ true) ⊎ ((most ≤ reads) × IfSome known (λ bytes. most ≤ length bytes))
 
--- What was read of a source: segments and the beginning of one more, and after these so many bytes at most. So it is read
--- no further once a fault was read.
+-- What was read of a source: segments and the beginning of one more, and then at most `most` bytes. So it is read no
+-- further once a fault was read.
 pub record IsReadToFault (most : ℕ) (given left : Option (List ℕ)) : Type 0 where
   pub before : List ℕ
   pub segments : List Content
@@ -52,8 +52,8 @@ pub record IsReadToFault (most : ℕ) (given left : Option (List ℕ)) : Type 0 
   pub few : length last ≤ most
   pub read : Consumes given left (before ++ last)
 
--- How a source of these bytes is read by a call that ends with this result, and in which at most so many reads give bytes. Which sources
--- have failed or ended, how many reads of each gave bytes, and which bytes each has left, is said by the functions.
+-- How a source of these bytes is read by a call that ends with this result, and in which at most `most` reads give bytes. The functions
+-- say which sources have failed or ended, how many reads of each gave bytes, and which bytes each has left.
 pub record IsSourceRead {R S : Type 0} (most : ℕ) (has_failed has_ended : R → Bool) (good_reads : R → ℕ) (remaining : R → Option (List ℕ))
     (given : Option (List ℕ)) (old new : R) (result : Result S SourceFault) : Type 0 where
   -- A call that ends well has found the end.

@@ -36,8 +36,8 @@ TookBefore gathers old new left bytes (Segment offset fault) = TookUpTo gathers 
 TookBefore gathers old new left bytes Read = TookRead gathers old new left bytes
 TookBefore gathers old new left bytes NoMemory = ⊤
 
--- How a keeper takes the segments of a source of these bytes, which is read by at most so many reads that give bytes: what it has after a
--- call that ends well, and after each fault; which fault is reported; and how the source is read.
+-- How a keeper takes the segments of a source of these bytes, of which at most `most` reads give bytes: what it has after a call that
+-- ends well, and after each fault; which fault is reported; and how the source is read.
 pub record TakesSource {S K R : Type 0} (most : ℕ) (gathers : S → K → List Content → Type 0) (has_failed has_ended : R → Bool)
     (good_reads : R → ℕ) (remaining : R → Option (List ℕ)) (given : Option (List ℕ)) (start after : K) (old new : R)
     (result : Result (Option EarlyEnd) SourceFault) : Type 0 where
@@ -54,7 +54,8 @@ pub record GathersSource {S K R : Type 0} (most : ℕ) (gathers : S → K → Li
   pub err : IfErr result (λ fault. IfSome given (λ bytes. IsReportedOfBundle (remaining new) (has_ended new) bytes fault))
   pub reading : IsSourceRead most has_failed has_ended good_reads remaining given old new result
 
--- What is done to a keeper between two reads leaves it what it took, unless memory is refused. It is given by what may come of a call.
+-- Between two reads something is done to a keeper. It then has taken what it had, unless memory is refused. What is done is given by
+-- what may come of a call.
 abbrev pub LeavesTaken : {S K T E : Type 0} → (S → K → List Content → Type 0) → (MutBor K → Result T E → MutBor K → Type 0) → Type 0
 LeavesTaken {K = K} {T = T} {E = E} gathers may_leave =
     (old : MutBor K) (result : Result T E) (new : MutBor K) → may_leave old result new → OnOk result (Took gathers old.now new.now [])

@@ -16,9 +16,10 @@ const MAX_SEARCH_LEN: u64 = 4_489_280;
 /// A search begins with this number of bytes, more than twice the length of most segments.
 const SHORT_SEARCH_LEN: u64 = 2_097_152;
 
-/// The offsets at which the workers' parts end, about equally far apart and by at most `most`
-/// bytes. The last may be the end of the source; at each other one a segment seems to begin. If
-/// none is found near an offset, there is one part fewer.
+/// The offsets at which the workers' parts end. They are sought at equal distances of at most `most`
+/// bytes, and each is the next offset at which a segment seems to begin, less than `MAX_SEARCH_LEN`
+/// bytes further on. The last may be the end of the source. Where no segment is found, there is one
+/// part fewer, and the one before goes on to the next offset.
 pub fn ends<R: Parted>(
     alloc: Global,
     workers: u32,

@@ -73,8 +73,10 @@ pub fn take_parts<T: Threads + Sync, R: Parted, K: JoiningKeeper + Drop + Send>(
     Ok(front.len)
 }
 
-/// Gathers the segments at the front of a source by several workers, each of which reads a part of at
-/// most `most` bytes. Spare keepers are used first, and then new ones of the keeper's kind.
+/// Gathers the segments at the front of a source by several workers, each of which reads a part. The
+/// ends of the parts are sought at distances of at most `most` bytes. A part may be longer, since it
+/// ends where a segment begins (see `ends`). Spare keepers are used first, and then new ones of the
+/// keeper's kind.
 ///
 /// It gives none if one worker has to read the source: if it has no parts or is short, or if a part
 /// can't be read, isn't whole segments, or finds no memory.

@@ -14,8 +14,8 @@ use std::alloc::Global;
 use std::mem;
 use std::thread::Threads;
 
-/// The greatest number of bytes that a worker reads in one round. In memory their events take about
-/// a third of that.
+/// About the number of bytes that a worker reads in one round: its part ends where a segment begins.
+/// In memory their events take about a third of that.
 const PART_LEN: u64 = 33_554_432;
 
 /// A keeper that also takes segments that others have read.

@@ -7,7 +7,7 @@ use Rattle.htl_symbols.specs.Ranges.{Range, resolved}
 abbrev pub line_feed : List ℕ
 line_feed = 10 ∷ []
 
--- nothing at a range's start, and the offset inside it
+-- the offset from the start of a range, which is left out at the start itself
 abbrev pub after_start : ℕ → List ℕ
 after_start offset = if offset == 0 then [] else codes "+0x" ++ hex offset
 

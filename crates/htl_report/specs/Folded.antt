@@ -6,7 +6,7 @@ use Rattle.htl_symbols.specs.Ranges.{Range, resolved}
 use Rattle.htl_report.specs.Addresses.{line_feed, named}
 use Rattle.htl_report.specs.Rows.{first_rows}
 
--- `;` parts frames and a line feed or carriage return ends a line, so within a name `:` and a space stand for them
+-- `;` separates frames, and a line feed or carriage return ends a line, so within a name `:` and a space stand for them
 abbrev pub folded_byte : ℕ → ℕ
 folded_byte b = if b == 59 then 58 else (if b == 10 || b == 13 then 32 else b)
 

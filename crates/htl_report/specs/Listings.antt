@@ -8,7 +8,7 @@ use Rattle.htl_numbers.specs.Written.{hex}
 use Rattle.htl_report.specs.Parts.{count_part, event_lines, process_part}
 use Rattle.htl_report.specs.Rows.{first_rows}
 
--- an event, its handle as it was written (`!htrace` prints opens, closes and bad references, and a listing has no other kind)
+-- an event, with its handle as it was written (`!htrace` prints opens, closes and bad references, and a listing has no other kind)
 abbrev pub listed_lines : List Range → Event → List ℕ
 listed_lines symbols e = event_lines symbols (word_of e.kind) e.handle e
 

@@ -6,7 +6,7 @@ use Rattle.htl_symbols.specs.Ranges.{Range}
 use Rattle.htl_report.specs.Parts.{event_lines, process_head}
 use Rattle.htl_report.specs.Rows.{first_rows}
 
--- an outstanding handle, by the base handle
+-- the open of an outstanding handle, with its base handle
 abbrev pub open_lines : List Range → Event → List ℕ
 open_lines symbols e = event_lines symbols (codes "OPEN") (base_of e.handle) e
 

@@ -7,11 +7,11 @@ use Rattle.htl_numbers.specs.Written.{hex, padded}
 use Rattle.htl_symbols.specs.Ranges.{Range}
 use Rattle.htl_report.specs.Addresses.{line_feed, stack_lines}
 
--- the start of the first line of an answer about a process, by its word
+-- the start of the first line of an answer about a process, with the question's word
 unfoldable pub process_part : List ℕ → ℕ → List ℕ
 process_part word process = word ++ (codes " process=" ++ decimal process)
 
--- the start of the first line of one about an object
+-- the start of the first line of an answer about an object
 unfoldable pub object_part : List ℕ → ℕ → List ℕ
 object_part word object = word ++ (codes " object=0x" ++ padded 16 object)
 
@@ -29,17 +29,17 @@ until_part (Some moment) = codes " until=" ++ decimal moment
 unfoldable pub count_part : Option ℕ → ℕ → List ℕ
 count_part until count = until_part until ++ (codes " count=" ++ (decimal count ++ line_feed))
 
--- the first line of an answer about a process, by its word
+-- the first line of an answer about a process, with the question's word
 abbrev pub process_head : List ℕ → ℕ → Option ℕ → Option ℕ → ℕ → List ℕ
 process_head word process since until count = process_part word process ++ (since_part since ++ count_part until count)
 
--- the line of an event, by this word and this handle
+-- the line of an event, with this word and this handle
 unfoldable pub event_line : List ℕ → ℕ → Event → List ℕ
 event_line word handle e =
     word ++ (codes " handle=0x" ++ (hex handle ++ (codes " seq=" ++ (decimal e.sequence
     ++ (codes " thread=" ++ (decimal e.thread ++ line_feed))))))
 
--- an event, by this word and this handle, and its stack
+-- an event, with this word and this handle, and its stack
 abbrev pub event_lines : List Range → List ℕ → ℕ → Event → List ℕ
 event_lines symbols word handle e = event_line word handle e ++ stack_lines symbols e.stack
 
@@ -51,6 +51,6 @@ counts c = codes "refs=" ++ (decimal c.plus ++ (codes " derefs=" ++ decimal c.mi
 abbrev pub shown_byte : ℕ → ℕ
 shown_byte b = if nat_le 0x20 b && nat_le b 0x7E then b else 46
 
--- a tag in display order
+-- a tag as it is shown
 abbrev pub shown_tag : List ℕ → List ℕ
 shown_tag tag = map shown_byte tag

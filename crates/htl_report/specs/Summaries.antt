@@ -1,4 +1,4 @@
--- The text of a summary, as bytes: what there is, which segments are missing, and what leaks.
+-- The text of a summary, as bytes: the totals, which segments are missing, and what leaks.
 use Rattle.std.specs.Prelude.{◌++◌, ℕ, List, Option, codes, flat_map, length}
 use Rattle.std.specs.Fmt.{decimal}
 use Rattle.htl_event.specs.declared.summary.ObjectRow.{ObjectRow}
@@ -10,13 +10,13 @@ use Rattle.htl_report.specs.Parts.{object_part, until_part}
 use Rattle.htl_report.specs.Rows.{first_rows}
 use Rattle.htl_report.specs.declared.summary.Totals.{Totals}
 
--- what there is
+-- the totals: how much was traced, and up to which moment nothing is missing
 unfoldable pub totals_part : Totals → List ℕ
 totals_part t =
     codes "summary processors=" ++ (decimal t.processors ++ (codes " segments=" ++ (decimal t.segments
     ++ (codes " events=" ++ (decimal t.events ++ (codes " complete_to=" ++ decimal t.complete_to))))))
 
--- how many lines of each kind follow; of objects those alone that have an unbalanced tag
+-- how many gaps, processes, objects, and objects with an unbalanced tag there are; of objects only these last have a line
 unfoldable pub lines_part : ℕ → ℕ → ℕ → ℕ → List ℕ
 lines_part gaps processes objects unbalanced =
     codes " gaps=" ++ (decimal gaps ++ (codes " processes=" ++ (decimal processes ++ (codes " objects=" ++ (decimal objects

@@ -6,7 +6,7 @@ use Rattle.htl_report.specs.Addresses.{line_feed}
 use Rattle.htl_report.specs.Parts.{count_part, counts, object_part, shown_tag}
 use Rattle.htl_report.specs.Rows.{first_rows}
 
--- by how much references are above dereferences, or the other way round
+-- by how many the references are more than the dereferences, or the other way round
 abbrev pub balance : Count → List ℕ
 balance c = if nat_lt c.minus c.plus then codes "over=" ++ decimal (c.plus - c.minus)
     else (if nat_lt c.plus c.minus then codes "under=" ++ decimal (c.minus - c.plus) else codes "balanced")

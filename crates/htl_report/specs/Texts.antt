@@ -1,5 +1,5 @@
--- The printed text of an answer, as bytes: a first line, and for each row a line and its stack's lines; of all rows, or of the
--- first so many. Where a moment up to which events count is given, the first line says it.
+-- The printed text of an answer, as bytes: a first line, and for each row a line and its stack's lines. If `top` is given, only the
+-- first `top` rows are printed. If a moment is given up to which events count, the first line says it.
 use Rattle.std.specs.Prelude.{ℕ, List, Option}
 use Rattle.htl_symbols.specs.Ranges.{Range}
 use Rattle.htl_report.specs.BadReferences.{bad_text}

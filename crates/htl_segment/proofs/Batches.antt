@@ -1,4 +1,4 @@
--- Events that pass through a batch.
+-- Events that pass through a batch come behind those before, in order, and those that aren't wanted are left out.
 use Rattle.std.proofs.Common.{◌≡◌, Bool, true, false, List, [], ◌∷◌, ◌++◌, map, sym, ap, ◌∙◌, append_assoc}
 use Rattle.std.specs.Prelude.{filter}
 use Rattle.htl_event.proofs.Members.{filter-pass, filter-skip}

@@ -1,4 +1,4 @@
--- Bytes split into segments in one way.
+-- Bytes are split into segments in one way, and where they aren't whole segments, one fault at one offset says so.
 use Rattle.std.proofs.Common.{◌≡◌, ℕ, zero, suc, ◌+◌, ◌-◌, ◌*◌, ◌<◌, ◌≤◌, Bool, true, false, cond, not, ◌||◌, eqb, nat_eq, nat_lt, nat_le}
 use Rattle.std.proofs.Common.{List, [], ◌∷◌, ◌++◌, length, All, drop, Option, Some, None, is_none, refl, sym, ap, ◌∙◌, append_assoc}
 use Rattle.std.proofs.Common.{arith, inl, inr, ◌⊎◌}
@@ -117,6 +117,7 @@ short_end b short =
     let t : nat_lt (length b) 32 ≡ true = lt-ltb _ _ short in
     first_fault-header b (cut_off b) (rw t refl)
 
+-- bytes of which more may make a segment have the fault of bytes that end too early
 pub first_fault-rest : (b : List ℕ) → IsRest b → first_fault b ≡ Some (cut_off b)
 first_fault-rest b rest =
     elim (cases_lt (length b) 32) [
@@ -146,6 +147,7 @@ long_no_memory b fault None long head is =
           (sym (first_fault-records b head whole) ∙ is)
     ]
 
+-- out of memory is never the first fault of bytes
 pub first_fault-no_memory : (b : List ℕ) (fault : Fault) → first_fault b ≡ Some fault → is_memory fault ≡ false
 first_fault-no_memory b fault is =
     elim (cases_lt (length b) 32) [
@@ -158,6 +160,7 @@ first_fault-no_memory b fault is =
 
 -- ---- splitting one segment after the other
 
+-- a segment at the front of the rest comes behind those that were split off, and what follows it is the new rest
 pub splits_one : (b : List ℕ) (old new : List Content) (rest : List ℕ) (n : ℕ) (s : Content) → SplitsMore b old new rest
     → BeginsWith rest n s → SplitsMore b old (new ++ s ∷ []) (drop n rest)
 splits_one b old new rest n s so_far front = record {
@@ -172,11 +175,13 @@ splits_one b old new rest n s so_far front = record {
   };
 }
 
+-- bytes with a fault that more bytes can't mend aren't empty
 pub some_left : (rest : List ℕ) (fault : Fault) → first_fault rest ≡ Some fault → is_early_end fault ≡ false → 0 < length rest
 some_left [] fault is late = absurd (let same = some_is faults.Short fault (sym (short_end [] (omega arith))
     ∙ is) in cc (ap is_early_end same ∙ late))
 some_left (x ∷ rest) fault is late = omega arith
 
+-- where the rest begins, whole segments end
 unfoldable pub boundary : (b : List ℕ) (old new : List Content) (rest : List ℕ) → SplitsMore b old new rest → IsBoundary b (length b - length rest)
 boundary b old new rest so_far = record {
   before = so_far.more;
@@ -226,6 +231,7 @@ refused b old new rest fault None so_far late first told = rw told (memory_at b 
 refused b old new rest fault (Some other) so_far late first told = late_fault_at b old new rest fault so_far late (first
     ∙ ap Some (sym told))
 
+-- whole segments end where splitting is refused
 pub refused_boundary : (b : List ℕ) (offset : ℕ) (fault : Fault) → IsRefused b offset fault → IsBoundary b offset
 refused_boundary b offset fault refused =
     elim refused [
@@ -233,6 +239,7 @@ refused_boundary b offset fault refused =
       | inr asked ↦ record { before = asked.1.before; rest = asked.1.rest; splits = asked.1.splits; offset_is = asked.1.offset_is }
     ]
 
+-- no boundary is beyond the end of the bytes
 pub boundary_inside : (b : List ℕ) (offset : ℕ) → IsBoundary b offset → offset ≤ length b
 boundary_inside b offset here = omega (arith, here.offset_is, ap length here.splits.parts, length-append (bundle here.before) here.rest)
 
@@ -247,6 +254,7 @@ refused_bundle b offset fault refused =
 
 -- ---- a whole bundle
 
+-- where a rest is left that more bytes may complete, the bundle's fault is that it ends too early, at the rest
 pub bundle_cut : (b : List ℕ) (ss : List Content) (rest : List ℕ) → Splits b ss rest → IsRest rest → 0 < length rest
     → BundleFault b (length b - length rest) (cut_off rest)
 bundle_cut b ss rest splits is_rest some = record {
@@ -343,6 +351,7 @@ split_one_way (s ∷ ss) (t ∷ ts) rest left f g fits fit is isn't same =
     let others = split_one_way ss ts rest left f g (All-tail Fits s ss fits) (All-tail Fits t ts fit) is isn't next in
     (ap (λ (x : Content). x ∷ ss) first.1 ∙ ap (λ (xs : List Content). t ∷ xs) others.0, others.1)
 
+-- two splits of the same bytes, each up to bytes with a fault, have the same segments and the same rest
 pub split_in_one_way : (b rest left : List ℕ) (ss ts : List Content) (f g : Fault) → Splits b ss rest → Splits b ts left
     → first_fault rest ≡ Some f → first_fault left ≡ Some g → (ss ≡ ts) × (rest ≡ left)
 split_in_one_way b rest left ss ts f g split other is isn't =

@@ -1,4 +1,4 @@
--- The addresses of a stack, eight bytes each.
+-- The addresses of a stack stand in bytes, eight each, and are read from there one by one.
 use Rattle.std.proofs.Common.{◌≡◌, ℕ, zero, suc, ◌+◌, ◌-◌, ◌*◌, ◌<◌, ◌≤◌, List, [], ◌∷◌, ◌++◌, take, drop, refl, sym, ap, ◌∙◌}
 use Rattle.std.proofs.Common.{append_assoc, arith}
 use Rattle.std.proofs.lemmas.List.{append-nil, drop-drop, drop-take}
@@ -33,6 +33,7 @@ numbers-part n size place bytes whole =
 
 -- ---- a loop that appends the numbers one after the other
 
+-- the numbers read so far with the next one, and the numbers behind it, are still all
 pub numbers-more : (front : List ℕ) (i n : ℕ) (bytes total : List ℕ) → i < n → front ++ numbers (8 * i) (n - i) bytes ≡ total
     → (front ++ number (8 * i) 8 bytes ∷ []) ++ numbers (8 * (i + 1)) (n - (i + 1)) bytes ≡ total
 unfolding numbers
@@ -43,6 +44,7 @@ numbers-more front i n bytes total lt so_far =
     rw left refl in
     rw (append_assoc, next) (sym one ∙ so_far)
 
+-- after the last number, the numbers read are all
 pub numbers-all : (front : List ℕ) (i n : ℕ) (bytes total : List ℕ) → n ≤ i → front ++ numbers (8 * i) (n - i) bytes ≡ total
     → front ≡ total
 unfolding numbers

@@ -1,4 +1,4 @@
--- The greatest sequence of events put together, and of segments one after the other.
+-- The greatest sequence of lists of events put together is the greatest of theirs, as segments come one after the other.
 use Rattle.std.proofs.Common.{◌≡◌, ℕ, ◌+◌, ◌<◌, ◌≤◌, max, List, [], ◌∷◌, ◌++◌, length, take, get_or, refl, sym, ap, ◌∙◌, subst}
 use Rattle.std.proofs.Common.{inl, inr, append-nil, arith}
 use Rattle.std.specs.Prelude.{Contains, ◌↔◌, ◌⊎◌}
@@ -25,9 +25,11 @@ greatest_joined xs ys new a b e x y =
             elim h [ inl l ↦ Contains-append_left xs ys e l | inr r ↦ Contains-append_right xs ys e r ],
       )
 
+-- the greatest sequence of no events is 0
 pub greatest_none : IsGreatestSequence (Contains []) 0
 greatest_none = record { bound = λ x h. absurd (Contains-nil x h); reached = inl refl }
 
+-- the events of the first segments and one more are those of the first, and then those of the one
 pub all_events-more : (ss : List Content) (i : ℕ) (s : Content) → i < length ss → s ≡ get_or ss i s
     → all_events (take (i + 1) ss) ≡ all_events (take i ss) ++ s.events
 all_events-more ss i s lt is =
@@ -36,12 +38,14 @@ all_events-more ss i s lt is =
     ∙ flat_map-append (λ (x : Content). x.events) (take i ss) (s ∷ [])
     ∙ ap (λ (es : List Event). all_events (take i ss) ++ es) (append-nil s.events)
 
+-- with one segment more, the greatest sequence is the greater of its own and that of the segments before
 pub greatest_of_more : (ss : List Content) (i : ℕ) (s : Content) (old here new : ℕ) → i < length ss → s ≡ get_or ss i s
     → new ≡ max here old → IsGreatestSequence (Contains s.events) here
     → IsGreatestSequence (Contains (all_events (take i ss))) old → IsGreatestSequence (Contains (all_events (take (i + 1) ss))) new
 greatest_of_more ss i s old here new lt is value one so_far =
     rw (all_events-more ss i s lt is) (greatest_joined (all_events (take i ss)) s.events new old here (omega arith) so_far one)
 
+-- after the last segment, the greatest sequence so far is that of all segments
 pub greatest_of_all : (ss : List Content) (i n : ℕ) → length ss ≤ i → IsGreatestSequence (Contains (all_events (take i ss))) n
     → IsGreatestSequence (Contains (all_events ss)) n
 greatest_of_all ss i n le so_far = subst (λ (xs : List Content). IsGreatestSequence (Contains (all_events xs)) n) (take_all i ss le) so_far

@@ -20,6 +20,7 @@ use Rattle.htl_segment.proofs.PassedTests.{passed}
 
 -- ---- versions and their numbers
 
+-- the number of a version is read as that version
 pub version_of-version_number : (v : Version) → version_of (version_number v) ≡ Some v
 version_of-version_number V1 = refl
 version_of-version_number V2 = refl
@@ -34,6 +35,7 @@ version_number≤2 : (v : Version) → version_number v ≤ 2
 version_number≤2 V1 = omega arith
 version_number≤2 V2 = omega arith
 
+-- no version lets a trace have more than 256 processors
 pub processors≤256 : (v : Version) → (limits_of v).processors ≤ 256
 processors≤256 V1 = omega arith
 processors≤256 V2 = omega arith
@@ -56,6 +58,7 @@ pub record Keeps (b : List ℕ) : Type 0 where
   pub count : number 24 4 b ≤ 4096
   pub len : (32 ≤ length_in b) × (length_in b ≤ (limits_of (version_in b)).len)
 
+-- bytes without a header's fault keep the rules of a header
 pub keeps_from_none : (b : List ℕ) → header_fault b ≡ None → Keeps b
 unfolding header_fault
 keeps_from_none b none =
@@ -113,6 +116,7 @@ pub record Holds (b : List ℕ) (s : Content) (size : ℕ) : Type 0 where
   pub count : number 24 4 b ≡ length s.events
   pub len : length_in b ≡ 32 + size
 
+-- bytes that hold the header of a segment are this header's bytes, and then what follows
 pub header_from_holds : (b : List ℕ) (s : Content) (size : ℕ) → IsBytes b → Holds b s size → b ≡ header_bytes s size ++ drop 32 b
 unfolding header_bytes
 header_from_holds b s size small h =
@@ -135,6 +139,7 @@ header_from_holds b s size small h =
     let all = s0 ∙ ap (λ (r : List ℕ). codes "HLS1" ++ r) s4 in
     simp append_assoc all
 
+-- a header has 32 bytes
 pub length-header_bytes : (s : Content) (size : ℕ) → length (header_bytes s size) ≡ 32
 unfolding header_bytes
 length-header_bytes s size = simp (length-append, length-bytes_of) refl
@@ -148,6 +153,7 @@ pub record HeaderFits (s : Content) (size : ℕ) : Type 0 where
   pub count : length s.events ≤ 4096
   pub len : 32 + size ≤ (limits_of s.version).len
 
+-- the bytes of a header, with anything behind them, hold this header
 pub holds : (s : Content) (size : ℕ) (rest : List ℕ) → HeaderFits s size → Holds (header_bytes s size ++ rest) s size
 unfolding header_bytes
 holds s size rest fits =
@@ -184,11 +190,13 @@ holds s size rest fits =
 
 -- ---- both together
 
+-- the version in bytes that hold the header of a segment is the segment's
 pub version_in-holds : (b : List ℕ) (s : Content) (size : ℕ) → Holds b s size → version_in b ≡ s.version
 version_in-holds b s size h =
     ap (λ (n : ℕ). unwrap_or (version_of n) V1) h.version
     ∙ ap (λ (o : Option Version). unwrap_or o V1) (version_of-version_number s.version)
 
+-- bytes that hold a header whose numbers fit have no header's fault
 pub none_from_holds : (b : List ℕ) (s : Content) (size : ℕ) → Holds b s size → HeaderFits s size → header_fault b ≡ None
 none_from_holds b s size h fits =
     let version = version_in-holds b s size h in
@@ -205,5 +213,6 @@ none_from_holds b s size h fits =
       len = (omega (arith, h.len), rw (version, h.len) fits.len);
     })
 
+-- bytes that keep the rules of a header have the number of their version
 pub version_from_keeps : (b : List ℕ) → Keeps b → number 4 2 b ≡ version_number (version_in b)
 version_from_keeps b k = sym (version_number-version_of (number 4 2 b) k.version)

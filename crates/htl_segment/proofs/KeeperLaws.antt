@@ -1,4 +1,4 @@
--- What a keeper took up to an offset: behind other segments, and where more bytes follow.
+-- What a keeper took up to an offset is the same behind other segments, and where more bytes follow.
 use Rattle.std.proofs.Common.{ℕ, ◌+◌, ◌-◌, List, [], ◌++◌, length, All, sym, append_assoc, append-nil}
 use Rattle.htl_segment.specs.Content.{Content, Fits}
 use Rattle.htl_segment.specs.Bundles.{bundle, Splits}

@@ -1,4 +1,4 @@
--- What more bytes don't change.
+-- More bytes behind a number, a header or a whole segment don't change what is read there.
 use Rattle.std.proofs.Common.{◌≡◌, ℕ, ◌+◌, ◌-◌, ◌≤◌, false, nat_lt, List, ◌++◌, length, take, drop, refl, sym, ap, ◌∙◌, arith}
 use Rattle.std.proofs.lemmas.Bool.{le-ltb}
 use Rattle.std.proofs.lemmas.List.{length-append, length-drop, take_at, take-append-le, drop-append-le}

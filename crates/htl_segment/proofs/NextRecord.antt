@@ -1,4 +1,4 @@
--- Reading records one after the other.
+-- Of records that are read one after the other, the first gives the first event, and the others follow.
 use Rattle.std.proofs.Common.{◌≡◌, ◌≢◌, ℕ, zero, suc, ◌-◌, List, [], ◌∷◌, refl, arith}
 use Rattle.htl_segment.specs.Reading.{event_in, after_record, events_in}
 

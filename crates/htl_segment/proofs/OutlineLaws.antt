@@ -9,6 +9,7 @@ use Rattle.htl_segment.specs.declared.version.Version.{Version}
 use Rattle.htl_segment.specs.Content.{Content, EventsFit, Fits}
 use Rattle.htl_segment.specs.Outlines.{last_sequence}
 
+-- the sequence of the event at the last place is the last sequence
 pub last_at : (n : ℕ) (es : List Event) (k : ℕ) (e : Event) → k + 1 ≡ length es → slice_get es k ≡ Some e
     → last_sequence n es ≡ e.sequence
 last_at n [] k e len at = absurd (omega (arith, len))
@@ -36,6 +37,7 @@ last_reached low e [] = (e, Contains-here e [], refl)
 last_reached low e (y ∷ es) =
     let rest = last_reached e.sequence y es in (rest.0, Contains-there e (y ∷ es) rest.0 rest.1, rest.2)
 
+-- the last sequence of a segment that fits is the greatest of its events
 pub last_is_greatest : (s : Content) → Fits s → IsGreatestSequence (Contains s.events) (last_sequence 0 s.events)
 last_is_greatest s fit = go s.events fit.events where
   go : (es : List Event) → EventsFit s.version 0 es → IsGreatestSequence (Contains es) (last_sequence 0 es)

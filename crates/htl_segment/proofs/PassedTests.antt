@@ -1,4 +1,4 @@
--- What a test that passed or failed says.
+-- A test that passed tells that no fault was found, and one that failed which fault was.
 use Rattle.std.proofs.Common.{◌≡◌, Bool, true, false, cond, Option, Some, None, refl}
 use Rattle.htl_segment.specs.declared.fault.Fault.{Fault}
 use Rattle.htl_segment.specs.Faults.{or_else}
@@ -22,5 +22,6 @@ both_passed (Some fault) next e = absurd cc
 abbrev some : {A : Type 0} → A → Option A
 some x = Some x
 
+-- two values that are equal once wrapped in `Some` are equal
 pub some_is : {A : Type 0} (x y : A) → some x ≡ some y → x ≡ y
 some_is x y e = cc

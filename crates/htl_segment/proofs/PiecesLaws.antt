@@ -1,4 +1,4 @@
--- Bundles put together from their parts.
+-- Bundles put together from pieces are split as the pieces are, and a refusal of a piece tells of all bytes.
 use Rattle.std.proofs.Common.{◌≡◌, ℕ, ◌+◌, ◌-◌, ◌<◌, ◌≤◌, Bool, true, false, List, [], ◌∷◌, ◌++◌, length, get_or, take, drop, Option}
 use Rattle.std.proofs.Common.{Some, None, Result, Ok, Err, cond, eqb, Bor, refl, sym, ap, ◌∙◌, append_assoc, arith, inl, inr, ◌⊎◌}
 use Rattle.std.specs.Prelude.{MatchOption}
@@ -21,9 +21,11 @@ use Rattle.htl_segment.proofs.SegmentLaws.{segment_again, begins}
 use Rattle.htl_segment.proofs.MoreBytes.{number-append, header_fault-append, first_fault-append}
 use Rattle.htl_segment.proofs.BundleLaws.{early_end, refused_boundary, late_stays, no_fault_stays, whole_fault, first_fault-rest}
 
+-- the bytes of two lists of segments, one after the other, are those of both lists
 pub bundle-append : (ss ts : List Content) → bundle (ss ++ ts) ≡ bundle ss ++ bundle ts
 bundle-append ss ts = flat_map-append encoding ss ts
 
+-- where bytes are whole segments, the segments of bytes behind them come behind these segments
 pub splits_after : (a b rest : List ℕ) (ss ts : List Content) → Splits a ss [] → Splits b ts rest → Splits (a ++ b) (ss ++ ts) rest
 splits_after a b rest ss ts first second =
     let whole : a ≡ bundle ss = first.parts ∙ append-nil (bundle ss) in
@@ -50,6 +52,7 @@ offset_after a b rest ss ts offset first second is =
       is,
     )
 
+-- a boundary of bytes that stand behind whole segments is one of all bytes, that much further on
 unfoldable pub boundary_after : (a b : List ℕ) (ss : List Content) (offset : ℕ) → Splits a ss [] → IsBoundary b offset
     → IsBoundary (a ++ b) (length a + offset)
 boundary_after a b ss offset first here = record {
@@ -90,6 +93,7 @@ rest_after a b ss offset first at = record {
   is_rest = at.is_rest;
 }
 
+-- a refusal of bytes that stand behind whole segments is one of all bytes, that much further on
 pub refused_after : (a b : List ℕ) (ss : List Content) (offset : ℕ) (fault : Fault) → Splits a ss [] → IsRefused b offset fault
     → IsRefused (a ++ b) (length a + offset) fault
 refused_after a b ss offset fault first refused =
@@ -106,6 +110,7 @@ piece_refused_after a b ss offset fault first refused =
       | inr asked ↦ inr (asked.0, rest_after a b ss offset first asked.1)
     ]
 
+-- whole segments end where a piece is refused
 pub piece_boundary : (b : List ℕ) (offset : ℕ) (fault : Fault) → IsPieceRefused b offset fault → IsBoundary b offset
 piece_boundary b offset fault refused =
     elim refused [
@@ -121,10 +126,12 @@ encodes_itself s fits = record {
   fits = All-cons Fits s [] fits (All-nil Fits);
 }
 
+-- where bytes are split into segments behind a first one, the first's encoding with these bytes is split into all of them
 pub taken_after : (s : Content) (b rest : List ℕ) (new : List Content) → Fits s → SplitsMore b (s ∷ []) new rest
     → Splits (encoding s ++ b) new rest
 taken_after s b rest new fits split = splits_more (encoding s) b rest (s ∷ []) new (encodes_itself s fits) split
 
+-- a refusal of bytes that stand behind a segment's encoding is one of both together, that much further on
 pub refused_behind : (s : Content) (b : List ℕ) (offset : ℕ) (fault : Fault) → Fits s → IsPieceRefused b offset fault
     → IsPieceRefused (encoding s ++ b) (length (encoding s) + offset) fault
 refused_behind s b offset fault fits refused = piece_refused_after (encoding s) b (s ∷ []) offset fault (encodes_itself s fits) refused
@@ -144,6 +151,7 @@ first_refused b none =
       },
     ))
 
+-- bytes that begin with a segment's encoding may be refused at their front, for want of memory
 pub encoded_refused : (s : Content) (b : List ℕ) → Fits s → IsPieceRefused (encoding s ++ b) 0 faults.NoMemory
 encoded_refused s b fits = first_refused (encoding s ++ b) (segment_again s b fits).no_fault
 
@@ -173,11 +181,13 @@ whole_refused w left fault (Some other) long none len is told =
     late_refused (w ++ left) fault (omega (arith, length-append w left)) (first_fault-append w left long (omega arith)
     ∙ same) (whole_fault w fault long none (omega arith) same)
 
+-- bytes that state their own length, and begin with a segment, are its encoding
 pub whole_encoded : (w : List ℕ) (n : ℕ) (s : Content) → length_in w ≡ length w → BeginsWith w n s → w ≡ encoding s
 whole_encoded w n s len front =
     let again = begins w n s front in
     sym (take_all n w (omega (arith, again.len, len, ap length front.encodes.bytes, length-take n w, front.inside))) ∙ front.encodes.bytes
 
+-- a header and the bytes after it that begin with a segment are its encoding, and then what follows the segment
 pub parts_encoded : (head left : List ℕ) (n : ℕ) (s : Content) → length head ≡ 32 → 32 ≤ n → BeginsWith (head ++ left) n s
     → head ++ left ≡ encoding s ++ drop (n - 32) left
 parts_encoded head left n s len long front =
@@ -189,14 +199,17 @@ parts_encoded head left n s len long front =
 
 -- ---- bytes put after others
 
+-- bytes extend themselves
 pub extends_nothing : (b : List ℕ) → Extends b b
 extends_nothing b = record { more = []; is = sym (append-nil b) }
 
+-- bytes extend those that they equal
 pub extends_same : (old new : List ℕ) → new ≡ old → Extends old new
 extends_same old new same = record { more = []; is = same ∙ sym (append-nil old) }
 
 -- ---- parts of a header and what follows it
 
+-- a header made of a rest and a piece's first bytes, with the piece's other bytes, is the rest with the piece
 pub parts_joined : (rest piece taken left head : List ℕ) → head ≡ rest ++ taken → piece ≡ taken ++ left → head ++ left ≡ rest ++ piece
 parts_joined rest piece taken left head first second = rw (first, second) (append_assoc rest taken left)
 
@@ -209,6 +222,7 @@ cut_is_rest old more long none fewer =
     let same : length_in (old ++ more) ≡ length_in old = number-append 28 4 old more (omega arith) in
     record { cut_off = inr (header_fault-append old more long ∙ none, omega (arith, same, length-append old more)) }
 
+-- a vector with room for what a header states still has it when more bytes follow the header
 pub cut_has_room : (old more : List ℕ) (c : ℕ) → 32 ≤ length old → 32 ≤ length_in old → length_in old ≤ c → HasRoom (old ++ more) c
 cut_has_room old more c long low room =
     let same : length_in (old ++ more) ≡ length_in old = number-append 28 4 old more (omega arith) in
@@ -259,11 +273,13 @@ front_split a rest ss split = record { parts = sym (append-nil (bundle ss)); fit
 pub regroup : (a rest piece : List ℕ) (ss : List Content) → Splits a ss rest → a ++ piece ≡ bundle ss ++ (rest ++ piece)
 regroup a rest piece ss split = ap (λ (x : List ℕ). x ++ piece) split.parts ∙ append_assoc (bundle ss) rest piece
 
+-- the segments of a rest with the next piece come behind those that were split off before it
 pub splits_next : (a piece rest new : List ℕ) (ss ts : List Content) → Splits a ss rest → Splits (rest ++ piece) ts new
     → Splits (a ++ piece) (ss ++ ts) new
 splits_next a piece rest new ss ts split next =
     rw (regroup a rest piece ss split) (splits_after (bundle ss) (rest ++ piece) new ss ts (front_split a rest ss split) next)
 
+-- a bundle's fault that more bytes can't mend stays when more bytes follow
 pub fault_more : (b more : List ℕ) (offset : ℕ) (fault : Fault) → is_early_end fault ≡ false → BundleFault b offset fault
     → BundleFault (b ++ more) offset fault
 fault_more b more offset fault late found = record {
@@ -278,6 +294,7 @@ fault_more b more offset fault late found = record {
   fault_is = late_stays found.rest more fault late found.fault_is;
 }
 
+-- a segment that begins at an offset still begins there when more bytes follow
 pub segment_more : (b more : List ℕ) (offset : ℕ) → SegmentAt b offset → SegmentAt (b ++ more) offset
 segment_more b more offset at = record {
   before = at.before;
@@ -316,6 +333,7 @@ pub record Brought (a more : List ℕ) (offset : ℕ) (fault : Fault) : Type 0 w
   pub boundary : IsBoundary (a ++ more) offset
   pub cause : BundleFault (a ++ more) offset fault ⊎ ((fault ≡ faults.NoMemory) × (SegmentAt a offset ⊎ RestAt a offset))
 
+-- a boundary stays one when more bytes follow
 unfoldable pub boundary_more : (a more : List ℕ) (offset : ℕ) → IsBoundary a offset → IsBoundary (a ++ more) offset
 boundary_more a more offset here = record {
   before = here.before;
@@ -324,6 +342,7 @@ boundary_more a more offset here = record {
   offset_is = here.offset_is;
 }
 
+-- the refusal of a piece tells where all bytes have their first fault, or where memory was refused in those fed
 pub brought : (s : SplitterState) (a piece more : List ℕ) (ss : List Content) (refusal : ℕ × Fault) → Splits a ss s.rest
     → s.fed ≡ length a → RefusesPiece s piece refusal
     → Brought (a ++ piece) more refusal.0 refusal.1
@@ -358,9 +377,11 @@ list_refused s a piece more rest ss (t ∷ ts) split fed taken some =
       faults.NoMemory,
     ) split fed (record { inside = 0; offset_is = omega arith; refused = first_refused (s.rest ++ piece) none })
 
+-- what an index beyond all pieces would give
 abbrev pub no_piece : Bor (List ℕ)
 no_piece = record { ref_ptr = (0, 0); now = [] }
 
+-- the bytes of the first pieces and one more are those of the first, and then the piece
 pub joined-more : (pieces : List (Bor (List ℕ))) (i : ℕ) → i < length pieces
     → joined (take (i + 1) pieces) ≡ joined (take i pieces) ++ (get_or pieces i no_piece).now
 joined-more pieces i lt =
@@ -386,6 +407,7 @@ told_of_pieces pieces i offset fault lt found =
       | inr asked ↦ inr (asked.0, record { taken = i + 1; asked = rw (joined-more pieces i lt) (asked.1) })
     ]
 
+-- whole segments end where a bundle has its fault
 pub fault_boundary : (b : List ℕ) (offset : ℕ) (fault : Fault) → BundleFault b offset fault → IsBoundary b offset
 fault_boundary b offset fault found =
     record { before = found.before; rest = found.rest; splits = found.splits; offset_is = found.offset_is }

@@ -1,4 +1,4 @@
--- Testing records one after the other, as a loop does.
+-- The first fault of records is found by testing them one after the other, as a loop does.
 use Rattle.std.proofs.Common.{◌≡◌, ℕ, suc, ◌-◌, ◌+◌, ◌≤◌, ◌<◌, List, length, Bool, Option, Some, None, cond, eqb, refl, sym, ◌∙◌, arith}
 use Rattle.htl_segment.specs.declared.version.Version.{Version}
 use Rattle.htl_segment.specs.declared.fault.Fault.{Fault}
@@ -17,6 +17,7 @@ goes_on v count i last b total lt none so_far =
     rw (left, none) refl in
     sym one ∙ so_far
 
+-- where the next record has a fault, and none was found before, it is the first fault of all records
 pub stops : (v : Version) (count i last : ℕ) (b : List ℕ) (total : Option Fault) (fault : Fault) → i < count
     → record_fault v i last b ≡ Some fault
     → records_fault v (count - i) i last b ≡ total → total ≡ Some fault

@@ -57,6 +57,7 @@ kinds≤7 : (v : Version) → (limits_of v).kinds ≤ 7
 kinds≤7 V1 = omega arith
 kinds≤7 V2 = omega arith
 
+-- no version lets a stack have more than 64 frames
 pub frames≤64 : (v : Version) → (limits_of v).frames ≤ 64
 frames≤64 V1 = omega arith
 frames≤64 V2 = omega arith
@@ -108,6 +109,7 @@ none_from_keeps v i last b k =
     or_from _ _ (not_from_true _ (eq-eqb _ _ k.reserved)) (not_from_true _ k.fields) in
     rw (t1, t2, t3, t4, t5) refl
 
+-- bytes without a record's fault begin with a whole record
 pub has_record : (v : Version) (i last : ℕ) (b : List ℕ) → record_fault v i last b ≡ None → HasRecord v b
 has_record v i last b none =
     let k = keeps_from_none v i last b none in
@@ -172,6 +174,7 @@ pub record RecordRead (v : Version) (last : ℕ) (b : List ℕ) : Type 0 where
   pub above : last < number 0 8 b
   pub whole : HasRecord v b
 
+-- bytes without a record's fault begin with the encoding of an event that fits and is above the last sequence
 pub record_read : (v : Version) (i last : ℕ) (b : List ℕ) → IsBytes b → record_fault v i last b ≡ None → RecordRead v last b
 record_read v i last b small none =
     let k = keeps_from_none v i last b none in
@@ -287,6 +290,7 @@ again v i last b e rest h fits above =
       sequence = h.sequence;
     }
 
+-- the encoding of an event that fits is read as a record of this event without a fault, and what follows it as what is left
 pub record_again : (v : Version) (i last : ℕ) (e : Event) (rest : List ℕ) → EventFits v e → last < e.sequence
     → RecordAgain v i last (event_bytes e ++ rest) e rest
 record_again v i last e rest fits above =

@@ -29,6 +29,7 @@ times_once x = times_same x x [] refl
 abbrev pub AreCounted : List Bool → List ℕ → List ℕ → Type 0
 AreCounted marks apart numbers = (n : ℕ) → times n numbers ≡ mark_count marks n + times n apart
 
+-- a marked number that comes once more comes twice
 pub again : (marks room : List Bool) (apart numbers : List ℕ) (x : ℕ) → ((n : ℕ) → is_marked room n ≡ is_marked marks n)
     → is_marked room x ≡ true → AreCounted marks apart numbers → (n : ℕ) × (2 ≤ times n (numbers ++ x ∷ []))
 again marks room apart numbers x same marked are =
@@ -44,6 +45,7 @@ pub record AreUnited (old more marks : List Bool) (place : ℕ) (is_twice : Bool
   pub below : is_twice ≡ false → (n : ℕ) → n < place → mark_count marks n ≡ mark_count old n + mark_count more n
   pub above : (n : ℕ) → place ≤ n → is_marked marks n ≡ is_marked old n
 
+-- before the first mark is added, the marks are the old ones, and none was there already
 pub none_united : (marks more : List Bool) → AreUnited marks more marks 0 false
 none_united marks more = record {
   long = refl;
@@ -136,10 +138,12 @@ saw_twice numbers more two = (two.0, omega (arith, two.1, times_both two.0 numbe
 abbrev pub IsToldOf : List ℕ → Option ℕ → Type 0
 IsToldOf sorted told = MatchOption told ((x : ℕ) → times x sorted ≤ 1) (IsLeastSuch ◌<◌ (λ x. 2 ≤ times x sorted))
 
+-- where the search of sorted numbers finds one, a number comes twice
 pub told_twice : (sorted : List ℕ) (told : Option ℕ) → IsToldOf sorted told → is_some told ≡ true → (x : ℕ) × (2 ≤ times x sorted)
 told_twice sorted None told is = absurd cc
 told_twice sorted (Some x) told is = (x, told.holds)
 
+-- where the search of sorted numbers finds none, no number comes twice
 pub told_once : (sorted : List ℕ) (told : Option ℕ) → IsToldOf sorted told → is_some told ≡ false → (x : ℕ) → times x sorted ≤ 1
 told_once sorted None told is = told
 told_once sorted (Some x) told is = absurd cc
@@ -160,6 +164,7 @@ any_of p (y ∷ ys) x h is =
       | inr there ↦ or_right (p y) (list_any p ys) (any_of p ys x there is)
     ]
 
+-- where no number stands apart twice or both apart and marked, each number was seen once at most
 pub once_each : (marks : List Bool) (apart sorted numbers : List ℕ) → IsPermutation apart sorted → AreCounted marks apart numbers
     → ((x : ℕ) → times x sorted ≤ 1) → list_any (is_marked marks) sorted ≡ false → (n : ℕ) → times n numbers ≤ 1
 once_each marks apart sorted numbers moved are once none n =
@@ -176,10 +181,12 @@ once_each marks apart sorted numbers moved are once none n =
           omega (arith, are n, same, zero, once n)
     ]
 
+-- where a number stands apart twice, a number was seen twice
 pub twice_apart : (marks : List Bool) (apart sorted numbers : List ℕ) (x : ℕ) → IsPermutation apart sorted
     → AreCounted marks apart numbers → 2 ≤ times x sorted → (n : ℕ) × (2 ≤ times n numbers)
 twice_apart marks apart sorted numbers x moved are two = (x, omega (arith, are x, times-IsPermutation x apart sorted moved, two))
 
+-- where a number stands apart and has a mark, a number was seen twice
 pub marked_and_apart : (marks : List Bool) (apart sorted numbers : List ℕ) → IsPermutation apart sorted
     → AreCounted marks apart numbers → list_any (is_marked marks) sorted ≡ true → (n : ℕ) × (2 ≤ times n numbers)
 marked_and_apart marks apart sorted numbers moved are any =

@@ -189,6 +189,7 @@ pub record SegmentAgain (b : List ℕ) (s : Content) : Type 0 where
   pub content : content_in b ≡ s
   pub len : length_in b ≡ length (encoding s)
 
+-- a segment's encoding with anything behind it is read as this segment, with no fault
 pub segment_again : (s : Content) (more : List ℕ) → Fits s → SegmentAgain (encoding s ++ more) s
 unfolding first_fault content_in
 segment_again s more fits =
@@ -217,14 +218,17 @@ segment_again s more fits =
 
 -- ---- the steps of reading
 
+-- a fault of the header is the first of all
 pub first_fault-header : (b : List ℕ) (fault : Fault) → header_fault b ≡ Some fault → first_fault b ≡ Some fault
 unfolding first_fault
 first_fault-header b fault some = rw some refl
 
+-- bytes with a good header that states more bytes than there are have the fault Cut
 pub first_fault-cut : (b : List ℕ) → header_fault b ≡ None → length b < length_in b → first_fault b ≡ Some faults.Cut
 unfolding first_fault
 first_fault-cut b none cut = let t : nat_lt (length b) (length_in b) ≡ true = lt-ltb _ _ cut in rw (none, t) refl
 
+-- bytes with a good header and all that it states have the first fault of their records
 pub first_fault-records : (b : List ℕ) → header_fault b ≡ None → length_in b ≤ length b
     → first_fault b ≡ records_fault (version_in b) (number 24 4 b) 0 0 (body_in b)
 unfolding first_fault
@@ -234,6 +238,7 @@ first_fault-records b none whole =
 
 -- ---- the bytes of one segment
 
+-- bytes that encode a segment, with anything behind them, are read as this segment
 pub encoded_again : (b more : List ℕ) (s : Content) → Encodes b s → SegmentAgain (b ++ more) s
 encoded_again b more s encodes = rw encodes.bytes (segment_again s more encodes.fits)
 
@@ -288,10 +293,12 @@ found_parts head rest h small long is none =
     ∙ ap (take (h.len - 32)) (drop_at head rest 32 long) in
     rw body at (rw same at (found_whole b small none))
 
+-- a header, and bytes after it that have no fault with it, are one segment
 pub is_segment : (head rest : List ℕ) (h : Header) → IsBytes (head ++ rest) → length head ≡ 32 → h ≡ header_in head
     → first_fault (head ++ rest) ≡ None → IsSegment h (take (h.len - 32) rest)
 is_segment head rest h small long is none = (found_parts head rest h small long is none).is_segment
 
+-- a header, and bytes after it that have no fault with it, begin with the encoding of the segment that they say
 pub begins_here : (head rest : List ℕ) (h : Header) → IsBytes (head ++ rest) → length head ≡ 32 → h ≡ header_in head
     → first_fault (head ++ rest) ≡ None
     → BeginsWith (head ++ rest) (length (encoding (content_of h (take (h.len - 32) rest)))) (content_of h (take (h.len - 32) rest))
@@ -299,17 +306,20 @@ begins_here head rest h small long is none = (found_parts head rest h small long
 
 -- ---- the steps of reading a header and what follows it
 
+-- fewer than 32 bytes have the fault Short
 pub first_fault-short : (b : List ℕ) → length b < 32 → first_fault b ≡ Some faults.Short
 unfolding header_fault
 first_fault-short b short =
     let t : nat_lt (length b) 32 ≡ true = lt-ltb _ _ short in
     first_fault-header b faults.Short (rw t refl)
 
+-- a fault of a header is the first one, whatever follows the header
 pub parts_fault-header : (head rest : List ℕ) (fault : Fault) → length head ≡ 32 → header_fault head ≡ Some fault
     → first_fault (head ++ rest) ≡ Some fault
 parts_fault-header head rest fault long some =
     first_fault-header (head ++ rest) fault (header_fault-append head rest (omega arith) ∙ some)
 
+-- a good header with fewer bytes after it than it states has the fault Cut
 pub parts_fault-cut : (head rest : List ℕ) (h : Header) → length head ≡ 32 → header_fault head ≡ None → h ≡ header_in head
     → length rest < h.len - 32 → first_fault (head ++ rest) ≡ Some faults.Cut
 parts_fault-cut head rest h long none is cut =
@@ -317,6 +327,7 @@ parts_fault-cut head rest h long none is cut =
     let same : length_in (head ++ rest) ≡ length_in head = number-append 28 4 head rest (omega arith) in
     first_fault-cut (head ++ rest) (header_fault-append head rest (omega arith) ∙ none) (omega (arith, len, same, length-append head rest))
 
+-- a good header with all that it states after it has the first fault of its records
 pub parts_fault-records : (head rest : List ℕ) (h : Header) → length head ≡ 32 → header_fault head ≡ None → h ≡ header_in head
     → 32 ≤ h.len → h.len - 32 ≤ length rest
     → first_fault (head ++ rest) ≡ records_fault h.version h.count 0 0 (take (h.len - 32) rest)
@@ -352,12 +363,14 @@ same_front b m n s t p q =
     ∙ sym (take-append-drop n b)) in
     (omega (arith, length-take m b, length-take n b, p.inside, q.inside, ap length both.0), both.1)
 
+-- what encodes a segment begins with it, whatever follows
 pub begins_with : (a rest : List ℕ) (s : Content) → Encodes a s → BeginsWith (a ++ rest) (length a) s
 begins_with a rest s encodes = record {
   inside = omega (arith, length-append a rest);
   encodes = rw (take_at a rest (length a) refl) encodes;
 }
 
+-- bytes without a first fault begin with the encoding of some segment
 pub encoded_where_no_fault : (b : List ℕ) → IsBytes b → first_fault b ≡ None → (n : ℕ) × (s : Content) × BeginsWith b n s
 encoded_where_no_fault b small none =
     let read = segment_read b small none in

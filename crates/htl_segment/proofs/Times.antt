@@ -1,4 +1,4 @@
--- At how many places of a list a number is.
+-- A number comes at so many places of a list, whatever their order, and in sorted numbers repeats stand side by side.
 use Rattle.std.proofs.Common.{◌≡◌, ℕ, suc, ◌+◌, ◌<◌, ◌≤◌, Bool, eqb, cond, List, [], ◌∷◌, length, get_or, drop}
 use Rattle.std.proofs.Common.{IsPermutation, refl, sym, ap, ◌∙◌, subst, inl, inr, zero-add, arith}
 use Rattle.std.specs.Prelude.{Contains}
@@ -13,15 +13,19 @@ use Rattle.htl_event.proofs.Members.{each_member, AllByRecursion-weaker}
 use Rattle.htl_event.specs.Members.{IsLeastSuch}
 use Rattle.htl_segment.specs.Repeated.{times}
 
+-- a head adds one to how often it comes, and nothing to how often another number does
 pub times-cons : (x y : ℕ) (ys : List ℕ) → times x (y ∷ ys) ≡ cond (eqb y x) 1 0 + times x ys
 times-cons x y ys = sum_by-cons (λ (z : ℕ). cond (eqb z x) 1 0) y ys
 
+-- a head adds one to how often it comes
 pub times_same : (x y : ℕ) (ys : List ℕ) → y ≡ x → times x (y ∷ ys) ≡ 1 + times x ys
 times_same x y ys same = times-cons x y ys ∙ ap (λ (b : Bool). cond b 1 0 + times x ys) (eq-eqb y x same)
 
+-- a head adds nothing to how often another number comes
 pub times_other : (x y : ℕ) (ys : List ℕ) → (y ≡ x → ⊥) → times x (y ∷ ys) ≡ times x ys
 times_other x y ys other = times-cons x y ys ∙ ap (λ (b : Bool). cond b 1 0 + times x ys) (ne_eqb y x other) ∙ zero-add (times x ys)
 
+-- a member of a list comes once at least
 pub some_times : (x : ℕ) (xs : List ℕ) → Contains xs x → 1 ≤ times x xs
 some_times x [] h = absurd (Contains-nil x h)
 some_times x (y ∷ ys) h =
@@ -30,6 +34,7 @@ some_times x (y ∷ ys) h =
       | inr there ↦ omega (arith, times-cons x y ys, some_times x ys there)
     ]
 
+-- a number that comes once at least is a member of the list
 pub some_there : (x : ℕ) (xs : List ℕ) → 1 ≤ times x xs → Contains xs x
 some_there x [] some = absurd (omega (arith, some))
 some_there x (y ∷ ys) some =
@@ -61,6 +66,7 @@ pub record AreGone (xs left : List ℕ) : Type 0 where
   pub counted : (x : ℕ) → 2 ≤ times x xs → 2 ≤ times x left
   pub inside : (x : ℕ) → times x left ≤ times x xs
 
+-- before a loop over sorted numbers begins, nothing was gone through
 pub none_gone : (xs : List ℕ) → IsNonDecreasing xs → AreGone xs xs
 none_gone xs up = record { rising = rising xs up; counted = λ x two. two; inside = λ x. omega arith }
 
@@ -104,18 +110,21 @@ at_most_once x y = elim (cases_eq y x) [
 next_at : (rest : List ℕ) (i next d : ℕ) → i < length rest → next ≡ get_or rest i d → drop i rest ≡ next ∷ drop (i + 1) rest
 next_at rest i next d lt is = drop_more rest i d lt ∙ ap (λ (x : ℕ). x ∷ drop (i + 1) rest) (sym is)
 
+-- past two neighbours that differ, a number that comes twice still comes twice in what is left
 pub gone_more : (xs rest : List ℕ) (i last next d : ℕ) → i < length rest → next ≡ get_or rest i d → (next ≡ last → ⊥)
     → AreGone xs (last ∷ drop i rest) → AreGone xs (next ∷ drop (i + 1) rest)
 gone_more xs rest i last next d lt is other gone =
     one_gone xs last next (drop (i + 1) rest) other
     (subst (λ (left : List ℕ). AreGone xs (last ∷ left)) (next_at rest i next d lt is) gone)
 
+-- the first of two neighbours that are equal is the least number that comes twice
 pub gone_found : (xs rest : List ℕ) (i last next d : ℕ) → i < length rest → next ≡ get_or rest i d → next ≡ last
     → AreGone xs (last ∷ drop i rest) → IsLeastSuch ◌<◌ (λ x. 2 ≤ times x xs) last
 gone_found xs rest i last next d lt is same gone =
     found_twice xs last next (drop (i + 1) rest) same
     (subst (λ (left : List ℕ). AreGone xs (last ∷ left)) (next_at rest i next d lt is) gone)
 
+-- after the last number, no number comes twice
 pub gone_all : (xs rest : List ℕ) (i last : ℕ) → length rest ≤ i → AreGone xs (last ∷ drop i rest) → (x : ℕ) → times x xs ≤ 1
 gone_all xs rest i last le gone x =
     let end = subst (λ (left : List ℕ). AreGone xs (last ∷ left)) (drop_all i rest le) gone in
@@ -124,5 +133,6 @@ gone_all xs rest i last le gone x =
       | inr one ↦ one
     ]
 
+-- a number comes as often in a list as in the same list in another order
 pub times-IsPermutation : (x : ℕ) (xs ys : List ℕ) → IsPermutation xs ys → times x ys ≡ times x xs
 times-IsPermutation x xs ys moved = sum_by-IsPermutation (λ (y : ℕ). cond (eqb y x) 1 0) xs ys moved

@@ -1,4 +1,4 @@
--- The events of a set of keys, and segments in order.
+-- The events of a set of keys, over segments in order, follow from those of other sets: of a union, of a longer run.
 use Rattle.std.proofs.Common.{◌≡◌, ℕ, ◌+◌, ◌<◌, ◌≤◌, Bool, true, false, ltb, eqb, ◌&&◌, List, [], ◌∷◌, ◌++◌, refl, sym, ap, ◌∙◌, subst}
 use Rattle.std.proofs.Common.{arith, inl, inr, ◌⊎◌, append_assoc, append-nil}
 use Rattle.std.specs.Prelude.{Contains, ◌↔◌, ◌≢◌, filter, count_by}
@@ -29,6 +29,7 @@ pub events_of-pass : (S : ℕ → ℕ → Bool) (s : Content) (ss : List Content
     → events_of S (s ∷ ss) ≡ s.events ++ events_of S ss
 events_of-pass S s ss e = ap all_events (filter-pass (key_is_in S) s ss e)
 
+-- a segment whose key isn't in the set adds none of its events
 pub events_of-skip : (S : ℕ → ℕ → Bool) (s : Content) (ss : List Content) → key_is_in S s ≡ false → events_of S (s ∷ ss) ≡ events_of S ss
 events_of-skip S s ss e = ap all_events (filter-skip (key_is_in S) s ss e)
 
@@ -48,6 +49,7 @@ filter_in_order passes (s ∷ ss) ordered =
 
 -- ---- members
 
+-- the list of the events of a key set and their set have the same members
 pub members_agree : MembersAgree
 members_agree S ss e = (
   (λ h. let r = Contains-from_flat_map events_in (filter (key_is_in S) ss) e h in let k = Contains-from_filter (key_is_in S) ss r.0 r.1 in
@@ -115,6 +117,7 @@ count_by-united p S R (s ∷ ss) apart =
       ]
     ]
 
+-- counts over two key sets that have no key in common add up
 pub apart_counts_add_up : ApartCountsAddUp
 apart_counts_add_up S R ss apart passes slot =
     let side : (sign : Sign) → times passes (events_of (united S R) ss) slot sign ≡ times passes (events_of S ss) slot sign + times passes
@@ -150,6 +153,7 @@ none_after : (front : ℕ) (s : Content) (ts : List Content) → front ≤ s.num
     → events_of (run_below s.processor front) ts ≡ []
 none_after front s ts le all = events_of-none (run_below s.processor front) ts (all_after front s ts le all)
 
+-- the events of a processor's run up to a segment are those below it, and then the segment's
 pub runs_grow : RunsGrow
 runs_grow [] s ordered h = absurd (Contains-nil s h)
 runs_grow (t ∷ ts) s ordered h =
@@ -186,6 +190,7 @@ runs_grow (t ∷ ts) s ordered h =
 
 -- ---- the later of both
 
+-- over two key sets, the latest event is the later and the greatest sequence the greater of theirs
 pub later_of_both_sets : (S R : ℕ → ℕ → Bool) (ss : List Content) → LaterOfBothSets S R ss
 later_of_both_sets S R ss =
     let both = members_united S R ss in
@@ -226,6 +231,7 @@ among_all : (S : ℕ → ℕ → Bool) (ss : List Content) (e : Event) → Conta
 among_all S ss e h =
     let r = (members_agree S ss e).0 h in Contains-flat_map events_in ss r.0 e r.1 r.3
 
+-- the events of each set of a trace's keys have sequences of their own
 pub sequences_stay_apart : SequencesStayApart
 sequences_stay_apart T is S = go T.segments is.sequences
   where

@@ -1,4 +1,4 @@
--- What a binary search finds in a list in the order of its keys, and what an edit at that place is.
+-- A binary search in a list in the order of its keys finds the place of a key or its gap, and an edit there is a put of the key.
 use Rattle.std.proofs.Common.{◌≡◌, ℕ, zero, suc, ◌<◌, ◌≤◌, List, [], ◌∷◌, length, get_or, None, Result}
 use Rattle.std.proofs.Common.{Ok, Err, IfOk, IfErr, T, refl, inl, inr, sym, ◌∙◌, ap, arith}
 use Rattle.std.specs.List.Sorted.{IsSearchInRange, IsBinarySearchResult, IsNonDecreasingBy}
@@ -11,6 +11,7 @@ use Rattle.std.proofs.lemmas.Bool.{cases_lt}
 use Rattle.htl_sorted.specs.Entries.{IsSorted, IsPlace, IsGap, entries}
 use Rattle.htl_lemmas.proofs.Tests.{both_left, both_right, less}
 
+-- compared the other way round, two keys give the reverse
 pub turn : {K : Type 0} {R : K → K → Ordering} → IsTotalOrder R → (x y : K) (r : Ordering) → R x y ≡ r → R y x ≡ ordering_reverse r
 turn o x y r e = o.antisymm y x ∙ ap ordering_reverse e
 

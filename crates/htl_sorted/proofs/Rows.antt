@@ -1,4 +1,4 @@
--- Two lists of rows that become one in one pass.
+-- Two lists of rows become one in one pass, in which each key has the values of both, joined.
 use Rattle.std.proofs.Common.{◌≡◌, ℕ, ◌+◌, ◌-◌, ◌<◌, ◌≤◌, List, [], ◌∷◌, ◌++◌, length, drop, take}
 use Rattle.std.proofs.Common.{get_or, set, map, Option, Some, None, arith, refl, sym, ◌∙◌, ap, subst, length-drop}
 use Rattle.std.specs.declared.cmp.Ordering.{Ordering}
@@ -107,16 +107,19 @@ module _ {Row K X : Type 0} (key : Row → K) (value : Row → X) where
       compared r e = ap (λ (a : K × X). R a.0 (get_or (entries key value right) j (entry y)).0) at_left
           ∙ ap (λ (b : K × X). R (key x) b.0) at_right ∙ e
 
+      -- where the left list's next key is the lesser, its row follows what was made so far
       pub made_less : R (key x) (key y) ≡ Less → z ≡ x → IsMadeOf (i + 1) j new
       made_less e same = carry_less R (Makes f) _ _ i j _ _ h (entry x) (entry y) in_left in_right (value z) (compared Less e)
           (ap (λ (a : K × X). Some a.1) at_left ∙ ap (λ a. Some (value a)) (sym same))
           (as_entries ∙ ap (λ a. entries key value out ++ (a, value z) ∷ []) (ap key same ∙ sym (ap (λ (a : K × X). a.0) at_left)))
 
+      -- where the right list's next key is the lesser, its row follows what was made so far
       pub made_greater : R (key x) (key y) ≡ Greater → z ≡ y → IsMadeOf i (j + 1) new
       made_greater e same = carry_greater R (Makes f) _ _ i j _ _ h (entry x) (entry y) in_left in_right (value z) (compared Greater e)
           (ap (λ (a : K × X). Some a.1) at_right ∙ ap (λ a. Some (value a)) (sym same))
           (as_entries ∙ ap (λ a. entries key value out ++ (a, value z) ∷ []) (ap key same ∙ sym (ap (λ (a : K × X). a.0) at_right)))
 
+      -- where both lists have the same next key, one row with that key and both values joined follows what was made so far
       pub made_equal : R (key x) (key y) ≡ Equal → key z ≡ key x → value z ≡ f (value x) (value y) → IsMadeOf (i + 1) (j + 1) new
       made_equal e same_key same_value = carry_equal R (Makes f) _ _ i j _ _ h (entry x) (entry y) in_left in_right (value z)
           (compared Equal e)
@@ -148,11 +151,13 @@ module _ {Row K X : Type 0} (key : Row → K) (value : Row → X) where
 
     module _ (o : IsTotalOrder R) (sorted_left : IsSorted R (entries key value left))
         (sorted_right : IsSorted R (entries key value right)) where
+      -- once one list is at its end, the rows made with the rest of the other after them are in the order of their keys
       pub merged_sorted : (i j : ℕ) (out new : List Row) → IsMadeOf i j out → (i < length left → length right ≤ j)
           → new ≡ (out ++ drop i left) ++ drop j right → IsSorted R (entries key value new)
       merged_sorted i j out new h one is =
           sorted_made R (Makes f) _ _ (all_made i j out new h one is) (sorted_join R o _ _ sorted_left sorted_right)
 
+      -- once one list is at its end, a key has in these rows what both lists have there, joined
       pub merged_value : (i j : ℕ) (out new : List Row) → IsMadeOf i j out → (i < length left → length right ≤ j)
           → new ≡ (out ++ drop i left) ++ drop j right → (k : K)
           → find R k (entries key value new) ≡ joined_at f (find R k (entries key value left)) (find R k (entries key value right))

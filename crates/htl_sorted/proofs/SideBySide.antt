@@ -1,4 +1,4 @@
--- Two lists in the order of their keys, side by side, and a list that is made of them in one pass.
+-- Two lists in the order of their keys stand side by side as one list, and one pass makes another list of them.
 use Rattle.std.proofs.Common.{◌≡◌, ℕ, ◌+◌, ◌<◌, ◌≤◌, List, [], ◌∷◌, ◌++◌, length, drop, get_or, map, Option, Some}
 use Rattle.std.proofs.Common.{None, T, true, false, cond, append_assoc, append-nil, arith, refl, sym, ◌∙◌, ap, subst, inl, inr}
 use Rattle.std.specs.Ordering.{is_lt, is_eq, eq_by_cmp}
@@ -39,6 +39,7 @@ MadeAt P (Some j) None = ⊥
 MadeAt P (Some j) (Some x) = P j x
 
 module _ {K J X : Type 0} (R : K → K → Ordering) (P : J → X → Type 0) where
+  -- at each key the made list has a value that P allows for what the first list has there
   pub find_made : (q : K) (js : List (K × J)) (os : List (K × X)) → Made P js os → MadeAt P (find R q js) (find R q os)
   find_made q [] [] m = tt
   find_made q [] (o ∷ os) m = absurd m
@@ -56,6 +57,7 @@ module _ {K J X : Type 0} (R : K → K → Ordering) (P : J → X → Type 0) wh
   below_made k (j ∷ js) (o ∷ os) m h =
       both _ _ (subst (λ q. T (is_lt (R k q))) m.0 (both_left _ _ h)) (below_made k js os m.2 (both_right _ _ h))
 
+  -- the made list has the keys of the first, so it is sorted where that is
   pub sorted_made : (js : List (K × J)) (os : List (K × X)) → Made P js os → IsSorted R js → IsSorted R os
   sorted_made [] [] m h = tt
   sorted_made [] (o ∷ os) m h = absurd m
@@ -121,6 +123,7 @@ module _ {K X Y : Type 0} (R : K → K → Ordering) where
               (sorted_into e es g more fs (both_right _ _ h))
         ] refl
 
+    -- two sorted lists side by side are a sorted list
     pub sorted_join : (es : List (K × X)) (fs : List (K × Y)) → IsSorted R es → IsSorted R fs → IsSorted R (join R es fs)
     sorted_join [] fs g h = sorted_right X R fs h
     sorted_join (e ∷ es) fs g h = sorted_into e es (both_left _ _ g) (λ gs s. sorted_join es gs (both_right _ _ g) s) fs h
@@ -187,16 +190,19 @@ module _ {K X Y Z : Type 0} (R : K → K → Ordering) (P : Option X × Option Y
         ≡ join R (get_or es i d ∷ drop (i + 1) es) (get_or fs j c ∷ drop (j + 1) fs)
     heads lt lu = rw (drop_more es i d lt, drop_more fs j c lu) refl
 
+    -- where the left list's next key is the lesser, a value made of its entry alone follows
     pub carry_less : i < length es → j < length fs → (v : Z) → R (get_or es i d).0 (get_or fs j c).0 ≡ Less
         → P (Some (get_or es i d).1, None) v → new ≡ out ++ ((get_or es i d).0, v) ∷ [] → Carries R P es fs (i + 1) j new
     carry_less lt lu v e p is = carry i j (i + 1) j out new _ _ v h (omega arith) (omega arith)
         (heads lt lu ∙ rw (e, drop_more fs j c lu) refl) p is
 
+    -- where the right list's next key is the lesser, a value made of its entry alone follows
     pub carry_greater : i < length es → j < length fs → (v : Z) → R (get_or es i d).0 (get_or fs j c).0 ≡ Greater
         → P (None, Some (get_or fs j c).1) v → new ≡ out ++ ((get_or fs j c).0, v) ∷ [] → Carries R P es fs i (j + 1) new
     carry_greater lt lu v e p is = carry i j i (j + 1) out new _ _ v h (omega arith) (omega arith)
         (heads lt lu ∙ rw (e, drop_more es i d lt) refl) p is
 
+    -- where both lists have the same next key, a value made of both entries follows
     pub carry_equal : i < length es → j < length fs → (v : Z) → R (get_or es i d).0 (get_or fs j c).0 ≡ Equal
         → P (Some (get_or es i d).1, Some (get_or fs j c).1) v → new ≡ out ++ ((get_or es i d).0, v) ∷ []
         → Carries R P es fs (i + 1) (j + 1) new

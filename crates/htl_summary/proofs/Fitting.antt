@@ -51,6 +51,7 @@ usage_within field (Tagged o t) count opened misused = omega arith
 abbrev process_of : Usage → ℕ
 process_of usage = usage.process
 
+-- where all sums of slots add up to less than 2 ^ 64, what they say of one process can be added up
 pub usages_fit : (sums : List Sum) → sum_by total sums < 2 ^ 64
     → CanAddUp nat_cmp process_of (λ (row : Usage). row) both_usages FitUsages (filter_map of_sum sums)
 usages_fit sums lt before left right after k x y is one two =
@@ -80,6 +81,7 @@ tag_within field (Bad p h) count upto = omega arith
 abbrev object_of : ObjectRow → ℕ
 object_of row = row.object
 
+-- where all sums of slots add up to less than 2 ^ 64, what they say of one object's tags can be added up
 pub objects_fit : (sums : List Sum) → sum_by total sums < 2 ^ 64 → ((sum : Sum) → Contains sums sum → IsPositive sum.1)
     → CanAddUp nat_cmp object_of (λ (row : ObjectRow). row) both_objects FitObjects (filter_map tag_of_sum sums)
 objects_fit sums lt positive before left right after k x y is one two =

@@ -58,9 +58,11 @@ module _ {Row K X : Type 0} (key : Row → K) (value : Row → X) {R : K → K �
       pushed_is = ap (entries key value) (sym (insert_end rows row))
           ∙ insert_row key value R rows (key row) (length rows) (gap_after last) row refl
 
+      -- sums with a row after them that comes behind the last are in order
       pub pushed_sorted : IsSorted R (entries key value (rows ++ row ∷ []))
       pushed_sorted = subst (IsSorted R) (sym pushed_is) (is_sorted-put R o (key row) (value row) (entries key value rows) sorted)
 
+      -- with a row behind the last sum, each key has what the sums had, with the row's value joined
       pub pushed_value : (q : K) → find R q (entries key value (rows ++ row ∷ []))
           ≡ joined_at join (find R q (entries key value rows)) (one_at R key value q row)
       pushed_value q = ap (find R q) pushed_is ∙ put_joined (entries key value rows) (key row) (value row) (value row)
@@ -71,6 +73,7 @@ module _ {Row K X : Type 0} (key : Row → K) (value : Row → X) {R : K → K �
       place_of_last = place key value o (key row) rows sorted (length rows - 1) (omega (arith, some))
           (λ d. ap (λ y. R (key y) (key row)) (get_or_default rows (length rows - 1) d x (omega (arith, some)) ∙ sym is_x) ∙ tied)
 
+      -- at the key of a row that ties with the last sum, the sums have the last one's value
       pub last_value : find R (key row) (entries key value rows) ≡ Some (value x)
       last_value = placed_row key value R rows (key row) (length rows - 1) place_of_last x is_x
 
@@ -78,9 +81,11 @@ module _ {Row K X : Type 0} (key : Row → K) (value : Row → X) {R : K → K �
         joined_is : entries key value (set rows (length rows - 1) z) ≡ put R (key row) (value z) (entries key value rows)
         joined_is = set_row key value R rows (key row) (length rows - 1) place_of_last x z is_x same_key
 
+        -- sums whose last one the row was joined to are in order
         pub joined_sorted : IsSorted R (entries key value (set rows (length rows - 1) z))
         joined_sorted = subst (IsSorted R) (sym joined_is) (is_sorted-put R o (key row) (value z) (entries key value rows) sorted)
 
+        -- with a row joined to the last sum, each key has what the sums had, with the row's value joined
         pub joined_value : (q : K) → find R q (entries key value (set rows (length rows - 1) z))
             ≡ joined_at join (find R q (entries key value rows)) (one_at R key value q row)
         joined_value q = ap (find R q) joined_is ∙ put_joined (entries key value rows) (key row) (value row) (value z)
@@ -92,6 +97,7 @@ module _ {Row K X : Type 0} (key : Row → K) (value : Row → X) {R : K → K �
       let more = length-append rows (row ∷ []) in
       (omega (arith, more), λ d. ap key (get_or_push rows row d (length (rows ++ row ∷ []) - 1) (omega (arith, more))))
 
+  -- the last sum keeps its key where a row is joined to it
   pub joined_last : (rows : List Row) (z : Row) (k : K) → 0 < length rows → key z ≡ k → HasLastKey key (set rows (length rows - 1) z) k
   joined_last rows z k some is =
       let same = length-set rows (length rows - 1) z in

@@ -290,6 +290,7 @@ module _ (events : List Event) (sums : List Sum) (rows : List ObjectRow) (listed
   rising [] sorted = tt
   rising (r ∷ rs) sorted = (rising_from r.object rs (both_left _ _ sorted), rising rs (both_right _ _ sorted))
 
+  -- there are as many rows as objects with an event
   pub are_objects : IsNumberOfObjects events (length rows)
   are_objects = (
     map key rows,
@@ -324,6 +325,7 @@ module _ (events : List Event) (sums : List Sum) (rows : List ObjectRow) (listed
       let found = row_of_object row.object (omega (arith, some, number, upto, len)) in
       subst (Contains rows) (one_row events found.0 row (from_rows found.0 found.1) is found.2) found.1
 
+  -- the rows with an unbalanced tag, put in order, are the unbalanced objects
   pub are_unbalanced : (sorted : List ObjectRow) → IsRising MostUnbalancedFirst sorted
       → ((row : ObjectRow) → Contains sorted row ↔ Contains (filter shows rows) row) → IsUnbalanced events sorted
   are_unbalanced sorted up moved = record {

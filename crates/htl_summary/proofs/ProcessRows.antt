@@ -287,6 +287,7 @@ module _ (events : List Event) (sums : List Sum) (used : List Usage) (rows sorte
           let same : there.0.process ≡ row.process = there.2.owner ∙ ap key found.2 ∙ owner in
           subst (Contains rows) (one_row events there.0 row (from_rows there.0 there.1) is same) there.1
 
+  -- the rows of the used processes, put in order, are the processes of the definition
   pub are_processes : IsRising MostOutstandingFirst sorted → ((row : ProcessRow) → Contains sorted row ↔ Contains rows row)
       → IsProcesses events sorted
   are_processes rising moved = record {

@@ -76,6 +76,7 @@ module _ (f : Slot → ℕ) (t : Slot) where
 
 -- ---- how often events came
 
+-- the number that a count has on one side
 abbrev pub side : Sign → Count → ℕ
 side Plus count = count.plus
 side Minus count = count.minus

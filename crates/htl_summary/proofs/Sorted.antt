@@ -115,12 +115,14 @@ rank_total : IsTotalOrder rank_cmp
 rank_total = then_total (back_total (on_total (λ (k : Rank). k.0.0) nat_cmp_total)) (on_total (λ (k : Rank). k.1) nat_cmp_total)
 
 module _ {X : Type 0} (number n : X → ℕ) where
+  -- a row as its number and its key, by which it stands in an answer
   abbrev pub rank : X → Rank
   rank x = (record { 0 = number x }, n x)
 
   tied : (x y : X) → rank_cmp (rank x) (rank y) ≡ Equal → n x ≡ n y
   tied x y e = nat_cmp-IsAntisymmetric (n x) (n y) (both_tied _ _ e).1
 
+  -- rows of different keys that are sorted by rank rise strictly by it
   pub rising_by_rank : (xs ys : List X) → IsDistinct nat_eq (map n xs) → IsPermutation xs ys
       → IsSortedBy (λ x y. is_lt (rank_cmp (rank x) (rank y))) ys → IsRising (λ a b. rank_cmp (rank a) (rank b) ≡ Less) ys
   rising_by_rank xs ys distinct moved up =

@@ -1,4 +1,4 @@
--- Tables of the parts of a list that is cut in two.
+-- Tables of a list of parts follow from those of both halves, where it is cut in two.
 use Rattle.std.proofs.Common.{ℕ, List, ◌++◌, sym, subst}
 use Rattle.htl_event.specs.Events.{Event}
 use Rattle.htl_answers.specs.Parts.{Contents, AreEventsOf, AreTablesOf}

@@ -1,4 +1,4 @@
--- Rows of one key made one: over two lists, of one row, and what their numbers add up to.
+-- Where rows of one key are made one, the totals of two lists are joined, and a number that adds up is the sum over the rows.
 use Rattle.std.proofs.Common.{◌≡◌, ℕ, ◌+◌, ◌<◌, ◌≤◌, Bool, true, false, cond, List, [], ◌∷◌, ◌++◌}
 use Rattle.std.proofs.Common.{Option, Some, None, refl, sym, ap, subst, ◌∙◌, ◌==◌, arith, inl, inr}
 use Rattle.std.specs.Prelude.{Contains}
@@ -29,6 +29,7 @@ module _ {Row K X : Type 0} (cmp : K → K → Ordering) (key : Row → K) (valu
         | inr f ↦ let there = found_row k v rows (rw f at e) in (there.0, Contains-there row rows there.0 there.1, there.2)
       ]
 
+  -- of sorted rows, each row's value is found at its key
   pub row_there : IsTotalOrder cmp → (rows : List Row) → IsSorted cmp (entries key value rows) → (row : Row) → Contains rows row
       → find cmp (key row) (entries key value rows) ≡ Some (value row)
   row_there total rows sorted row (i, lt, is) = row_found key value total rows sorted i row lt (sym is)
@@ -51,6 +52,7 @@ module _ {Row K X : Type 0} (cmp : K → K → Ordering) (key : Row → K) (valu
     joined_assoc assoc (Some x) (Some y) None = refl
     joined_assoc assoc (Some x) (Some y) (Some z) = ap (λ (w : X). Some w) (assoc x y z)
 
+    -- the total of two lists of rows at a key is that of the first joined with that of the second
     pub total-append : ((x y z : X) → join (join x y) z ≡ join x (join y z)) → (k : K) (xs ys : List Row)
         → total_at cmp key value join k (xs ++ ys) ≡ joined_at join (total_at cmp key value join k xs) (total_at cmp key value join k ys)
     total-append assoc k [] ys = refl
@@ -81,6 +83,7 @@ module _ {Row K X : Type 0} (cmp : K → K → Ordering) (key : Row → K) (valu
           holds_joined (one_at cmp key value k row) (total k rows) (holds_one row (each row (Contains-here row rows)))
           (holds_total rows (λ r h. each r (Contains-there row rows r h)))
 
+      -- what holds of each row's value, and stays where two are joined, holds of the total
       pub total-keeps : (rows : List Row) → ((row : Row) → Contains rows row → is_eq (cmp k (key row)) ≡ true → P (value row))
           → (x : X) → total_at cmp key value join k rows ≡ Some x → P x
       total-keeps rows each x e = subst (Holds P) e (holds_total rows each)
@@ -92,6 +95,7 @@ module _ {Row K X : Type 0} (cmp : K → K → Ordering) (key : Row → K) (valu
       amount-joined (Some x) None = omega arith
       amount-joined (Some x) (Some y) = adds x y
 
+      -- a number that adds up where values are joined has, in the total, the sum of the rows' numbers
       pub total-amount : (k : K) (rows : List Row)
           → amount field (total_at cmp key value join k rows) ≡ sum_by (λ row. amount field (one_at cmp key value k row)) rows
       total-amount k [] = refl

@@ -1,4 +1,4 @@
--- The four fields of a record.
+-- A record of four fields is these four, and one that lacks any of them hasn't four.
 use Rattle.std.proofs.Common.{◌≡◌, ◌≢◌, ◌<◌, ℕ, List, [], ◌∷◌, Option, Some, None, true, length, refl, ap, arith, sym, ◌∙◌, Decides}
 use Rattle.std.specs.Prelude.{Err, codes}
 use Rattle.std.specs.Str.{bytes_eq}

@@ -1,4 +1,4 @@
--- A table that gains a range which overlaps none.
+-- A table that gains a range which overlaps none is a table.
 use Rattle.std.proofs.Common.{◌≡◌, ◌≢◌, ◌≤◌, ◌<◌, ◌⊎◌, [], ◌∷◌, ℕ, false, List, get_or, inl, inr, length, refl, arith}
 use Rattle.std.proofs.Common.{sym, ap, IsPermutation}
 use Rattle.std.specs.BTreeMap.{BTreeMap, IsOrdered, insert_entry}

@@ -1,4 +1,4 @@
--- The last range of a table that begins by an address, and where the others lie.
+-- Beside the last range of a table that begins by an address, the others end before it or start after the address.
 use Rattle.std.proofs.Common.{◌≡◌, ◌≤◌, ◌<◌, ◌⊎◌, ℕ, false, List, Some, None, get_or, inl, inr, refl, arith, sym, ap, subst, ◌∙◌}
 use Rattle.std.specs.BTreeMap.{BTreeMap, IsOrdered, get}
 use Rattle.std.specs.List.{All, Contains}

@@ -252,6 +252,7 @@ same_place table f g p q same =
     (subst (λ (n : ℕ). RowFault n b.ranges a.bad g) (sym same)
     (subst (λ (row : Record). RowFault q.number b.ranges row g) (sym cut.1) b.fault))
 
+-- two first faults of a table, neither of them out of memory, are one
 pub one_symbol_fault : (table : List Record) (f g : SymbolFault) → f ≢ NoMemory → g ≢ NoMemory → IsFirstFault table f
     → IsFirstFault table g → f ≡ g
 one_symbol_fault table f g reported reported_too p q =
@@ -270,6 +271,7 @@ one_symbol_fault table f g reported reported_too p q =
       ]
     ]
 
+-- records that write ranges have no first fault but out of memory
 pub table_has_no_fault : (table : List Record) (ranges : List Range) (fault : SymbolFault) → WriteRanges table ranges → fault ≢ NoMemory
     → IsFirstFault table fault → ⊥
 table_has_no_fault table ranges fault right reported is =
@@ -308,6 +310,7 @@ table_rises (r ∷ rs) is = (
   },
 )
 
+-- two tables that are read of the same records are one
 pub one_table : (records : List Record) (a b : List Range) → Reads records (Ok a) → Reads records (Ok b) → a ≡ b
 one_table records a b p q =
     let same : p.0 ≡ q.0 = one_ranges records p.0 q.0 p.1 q.1 in
@@ -320,6 +323,7 @@ one_table records a b p q =
 
 -- ---- one reading
 
+-- two readings of the same records, neither of them out of memory, come to one
 pub one_reading : (records : List Record) (a b : Result (List Range) SymbolFault) → a ≢ Err NoMemory → b ≢ Err NoMemory → Reads records a
     → Reads records b → a ≡ b
 one_reading records (Ok a) (Ok b) reported reported_too p q = ap Ok (one_table records a b p q)

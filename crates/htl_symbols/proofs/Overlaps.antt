@@ -1,4 +1,4 @@
--- Which ranges of a table have an address in common with a new one.
+-- A new range has an address in common with a range of a table exactly where the last one begun before its end does.
 use Rattle.std.proofs.Common.{◌≡◌, ◌≤◌, ◌<◌, ◌-◌, ◌⊎◌, ℕ, true, false, List, inl, inr, refl, arith, sym, nat_lt, ◌∙◌}
 use Rattle.std.specs.List.{All, Contains, list_any}
 use Rattle.std.proofs.lemmas.Bool.{cases_lt, le-ltb, lt-ltb}

@@ -1,4 +1,4 @@
--- What a read of a record says of the records that a reader has left.
+-- A read of a record takes the first of those that the reader has left, or finds none.
 use Rattle.std.proofs.Common.{◌≡◌, ◌≢◌, ◌≤◌, ◌+◌, arith, length, ℕ, Bool, true, false, List, [], ◌∷◌, Option, Some, None, refl, ◌∙◌, inl}
 use Rattle.std.specs.Borrow.{Bor}
 use Rattle.std.specs.Prelude.{IsSome, Ok, Err, unwrap_or}

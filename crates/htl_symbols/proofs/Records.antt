@@ -1,4 +1,4 @@
--- The records of a text, one after another.
+-- The records of a text are its next one, and then those of what is left.
 use Rattle.std.proofs.Common.{◌≡◌, ◌≤◌, ◌<◌, ◌+◌, ℕ, zero, suc, true, false, cond, List, [], ◌∷◌, Option, Some, None}
 use Rattle.std.proofs.Common.{length, refl, add-one, arith, ap}
 use Rattle.csv.specs.Machine.{Read, next_record}

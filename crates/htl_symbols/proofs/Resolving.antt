@@ -1,4 +1,4 @@
--- Which range of a table has an address.
+-- The last range of a table that begins by an address is the only one that can have it.
 use Rattle.std.proofs.Common.{◌≡◌, ◌≤◌, ◌<◌, ◌-◌, ℕ, true, false, List, Some, None, inl, inr, refl, arith}
 use Rattle.std.specs.List.{All, Contains}
 use Rattle.std.proofs.lemmas.Bool.{le-leb, lt-ltb}

@@ -1,4 +1,4 @@
--- What a row adds to a table.
+-- A row adds its range to a table, or nothing where it has a fault.
 use Rattle.std.proofs.Common.{◌≡◌, ◌⊎◌, ℕ, List, [], ◌∷◌, Option, Some, None, refl, sym, ltb, inl, inr}
 use Rattle.std.proofs.lemmas.Bool.{cases_cond}
 use Rattle.std.specs.Prelude.{Err}

@@ -1,4 +1,4 @@
--- How far the reading of a table's rows has come.
+-- The rows read so far are right and in the table, and the reader has the others left.
 use Rattle.std.proofs.Common.{◌≡◌, ◌<◌, ◌+◌, ℕ, Bool, true, false, List, [], ◌∷◌, ◌++◌, length, map, refl, sym, ap, ◌∙◌}
 use Rattle.std.proofs.Common.{arith, IsPermutation, append_assoc, length-append, get_or, ltb, add-zero, add_comm}
 use Rattle.std.specs.Prelude.{Ok, Err, Result}

@@ -1,4 +1,4 @@
--- What a search through a list finds: the only element that passes its test, or none.
+-- A search through a list finds the only element that passes its test, or none where none passes.
 use Rattle.std.proofs.Common.{◌≡◌, Bool, true, false, List, [], ◌∷◌, Some, None, inl, inr, refl, arith, sym}
 use Rattle.std.specs.List.{Contains, find, list_any}
 use Rattle.std.proofs.lemmas.Bool.{cases_Bool}

@@ -39,11 +39,11 @@ pub record StopsAtRow (table : List Record) (n : ℕ) (IsFaulty : List Range →
   pub place : length before ≡ n
   pub fault : IsFaulty ranges bad
 
--- record number n is text that writes no range
+-- record number n is text and writes no range, by this fault
 abbrev pub WritesNone : List Record → ℕ → SymbolFault → Type 0
 WritesNone table n fault = StopsAtRow table n (λ _ bad. AllText bad × (range_of_row (n, bad) ≡ Err fault))
 
--- it writes a range that overlaps one before it
+-- record number n writes a range that overlaps one before it
 abbrev pub WritesOverlap : List Record → ℕ → Type 0
 WritesOverlap table n =
     StopsAtRow table n (λ ranges bad. AllText bad × (r : Range) × (range_of_row (n, bad) ≡ Ok r) × (list_any (overlap r) ranges ≡ true))

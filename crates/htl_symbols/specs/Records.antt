@@ -16,11 +16,11 @@ SliceReader = Reader (Bor (List ℕ))
 abbrev pub bytes_left : SliceReader → List ℕ
 bytes_left reader = unwrap_or (source_of (λ s. Some s.now) reader) []
 
--- the records in them
+-- the records in these bytes
 unfoldable pub records_left : SliceReader → List Record
 records_left reader = records_from default_config (length (bytes_left reader) + 1) (reader_state reader) (bytes_left reader)
 
--- whether a record begins in a state
+-- whether a record begins where the reader is in this state
 abbrev pub is_start : State → Bool
 is_start st.StartRecord = true
 is_start st.AfterCr = true

@@ -24,7 +24,7 @@ range_between row (Some start) (Some end) m n =
 range_between row (Some start) None m n = Err (fault.Number row)
 range_between row None end m n = Err (fault.Number row)
 
--- the range that a record writes, or its first fault; its number stands before it
+-- the range that a record writes, or its first fault; the record is given with its number
 unfoldable pub range_of_row : ℕ × Record → Result Range SymbolFault
 range_of_row (row, start ∷ end ∷ m ∷ n ∷ []) = range_between row (address_of start) (address_of end) m n
 range_of_row (row, _) = Err (fault.Fields row)

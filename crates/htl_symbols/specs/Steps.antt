@@ -29,7 +29,7 @@ abbrev pub HeaderRead : SliceReader → SliceReader → Result (Unit {0}) Symbol
 HeaderRead old new (Ok u) = IsAtRecord new × (records_left old ≡ header ∷ records_left new)
 HeaderRead old new (Err fault) = IsFirstFault (records_left old) fault
 
--- the row writes a range that overlaps one of the table, or none
+-- the row writes a range; whether it overlaps one of the table is given
 pub record WritesRange (row : ℕ × Record) (table : List Range) (overlaps : Bool) : Type 0 where
   pub range : Range
   pub written : range_of_row row ≡ Ok range

@@ -1,4 +1,4 @@
--- Events noted in the order of their sort keys, of all processes or of one.
+-- Events noted in the order of their sort keys leave the latest event of each handle, of all processes or of one.
 use Rattle.std.proofs.Common.{◌≡◌, ℕ, true, false, List, length, Option, Some, None, refl, sym, ap, ◌∙◌, inl, inr, IsSorted}
 use Rattle.std.specs.Prelude.{flat_map}
 use Rattle.std.proofs.lemmas.Bool.{cases_Bool, and_parts, and_from, both_ways}
@@ -12,6 +12,7 @@ use Rattle.htl_tables.specs.SortKeys.{sort_key_cmp, AreCandidates}
 use Rattle.htl_tables.specs.FirstKeys.{FirstKeyIs}
 use Rattle.htl_tables.proofs.FirstKeys.{keys_noted, key_of_event, opens_of}
 
+-- an event that touches a handle of a chosen process opens or closes a handle
 pub touches-opens : (chosen : Option ℕ) (e : Event) → touches chosen e ≡ true → opens_or_closes e.kind ≡ true
 touches-opens chosen e c = (and_parts (opens_or_closes e.kind) (is_chosen chosen e.process) c).0
 

@@ -1,4 +1,4 @@
--- The events of sort keys, one after the other.
+-- The events of sort keys are listed one after the other.
 use Rattle.std.proofs.Common.{◌≡◌, ◌+◌, ◌<◌, List, [], ◌∷◌, ◌++◌, length, Some, sym, ap, ◌∙◌, inl, inr, arith}
 use Rattle.std.proofs.Common.{slice_get, subst}
 use Rattle.std.specs.Borrow.{Bor}

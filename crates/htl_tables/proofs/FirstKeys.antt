@@ -1,6 +1,7 @@
 -- Events noted in the order of their sort keys: of each handle the first leaves what is there.
-use Rattle.std.proofs.Common.{◌≡◌, ℕ, ◌+◌, Bool, true, false, ◌==◌, ◌&&◌, ◌<◌, ◌≤◌, List, length, Option}
-use Rattle.std.proofs.Common.{Some, None, sym, ap, ◌∙◌, inl, inr, arith, subst, slice_get, IsSorted}
+use Rattle.std.proofs.Common.{◌≡◌, ℕ, zero, suc, ◌+◌, Bool, true, false, ◌==◌, ◌&&◌, ◌<◌, ◌≤◌, List, [], ◌∷◌, length, map, fold, Option}
+use Rattle.std.proofs.Common.{Some, None, refl, sym, ap, ◌∙◌, inl, inr, arith, subst, slice_get, IsSorted}
+use Rattle.std.specs.Borrow.{Bor}
 use Rattle.std.specs.Ordering.{is_lt}
 use Rattle.std.specs.Prelude.{flat_map}
 use Rattle.std.proofs.lemmas.Bool.{cases_Bool, cases_lt, and_parts, and_from, eqb-true, eq-eqb, le-ltb, both_ways}
@@ -12,12 +13,13 @@ use Rattle.htl_tables.specs.declared.sort_key.SortKey.{SortKey}
 use Rattle.htl_tables.specs.Latest.{with_event, noted}
 use Rattle.htl_event.specs.Handles.{opens_or_closes}
 use Rattle.htl_event.proofs.EventTests.{opens_or_closes_base}
-use Rattle.htl_tables.specs.SortKeys.{sort_key_cmp, sort_key_of, StandsAt, IsKeyIn, AreCandidates}
-use Rattle.htl_tables.specs.FirstKeys.{HasHandle, FirstKeyIs}
+use Rattle.htl_tables.specs.SortKeys.{sort_key_cmp, sort_key_of, StandsAt, IsKeyIn, AreCandidates, AreEventsOfKeys}
+use Rattle.htl_tables.specs.FirstKeys.{HasHandle, FirstKeyIs, StandFrom}
 use Rattle.htl_tables.proofs.SortKeyOrder.{no_later-trans, sorted_no_later, in_order}
 use Rattle.htl_tables.proofs.FlatPlaces.{flat_place, flat_place-le, stands_flat, flat_stands}
 use Rattle.htl_tables.proofs.FirstNoted.{FirstIs, FirstIs-noted, FirstIs-unique}
 
+-- the sort key of an event that opens or closes a handle is of this handle
 pub key_of_event : (process base : ℕ) (e : Event) (r i : ℕ) → opens_or_closes_base process base e ≡ true
     → HasHandle process base (sort_key_of e r i)
 key_of_event process base e r i c =
@@ -25,6 +27,7 @@ key_of_event process base e r i c =
     (and_parts (opens_or_closes e.kind) (e.process == process && base_of e.handle == base) c).1 in
     record { owner = eqb-true e.process process key.0; handle = eqb-true (base_of e.handle) base key.1 }
 
+-- an event that opens or closes the handle of a process is an open or a close
 pub opens_of : (process base : ℕ) (e : Event) → opens_or_closes_base process base e ≡ true → opens_or_closes e.kind ≡ true
 opens_of process base e c = (and_parts (opens_or_closes e.kind) (e.process == process && base_of e.handle == base) c).0
 
@@ -139,6 +142,26 @@ module _ {X : Type 0} (events_of : X → List Event) (lists : List X) (test : Ev
                 | inr past ↦ omega (arith, le, past)
               ];
             })
+
+      -- the events of a run of the keys were noted, one after the other
+      pub run_noted : (n : ℕ) (run : List SortKey) (events : List (Bor Event)) → StandFrom keys n run
+          → AreEventsOfKeys events_of lists run events → length events ≡ length run → (o : Option Event) → FirstOwnIs n o
+          → FirstOwnIs (n + length run) (fold (with_event process base) o (map (λ e. e.now) events))
+      run_noted n [] [] stand are_of len o h = (let here : n ≡ n + 0 = omega arith in subst (λ m. FirstOwnIs m o) here h)
+      run_noted n [] (x ∷ events) stand are_of len o h = absurd (omega (arith, len))
+      run_noted n (t ∷ run) [] stand are_of len o h = absurd (omega (arith, len))
+      run_noted n (t ∷ run) (x ∷ events) stand are_of len o h =
+          let one = are_of zero x refl in
+          let here : n + 0 ≡ n = omega arith in
+          let last : suc n + length run ≡ n + suc (length run) = omega arith in
+          let next : n + 1 ≡ suc n = omega arith in
+          let noted_one = key_noted n one.key x.now (ap (slice_get keys) (sym here) ∙ stand zero one.key one.at) one.stands o h in
+          subst (λ m. FirstOwnIs m (fold (with_event process base) (with_event process base o x.now) (map (λ e. e.now) events))) last
+          (run_noted (suc n) run events
+          (λ i k at. let place : suc n + i ≡ n + suc i = omega arith in ap (slice_get keys) place ∙ stand (suc i) k at)
+          (λ i e at. let of = are_of (suc i) e at in record { key = of.key; at = of.at; stands = of.stands })
+          (omega (arith, len)) (with_event process base o x.now)
+          (subst (λ m. FirstOwnIs m (with_event process base o x.now)) next noted_one))
 
       -- once all were noted, the event is the first of the latest, where all of the handle's pass
       pub keys_noted : ((e : Event) → opens_or_closes_base process base e ≡ true → test e ≡ true)

@@ -1,4 +1,4 @@
--- What is at a key once a list of events was noted: the first of its latest events.
+-- Once a list of events was noted, a key has the first of its latest events.
 use Rattle.std.proofs.Common.{◌≡◌, ℕ, zero, suc, true, false, ◌<◌, ◌≤◌, List, [], ◌∷◌, ◌++◌, length, Option, Some, None, refl, sym, ap}
 use Rattle.std.proofs.Common.{◌∙◌, inl, inr, ◌⊎◌, arith, subst, slice_get, fold, Contains, MatchOption, append_assoc, append-nil}
 use Rattle.std.proofs.lemmas.Bool.{cases_Bool, cases_lt, cases_eq, both_ways, lt-ltb, le-ltb}
@@ -12,6 +12,7 @@ use Rattle.htl_tables.proofs.FlatPlaces.{get_left}
 
 -- ---- elements of a list by their places
 
+-- the element put behind a list stands at the place that is the list's length
 pub get_last : {X : Type 0} (xs : List X) (x : X) → slice_get (xs ++ x ∷ []) (length xs) ≡ Some x
 get_last [] x = refl
 get_last (z ∷ zs) x = get_last zs x
@@ -33,6 +34,7 @@ pub record IsFirst (events : List Event) (process base : ℕ) (e : Event) : Type
   pub first : (i : ℕ) (x : Event) → slice_get events i ≡ Some x → opens_or_closes_base process base x ≡ true
       → (x.sequence < e.sequence) ⊎ ((x.sequence ≡ e.sequence) × (index ≤ i))
 
+-- the event, or none where no event opens or closes the handle, is the first of the latest
 abbrev pub FirstIs : List Event → ℕ → ℕ → Option Event → Type 0
 FirstIs events process base o =
     MatchOption o ((i : ℕ) (x : Event) → slice_get events i ≡ Some x → opens_or_closes_base process base x ≡ true → ⊥)
@@ -152,5 +154,6 @@ module _ (process base : ℕ) where
         ];
   }
 
+  -- what the notes of a list of events leave at a handle is its latest event
   pub LatestIs-noted : (events : List Event) → LatestIs (Contains events) process base (noted events process base)
   LatestIs-noted events = latest_first events (noted events process base) (FirstIs-noted events)

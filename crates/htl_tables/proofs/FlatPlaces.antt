@@ -1,4 +1,4 @@
--- Where an event of a list stands in the list of all lists' events.
+-- An event of a list stands at one place of the list of all lists' events.
 use Rattle.std.proofs.Common.{◌≡◌, ℕ, zero, suc, ◌+◌, ◌-◌, ◌<◌, ◌≤◌, List, [], ◌∷◌, ◌++◌, length}
 use Rattle.std.proofs.Common.{take, get_or, append-nil, Some, refl, sym, ap, ◌∙◌, inl, inr, ◌⊎◌, arith, slice_get}
 use Rattle.std.specs.Prelude.{flat_map}
@@ -11,16 +11,19 @@ use Rattle.htl_tables.specs.SortKeys.{StandsAt}
 
 -- ---- elements of two lists put together, by their places
 
+-- an element of the first list stands at the same place in both lists together
 pub get_left : {X : Type 0} (xs ys : List X) (i : ℕ) (x : X) → slice_get xs i ≡ Some x → slice_get (xs ++ ys) i ≡ Some x
 get_left [] ys i x at = absurd (none-some x at)
 get_left (z ∷ zs) ys zero x at = at
 get_left (z ∷ zs) ys (suc i) x at = get_left zs ys i x at
 
+-- an element of both lists together, at a place in the first, stands there in the first
 pub get_left_back : {X : Type 0} (xs ys : List X) (i : ℕ) (x : X) → i < length xs → slice_get (xs ++ ys) i ≡ Some x → slice_get xs i ≡ Some x
 get_left_back [] ys i x lt at = absurd (omega (arith, lt))
 get_left_back (z ∷ zs) ys zero x lt at = at
 get_left_back (z ∷ zs) ys (suc i) x lt at = get_left_back zs ys i x (omega (arith, lt)) at
 
+-- both lists together have, behind the first one's length, what the second has
 pub get_right : {X : Type 0} (xs ys : List X) (i : ℕ) → slice_get (xs ++ ys) (length xs + i) ≡ slice_get ys i
 get_right [] ys i = ap (slice_get ys) (omega arith)
 get_right (z ∷ zs) ys i =
@@ -38,6 +41,7 @@ flat_map-take {X} f xs n x lt is =
     ∙ ap (λ l. flat_map f (take n xs) ++ l) (append-nil (f x))
 
 module _ {X : Type 0} (events_of : X → List Event) where
+  -- the place, in the list of all lists' events, of the i-th event of the r-th list
   pub flat_place : List X → ℕ → ℕ → ℕ
   flat_place [] r i = i
   flat_place (x ∷ xs) zero i = i
@@ -89,6 +93,7 @@ module _ {X : Type 0} (events_of : X → List Event) where
     pub stands : StandsAt events_of xs r i e
     pub is : p ≡ flat_place xs r i
 
+  -- each event in the list of all lists' events stands at a place of one of the lists
   pub flat_stands : (xs : List X) (p : ℕ) (e : Event) → slice_get (flat_map events_of xs) p ≡ Some e → IsFrom xs p e
   unfolding flat_place
   flat_stands [] p e at = absurd (none-some e at)

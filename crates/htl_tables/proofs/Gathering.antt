@@ -1,4 +1,4 @@
--- The sort keys that are gathered from lists, one list after the other.
+-- Sort keys are gathered from lists, one list after the other, and sorted they are the candidates.
 use Rattle.std.proofs.Common.{◌≡◌, ℕ, ◌+◌, Bool, true, false, ◌<◌, List, [], length, Some, refl}
 use Rattle.std.proofs.Common.{sym, ap, ◌∙◌, inl, inr, ◌⊎◌, arith, subst, slice_get, IsPermutation, Contains}
 use Rattle.std.proofs.lemmas.Bool.{cases_lt, both_ways}
@@ -33,6 +33,7 @@ module _ (r : ℕ) (events : List Event) (test : Event → Bool) (old : List Sor
       let place : n ≡ i = elim (cases_lt i n) [ inl before ↦ absurd (past before) | inr ge ↦ omega (arith, lt, ge) ] in
       record { place = place; event = same_Some e x (sym at ∙ ap (slice_get events) place ∙ at_i) }
 
+  -- where the next event passes and its key was offered, the keys are gathered from one event more
   pub gathers_more : (n : ℕ) (keys new : List SortKey) (e : Event) → slice_get events n ≡ Some e → test e ≡ true
       → Offers (sort_key_of e r n) keys new
       → GathersFirst n keys → GathersFirst (n + 1) new
@@ -52,6 +53,7 @@ module _ (r : ℕ) (events : List Event) (test : Event → Bool) (old : List Sor
     ];
   }
 
+  -- where the next event fails the test, the same keys are gathered from one event more
   pub gathers_skip : (n : ℕ) (new : List SortKey) (e : Event) → slice_get events n ≡ Some e → test e ≡ false
       → GathersFirst n new → GathersFirst (n + 1) new
   gathers_skip n new e at fails g = record {
@@ -65,6 +67,7 @@ module _ (r : ℕ) (events : List Event) (test : Event → Bool) (old : List Sor
     ];
   }
 
+  -- keys gathered from as many events as the list has are gathered from the whole list
   pub gathers_whole : (new : List SortKey) → GathersFirst (length events) new → Gathers r events test old new
   gathers_whole new g = record {
     each = g.each;
@@ -81,6 +84,7 @@ module _ {X : Type 0} (events_of : X → List Event) (lists : List X) (test : Ev
     pub all : (r i : ℕ) (e : Event) → r < n → StandsAt events_of lists r i e → test e ≡ true
         → IsMet keys (sort_key_of e r i)
 
+  -- before the first list there are no candidates
   pub from_none : AreFromFirst 0 []
   from_none = record { each = λ k h. absurd (omega (arith, h.1)); all = λ r i e lt. absurd (omega (arith, lt)) }
 
@@ -94,6 +98,7 @@ module _ {X : Type 0} (events_of : X → List Event) (lists : List X) (test : Ev
         is = key.is ∙ ap (λ (r : ℕ). sort_key_of key.event r k.index) (sym list);
       }
 
+  -- candidates of the first lists, to which the keys of the next came, are those of one list more
   pub from_more : (n : ℕ) (x : X) (old new : List SortKey) → slice_get lists n ≡ Some x → Gathers n (events_of x) test old new
       → AreFromFirst n old → AreFromFirst (n + 1) new
   from_more n x old new at g from = record {

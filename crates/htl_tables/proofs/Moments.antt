@@ -1,4 +1,4 @@
--- The moments of one kind in a list of events, and the greatest of them.
+-- The moments of one kind of event are gathered, and the greatest of a process's is its greatest sequence.
 use Rattle.std.proofs.Common.{◌≡◌, ◌≢◌, ℕ, ◌<◌, ◌≤◌, max, List, [], ◌∷◌, ◌++◌, refl}
 use Rattle.std.proofs.Common.{sym, ap, ◌∙◌, inl, inr, ◌⊎◌, arith, subst, Contains, IsPermutation}
 use Rattle.std.specs.Prelude.{◌↔◌}
@@ -23,6 +23,7 @@ AreMoreMoments kind old events new = (row : ℕ × ℕ) → Contains new row ↔
 no_moment : (kind : Kind) (row : ℕ × ℕ) → IsMoment (Contains []) kind row → ⊥
 no_moment kind row m = let here = m.here in omega (arith, here.1)
 
+-- no events add no moments
 pub moments_none : (kind : Kind) (old : List (ℕ × ℕ)) → AreMoreMoments kind old [] old
 moments_none kind old row = (λ h. inl h, λ h. elim h [ inl before ↦ before | inr m ↦ absurd (no_moment kind row m) ])
 
@@ -40,6 +41,7 @@ moment_left : (kind : Kind) (events : List Event) (e : Event) (row : ℕ × ℕ)
 moment_left kind events e row m = moment_among kind (Contains events) (Contains (events ++ e ∷ [])) row
     (Contains-append_left events (e ∷ [])) m
 
+-- an event of the kind with a sequence above 0 adds its process and its sequence
 pub moments_more : (kind : Kind) (old : List (ℕ × ℕ)) (events : List Event) (rows : List (ℕ × ℕ)) (e : Event)
     → AreMoreMoments kind old events rows → e.kind ≡ kind → 0 < e.sequence
     → AreMoreMoments kind old (events ++ e ∷ []) (rows ++ (e.process, e.sequence) ∷ [])
@@ -62,6 +64,7 @@ moments_more kind old events rows e are kind_is positive row = (
   ]),
 )
 
+-- an event of another kind, or with the sequence 0, adds no moment
 pub moments_skip : (kind : Kind) (old : List (ℕ × ℕ)) (events : List Event) (rows : List (ℕ × ℕ)) (e : Event)
     → AreMoreMoments kind old events rows → (e.kind ≡ kind → e.sequence ≡ 0)
     → AreMoreMoments kind old (events ++ e ∷ []) rows
@@ -95,6 +98,7 @@ moments_list kind before events old new are more row = (
   ]),
 )
 
+-- moments in another order are moments of the same events
 pub moments_sorted : (kind : Kind) (events : List Event) (rows sorted : List (ℕ × ℕ)) → AreMoments kind events rows
     → IsPermutation rows sorted → AreMoments kind events sorted
 moments_sorted kind events rows sorted are moved row = (
@@ -112,6 +116,7 @@ pub record IsGreatestIn (rows : List (ℕ × ℕ)) (process n : ℕ) : Type 0 wh
 pub greatest_none : (process : ℕ) → IsGreatestIn [] process 0
 greatest_none process = record { bound = λ s h. omega (arith, h.1); reached = inl refl }
 
+-- with one row more, the greatest of its process rises to its sequence, and that of each other stays
 pub greatest_more : (rows : List (ℕ × ℕ)) (row : ℕ × ℕ) (process old new : ℕ) → (process ≡ row.0 → new ≡ max old row.1)
     → (process ≢ row.0 → new ≡ old)
     → IsGreatestIn rows process old → IsGreatestIn (rows ++ row ∷ []) process new

@@ -1,4 +1,4 @@
--- What a table has at its keys once an event was noted.
+-- Once an event was noted, a table has the later event at its key, and what it had at each other.
 use Rattle.std.proofs.Common.{◌≡◌, ℕ, ◌==◌, ◌&&◌, Bool, true, ◌<◌, ◌≤◌, List, [], ◌∷◌}
 use Rattle.std.proofs.Common.{Option, Some, None, refl, sym, ap, ◌∙◌, inl, inr, cond}
 use Rattle.std.specs.Ordering.{eq_by_cmp}
@@ -68,6 +68,7 @@ module _ (rows : List Event) (e : Event) (opens : opens_or_closes e.kind ≡ tru
         | inr f ↦ rw (tests_here, f) refl
       ]
 
+-- a sorted table into which an event was put at its key is sorted
 pub sorted_put : (rows new : List Event) (e : Event) → IsSorted key_cmp (keyed rows) → keyed new ≡ put key_cmp (key_of e) e (keyed rows)
     → IsSorted key_cmp (keyed new)
 sorted_put rows new e sorted made = rw made (is_sorted-put key_cmp key_total (key_of e) e (keyed rows) sorted)

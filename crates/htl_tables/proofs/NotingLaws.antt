@@ -1,4 +1,4 @@
--- The latest event and the greatest sequence of a set and one more event.
+-- The latest event and the greatest sequence of a set and one more event follow from those of the set.
 use Rattle.std.proofs.Common.{◌≡◌, ℕ, ◌≤◌, false, List, [], ◌∷◌, ◌++◌, Option, Some, None}
 use Rattle.std.proofs.Common.{refl, sym, ap, ◌∙◌, inl, inr, ◌⊎◌, arith, subst, Contains, max}
 use Rattle.std.specs.Prelude.{◌↔◌}
@@ -80,10 +80,12 @@ pushed events e x = (
   ]),
 )
 
+-- the latest event of a handle, with one more event noted, is that of the list with this event
 pub keeps_latest : (events : List Event) (e : Event) → KeepsLatest events e
 keeps_latest events e process base old given =
     LatestIs-with_event (Contains events) (Contains (events ++ e ∷ [])) e (pushed events e) process base old given
 
+-- the greatest sequence of a kind and a process rises to that of one more such event, and else stays
 pub keeps_greatest : (events : List Event) (e : Event) → KeepsGreatest events e
 keeps_greatest events e = record {
   noted = λ kind process old given is. greatest_with (Contains events) (Contains (events ++ e ∷ [])) e (pushed events e)

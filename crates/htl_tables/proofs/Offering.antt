@@ -1,4 +1,4 @@
--- A sort key offered to others: it is added, put in the place of a later one, or one of them meets it.
+-- A sort key that is offered to others is added, put in the place of a later one, or met by one of them.
 use Rattle.std.proofs.Common.{◌≡◌, ℕ, true, false, ◌<◌, List, length, get_or, set}
 use Rattle.std.proofs.Common.{refl, sym, ap, ◌∙◌, inl, inr, ◌⊎◌, arith, subst, Contains}
 use Rattle.std.specs.Ordering.{is_lt}

@@ -63,13 +63,16 @@ by_process rows sorted i j d le lt =
       | inr past ↦ let same : i ≡ j = omega (arith, le, past) in rw same (omega arith)
     ]
 
+-- the event is of a lower process
 abbrev pub is_below : ℕ → Event → Bool
 is_below process e = nat_lt e.process process
 
+-- the event is of this process
 abbrev pub is_there : ℕ → Event → Bool
 is_there process e = e.process == process
 
 module _ (rows : List Event) (process : ℕ) (ordered : AreByProcess rows) where
+  -- rows by process are parted into those of lower processes and the others
   pub below_parted : IsPartitionedBy (is_below process) rows
   below_parted i j d le lt t =
       let up = ordered i j d le lt in
@@ -89,6 +92,7 @@ module _ (rows : List Event) (process : ℕ) (ordered : AreByProcess rows) where
           | inr le ↦ le
         ])
 
+    -- the rows from the first of a process on are parted into its own and the others
     pub there_parted : IsPartitionedBy (is_there process) (drop start rows)
     there_parted i j d le lt t =
         let within : start + j < length rows = omega (arith, lt, length-drop start rows) in
@@ -99,6 +103,7 @@ module _ (rows : List Event) (process : ℕ) (ordered : AreByProcess rows) where
         let is_j = ap (λ (e : Event). e.process) (shifted j d) in
         eq-eqb (get_or (drop start rows) i d).process process (omega (arith, up, from, same, is_i, is_j))
 
+    -- as many rows as the search cuts off there are all rows of the process
     pub together : (len : ℕ) → len ≤ length (drop start rows)
         → IsPartitionPoint (λ e. is_there process e ≡ true) (λ e. is_there process e ≡ false) (drop start rows) len
         → take len (drop start rows) ≡ filter (is_there process) rows

@@ -1,4 +1,4 @@
--- The rows of one process are a table that has what the whole one has of it.
+-- The rows of one process are a table that has what the whole table has of it.
 use Rattle.std.proofs.Common.{◌≡◌, ℕ, false, ◌==◌, ◌&&◌, List, [], ◌∷◌, Option, Some, None, refl, sym, ap, ◌∙◌, inl, inr, cond, T}
 use Rattle.std.specs.Prelude.{◌≢◌, filter}
 use Rattle.std.specs.Ordering.{eq_by_cmp}
@@ -15,6 +15,7 @@ use Rattle.htl_tables.specs.Latest.{event_at}
 use Rattle.htl_tables.proofs.KeyOrder.{key_test}
 use Rattle.htl_tables.proofs.ProcessRows.{is_there}
 
+-- the later of an event and none is the event
 pub later-none : (o : Option Event) → later o None ≡ o
 later-none None = refl
 later-none (Some x) = refl
@@ -28,6 +29,7 @@ module _ (process : ℕ) where
     | inr f ↦ rw (filter-skip (is_there process) row rows f) (below_rows k rows (both_right _ _ h))
   ]
 
+  -- the rows of one process, of a sorted table, are sorted
   pub rows_sorted : (rows : List Event) → IsSorted key_cmp (keyed rows) → IsSorted key_cmp (keyed (filter (is_there process) rows))
   rows_sorted [] sorted = sorted
   rows_sorted (row ∷ rows) sorted = elim (cases_Bool (is_there process row)) [
@@ -44,6 +46,7 @@ module _ (process : ℕ) where
       ∙ ap (λ b. b && base_of row.handle == base) f in
       rw test refl
 
+  -- at each handle of the process, its rows have what the whole table has
   pub found_alike : (rows : List Event) (base : ℕ) → event_at (filter (is_there process) rows) process base ≡ event_at rows process base
   found_alike [] base = refl
   found_alike (row ∷ rows) base = elim (cases_Bool (is_there process row)) [
@@ -52,6 +55,7 @@ module _ (process : ℕ) where
     | inr f ↦ rw (filter-skip (is_there process) row rows f) (found_alike rows base ∙ sym (passed_over process base row rows f))
   ]
 
+  -- at a handle of another process, the rows of the process have nothing
   pub none_of_others : (rows : List Event) (owner base : ℕ) → owner ≢ process → event_at (filter (is_there process) rows) owner base ≡ None
   none_of_others [] owner base differs = refl
   none_of_others (row ∷ rows) owner base differs = elim (cases_Bool (is_there process row)) [

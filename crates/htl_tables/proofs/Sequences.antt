@@ -1,4 +1,4 @@
--- Tables of the greatest sequence of each process.
+-- A table has the greatest sequence of each process, and keeps so where one is put and where two tables are joined.
 use Rattle.std.proofs.Common.{◌≡◌, ◌≢◌, ℕ, suc, ◌<◌, max, List, [], ◌∷◌, length, get_or, set}
 use Rattle.std.proofs.Common.{insert, Option, Some, None, refl, sym, ap, ◌∙◌, inl, inr, arith, T}
 use Rattle.std.specs.Prelude.{Contains}
@@ -21,14 +21,17 @@ use Rattle.htl_tables.specs.Moments.{IsTable}
 -- ---- a sequence put at a process
 
 module _ (rows new : List (ℕ × ℕ)) (process sequence : ℕ) (made : sequences new ≡ put nat_cmp process sequence (sequences rows)) where
+  -- a sequence that was put at a process is there
   pub put_here : sequence_at new process ≡ sequence
   put_here = ap (λ (es : List (ℕ × ℕ)). unwrap_or (find nat_cmp process es) 0) made
       ∙ ap (λ (o : Option ℕ). unwrap_or o 0) (find_put_same nat_cmp nat_cmp_total process sequence (sequences rows))
 
+  -- what the table has at each other process stays
   pub put_others : (other : ℕ) → other ≢ process → sequence_at new other ≡ sequence_at rows other
   put_others other ne = ap (λ (es : List (ℕ × ℕ)). unwrap_or (find nat_cmp other es) 0) made ∙ ap (λ (o : Option ℕ). unwrap_or o 0)
       (find_put_other nat_cmp nat_cmp_total nat_cmp-IsAntisymmetric other process sequence (sequences rows) ne)
 
+  -- a table into which a sequence above 0 was put is a table
   pub IsTable-put : IsTable rows → 0 < sequence → IsTable new
   IsTable-put table above = record {
     sorted = rw made (is_sorted-put nat_cmp nat_cmp_total process sequence (sequences rows) table.sorted);
@@ -37,19 +40,23 @@ module _ (rows new : List (ℕ × ℕ)) (process sequence : ℕ) (made : sequenc
 
 -- ---- at the place of a process
 
+-- the sequence in the row at a process's place is the table's for it
 pub at_place : (rows : List (ℕ × ℕ)) (process i : ℕ) (row : ℕ × ℕ) → IsPlace nat_cmp (sequences rows) process i
     → row ≡ get_or rows i row → sequence_at rows process ≡ row.1
 at_place rows process i row place is =
     ap (λ (o : Option ℕ). unwrap_or o 0) (placed_row (λ r. r.0) (λ r. r.1) nat_cmp rows process i place row is)
 
+-- a table has 0 for a process that has only a gap
 pub at_gap : (rows : List (ℕ × ℕ)) (process i : ℕ) → IsGap nat_cmp (sequences rows) process i → sequence_at rows process ≡ 0
 at_gap rows process i gap = ap (λ (o : Option ℕ). unwrap_or o 0) gap.value
 
+-- setting the sequence in a process's row puts it at this process
 pub raised_made : (rows : List (ℕ × ℕ)) (process sequence i : ℕ) (row : ℕ × ℕ) → IsPlace nat_cmp (sequences rows) process i
     → row ≡ get_or rows i row
     → sequences (set rows i (row.0, sequence)) ≡ put nat_cmp process sequence (sequences rows)
 raised_made rows process sequence i row place is = set_row (λ r. r.0) (λ r. r.1) nat_cmp rows process i place row (row.0, sequence) is refl
 
+-- a row inserted in a process's gap puts its sequence at this process
 pub inserted_made : (rows : List (ℕ × ℕ)) (process sequence i : ℕ) → IsGap nat_cmp (sequences rows) process i
     → sequences (insert rows i (process, sequence)) ≡ put nat_cmp process sequence (sequences rows)
 inserted_made rows process sequence i gap = insert_row (λ r. r.0) (λ r. r.1) nat_cmp rows process i gap (process, sequence) refl
@@ -60,6 +67,7 @@ is_positive rows table process v found = each_found nat_cmp (λ n. 0 < n) proces
 
 -- ---- joined tables
 
+-- joining what two tables have with the greater of both, and 0 for nothing, gives the greater
 pub joined-max : (a b : Option ℕ) → unwrap_or (joined_at max a b) 0 ≡ max (unwrap_or a 0) (unwrap_or b 0)
 joined-max None None = refl
 joined-max None (Some y) = omega arith
@@ -80,6 +88,7 @@ joined_above (Some x) (Some y) v pa pb e =
     let is : max x y ≡ v = same_Some (max x y) v e in
     omega (arith, above, is)
 
+-- rows with the greater of two tables' sequences at each process are a table
 pub IsTable-joined : (rows left right : List (ℕ × ℕ)) → IsSorted nat_cmp (sequences rows) → IsTable left → IsTable right
     → ((process : ℕ) → find nat_cmp process (sequences rows)
     ≡ joined_at max (find nat_cmp process (sequences left)) (find nat_cmp process (sequences right))) → IsTable rows
@@ -93,6 +102,7 @@ IsTable-joined rows left right sorted tl tr values = record {
 
 -- ---- the rows show the map
 
+-- the order of rows by process is strict
 pub HasLowerProcess-strict : IsStrictOrder HasLowerProcess
 HasLowerProcess-strict = record { irreflexive = λ a lt. omega (arith, lt); transitive = λ a b c lt lu. omega (arith, lt, lu) }
 
@@ -127,6 +137,7 @@ some_from : (o : Option ℕ) (v : ℕ) → 0 < v → unwrap_or o 0 ≡ v → o �
 some_from None v above e = absurd (omega (arith, above, e))
 some_from (Some x) v above e = ap (λ (w : ℕ). Some w) e
 
+-- the rows of a table list each process's sequence, by process
 pub rows_listed : (rows : List (ℕ × ℕ)) → IsTable rows → Lists HasLowerProcess (HasSequence rows) rows
 rows_listed rows table = record {
   rising = rows_rising rows table.sorted;

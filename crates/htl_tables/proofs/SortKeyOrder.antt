@@ -1,4 +1,4 @@
--- The order of sort keys: of one handle the later event's comes first, and of one sequence the first of the list.
+-- In the order of sort keys, of one handle the later event's key comes first, and of one sequence the first of the list.
 use Rattle.std.proofs.Common.{◌≡◌, ℕ, ◌<◌, ◌≤◌, true, false, List, get_or, Some, ap, ◌⊎◌, arith, slice_get, IsSorted}
 use Rattle.std.specs.Ordering.{is_lt}
 use Rattle.std.specs.Cmp.{IsTotalOrder, tied_itself}
@@ -19,6 +19,7 @@ pub no_later-trans : (a b c : SortKey) → is_lt (sort_key_cmp a b) ≡ false �
     → is_lt (sort_key_cmp a c) ≡ false
 no_later-trans a b c ab bc = (ranks_by sort_key_total (λ (x : SortKey). x)).chain a b c ab bc
 
+-- a sort key comes no later than itself
 pub no_later-same : (k : SortKey) → is_lt (sort_key_cmp k k) ≡ false
 no_later-same k = ap is_lt (tied_itself sort_key_total k)
 

@@ -1,4 +1,4 @@
--- The rows of a table and what it has at its keys.
+-- The rows of a table are the events that it has at its keys.
 use Rattle.std.proofs.Common.{◌≡◌, ℕ, suc, List, [], ◌∷◌, Option, Some, None, refl, sym, inl, inr, arith, nat_lt, T}
 use Rattle.std.specs.Prelude.{Contains}
 use Rattle.std.specs.List.{AllByRecursion}
@@ -50,6 +50,7 @@ found_row (row ∷ rows) process base e found =
       | inr f ↦ let there = found_row rows process base e (rw f at found) in (suc there.0, omega (arith, there.1), there.2)
     ]
 
+-- the rows of a sorted table list the events that it has, by process and base handle
 pub rows_listed : (rows : List Event) → IsSorted key_cmp (keyed rows) → Lists ByKey (HasEvent rows) rows
 rows_listed rows sorted = record {
   rising = rows_rising rows sorted;

@@ -30,11 +30,11 @@ module _ {X : Type 0} (events_of : X → List Event) (lists : List X) (test : Ev
   abbrev pub HaveFirstKeys : ℕ → List Event → Type 0
   HaveFirstKeys n rows = (process base : ℕ) → FirstKeyIs process base n (event_at rows process base)
 
--- the keys are those that stand among all from place n on
+-- each of the keys stands among all of them, the first one at place n
 abbrev pub StandFrom : List SortKey → ℕ → List SortKey → Type 0
 StandFrom all n keys = (i : ℕ) (k : SortKey) → slice_get keys i ≡ Some k → slice_get all (n + i) ≡ Some k
 
--- Whatever candidates the keys stand among: where the first of them had been noted, up to these keys, these are, too.
+-- The keys were noted, whatever candidates they stand among: a table that had the events of those before them now has theirs, too.
 abbrev pub NotesKeys : {X : Type 0} → (X → List Event) → List X → (Event → Bool) → List SortKey → List Event → List Event → Type 0
 NotesKeys events_of lists test keys old new = (all : List SortKey) (n : ℕ) → AreCandidates events_of lists test all
     → IsSorted sort_key_cmp all → StandFrom all n keys → HaveFirstKeys events_of lists test all n old

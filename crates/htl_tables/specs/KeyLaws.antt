@@ -1,4 +1,4 @@
--- Keys that tie are equal, which a list of rows by key owes.
+-- Keys that compare as equal are equal, as the order of a list's rows has to show.
 use Rattle.std.specs.Prelude.{◌≡◌, ℕ, refl}
 use Rattle.std.specs.Ordering.{nat_cmp, ordering_then}
 use Rattle.std.specs.FinMap.{nat_cmp-IsAntisymmetric}
@@ -12,7 +12,7 @@ both_tied Less s e = cc
 both_tied Equal s e = (refl, e)
 both_tied Greater s e = cc
 
--- keys that tie are equal
+-- keys that compare as equal are equal
 pub key_cmp-equal : (x y : ℕ × ℕ) → key_cmp x y ≡ Equal → x ≡ y
 key_cmp-equal x y e =
     let ties = both_tied (nat_cmp x.0 y.0) (nat_cmp x.1 y.1) e in

@@ -1,4 +1,4 @@
--- Which rows a table of greatest sequences may have, and which it is made of.
+-- Which rows a table of greatest sequences may have, and of which rows it is made.
 use Rattle.std.specs.Prelude.{◌≡◌, ℕ, ◌<◌, List}
 use Rattle.std.specs.Ordering.{nat_cmp}
 use Rattle.htl_sorted.specs.Entries.{IsSorted, Each}

@@ -1,5 +1,5 @@
--- The sort keys of events that open or close a handle: by handle, of one handle the latest first, and of
--- one sequence the first of the list.
+-- The sort keys of events that open or close a handle, in the order of handles. Of one handle the latest event comes first,
+-- and of events with one sequence the first of the list.
 use Rattle.std.specs.Prelude.{◌≡◌, ℕ, ◌⊎◌, Bool, true, false, List, Some, Contains, slice_get}
 use Rattle.std.specs.Borrow.{Bor}
 use Rattle.std.specs.Ordering.{is_lt}
@@ -34,7 +34,7 @@ pub record IsKeyIn {X : Type 0} (events_of : X → List Event) (lists : List X) 
 abbrev pub AreKeysIn : {X : Type 0} → (X → List Event) → List X → (Event → Bool) → List SortKey → Type 0
 AreKeysIn events_of lists test keys = (k : SortKey) → Contains keys k → IsKeyIn events_of lists test k
 
--- one of the keys is of the same handle and comes no later
+-- the key is met: one of the keys is of the same handle and comes no later
 pub record IsMet (keys : List SortKey) (k : SortKey) : Type 0 where
   pub key : SortKey
   pub here : Contains keys key
@@ -42,7 +42,7 @@ pub record IsMet (keys : List SortKey) (k : SortKey) : Type 0 where
   pub base : key.base ≡ k.base
   pub order : is_lt (sort_key_cmp k key) ≡ false
 
--- the keys are of events of the lists that pass the test, and meet each of these
+-- the keys are those of events of the lists that pass the test, and the key of each such event is met
 pub record AreCandidates {X : Type 0} (events_of : X → List Event) (lists : List X) (test : Event → Bool) (keys : List SortKey)
     : Type 0 where
   pub each : AreKeysIn events_of lists test keys
@@ -55,7 +55,8 @@ pub record IsKeyAt (r : ℕ) (events : List Event) (test : Event → Bool) (k : 
   pub passes : test event ≡ true
   pub is : k ≡ sort_key_of event r k.index
 
--- the keys of one list's events that pass the test came to the old ones, or in their places
+-- The events of one list that pass the test were gathered: each key is an old one or one of theirs, all that was met still is, and the
+-- keys of all these events are.
 pub record Gathers (r : ℕ) (events : List Event) (test : Event → Bool) (old new : List SortKey) : Type 0 where
   pub each : (k : SortKey) → Contains new k → Contains old k ⊎ IsKeyAt r events test k
   pub met : (k : SortKey) → IsMet old k → IsMet new k
@@ -68,7 +69,7 @@ pub record IsPlaceOf (keys : List SortKey) (k : SortKey) (place : ℕ) : Type 0 
   pub process : key.process ≡ k.process
   pub base : key.base ≡ k.base
 
--- the key came to the old ones, in the place of one of its handle that comes later, or one of them meets it
+-- The key was offered: each key is an old one or this one, all that was met still is, and so is this key.
 pub record Offers (k : SortKey) (old new : List SortKey) : Type 0 where
   pub each : (u : SortKey) → Contains new u → Contains old u ⊎ (k ≡ u)
   pub met : (u : SortKey) → IsMet old u → IsMet new u

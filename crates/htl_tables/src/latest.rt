@@ -119,9 +119,9 @@ impl<A: Allocator> Latest<A> {
 
 impl<A: Allocator + Clone> Latest<A> {
     ghost use Rattle.std.specs.Prelude.{◌≡◌, ◌≢◌, ◌==◌, ◌<◌, ℕ, [], None, Ok, OnOk, IfOk, Contains};
-    ghost use Rattle.std.specs.Prelude.{filter, flat_map, length, IsSorted};
+    ghost use Rattle.std.specs.Prelude.{filter, flat_map, fold, length, map, IsSorted};
     ghost use Rattle.htl_event.specs.Handles.{LatestIs, later};
-    ghost use Rattle.htl_tables.specs.Latest.{event_at, noted};
+    ghost use Rattle.htl_tables.specs.Latest.{event_at, noted, with_event};
     ghost use Rattle.htl_tables.specs.OfProcess.{noted_of, touches};
     ghost use Rattle.htl_tables.specs.SortKeys.{sort_key_cmp, AreCandidates, AreKeysIn};
     ghost use Rattle.htl_tables.specs.FirstKeys.{HaveFirstKeys, NotesKeys};
@@ -243,7 +243,7 @@ impl<A: Allocator + Clone> Latest<A> {
         Ok(())
     }
 
-    /// Notes the events of these sort keys, block by block.
+    /// Notes the events of these sort keys. Those of a block of keys are read together.
     fn note_keys<R: EventList>(
         &mut self,
         keys: &[SortKey],
@@ -254,29 +254,21 @@ impl<A: Allocator + Clone> Latest<A> {
         ensures { OnOk result (NotesKeys R.events_of lists.now (touches chosen) keys.now
             self.old self.new) }
     {
-        let mut noted = 0;
-        while noted < keys.len() {
-            let end = noted.saturating_add(BLOCK).min(keys.len());
-            self.note_block(&keys[noted..end], lists, chosen)?;
-            noted = end;
+        for block in keys.chunks(BLOCK) {
+            let alloc = self.rows.allocator().clone()?;
+            let events = events_of(alloc, block, lists, chosen)?;
+            self.note_each(&events)?;
         }
         Ok(())
     }
 
-    /// Notes the events of one block of sort keys, which are read together.
-    fn note_block<R: EventList>(
-        &mut self,
-        keys: &[SortKey],
-        lists: &[R],
-        chosen: Option<u32>,
-    ) -> Result<(), NoMemory>
-        requires { AreKeysIn R.events_of lists.now (touches chosen) keys.now }
-        ensures { OnOk result (NotesKeys R.events_of lists.now (touches chosen) keys.now
-            self.old self.new) }
+    /// Notes the events, one after the other.
+    fn note_each(&mut self, events: &[&SharedEvent]) -> Result<(), NoMemory>
+        ensures { OnOk result ((process base : ℕ) → event_at self.new process base
+            ≡ fold (with_event process base) (event_at self.old process base)
+            (map (λ e. e.now) events.now)) }
     {
-        let alloc = self.rows.allocator().clone()?;
-        let events = events_of(alloc, keys, lists, chosen)?;
-        for event in &events {
+        for event in events {
             self.note(event)?;
         }
         Ok(())

@@ -16,10 +16,12 @@ use Rattle.htl_taken.proofs.Rising.{Rises-member}
 
 -- ---- one number more
 
+-- where a number is above the least, the numbers between are a gap before it
 pub gaps-before : (p least n : ℕ) (ns : List ℕ) → least < n
     → gaps_from p least (n ∷ ns) ≡ Between p least (n - 1) ∷ gaps_from p (n + 1) ns
 gaps-before p least n ns lt = rw (lt-ltb least n lt) refl
 
+-- where a number isn't above the least, no gap is before it
 pub gaps-next : (p least n : ℕ) (ns : List ℕ) → n ≤ least → gaps_from p least (n ∷ ns) ≡ gaps_from p (n + 1) ns
 gaps-next p least n ns le = rw (le-ltb least n le) refl
 

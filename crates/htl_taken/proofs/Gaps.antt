@@ -7,6 +7,7 @@ use Rattle.htl_taken.specs.declared.gap.Gap.{Gap}
 use Rattle.htl_taken.specs.declared.gap.Gap.TheVariants.{Between, Absent}
 use Rattle.htl_taken.specs.Gaps.{IsMissingRun, IsGap, IsGapBefore, IsGaps, GapsAreDetermined}
 
+-- the order of gaps, by processor and then by number, is strict
 pub IsGapBefore-strict : IsStrictOrder IsGapBefore
 IsGapBefore-strict = record {
   irreflexive = λ x h. elim h [ inl l ↦ omega (arith, l) | inr r ↦ let lt = r.1 in omega (arith, lt) ];
@@ -51,6 +52,7 @@ gaps_agree has had processors gaps same listed = record {
   );
 }
 
+-- the gaps of a key set are one list, and sets with the same keys have the same
 pub gaps_are_determined : GapsAreDetermined
 gaps_are_determined S R processors a b same listed other =
     let agree : (p n : ℕ) → p < processors → (S p n ≡ true) ↔ (R p n ≡ true) =

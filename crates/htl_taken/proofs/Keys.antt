@@ -1,4 +1,4 @@
--- Tests of keys, each with its decision, and equal tests from facts that hold together.
+-- Tests of keys decide which keys a set has, and tests of facts that hold together are equal.
 use Rattle.std.proofs.Common.{◌≡◌, ℕ, ◌==◌, ◌&&◌, Bool, true, false, not, List, [], ◌∷◌, refl, sym, inl, inr, ◌⊎◌}
 use Rattle.std.specs.Prelude.{Contains, ◌↔◌, ◌||◌}
 use Rattle.std.specs.Bool.{Decides}
@@ -29,9 +29,11 @@ has_list n (m ∷ ns) h =
       ])
     ]
 
+-- the test of a number passes exactly where it is taken
 pub has_number-decides : (q : Numbers) (n : ℕ) → Decides (has_number q n) (Has q n)
 has_number-decides q n = Decides-or _ _ (Decides-ltb n q.front) (list_has n q.loose, has_list n q.loose)
 
+-- the test of a key passes exactly where its processor has its number
 pub has_key-decides : (taken : List Numbers) (p n : ℕ) → Decides (has_key taken p n) (Has (numbers_at taken p) n)
 has_key-decides taken p n = has_number-decides (numbers_at taken p) n
 
@@ -39,21 +41,25 @@ has_key-decides taken p n = has_number-decides (numbers_at taken p) n
 pub same_tests : {P Q : Type 0} (a b : Bool) → Decides a P → Decides b Q → P ↔ Q → a ≡ b
 same_tests a b da db both = same_from_decides a b (Decides-like a both.0 both.1 da) db
 
+-- the test of a key fails where its processor doesn't have its number
 pub absent_key : (taken : List Numbers) (p n : ℕ) → (Has (numbers_at taken p) n → ⊥) → has_key taken p n ≡ false
 absent_key taken p n absent =
     elim (cases_Bool (has_key taken p n)) [ inl t ↦ absurd (absent ((has_key-decides taken p n).0 t)) | inr f ↦ f ]
 
+-- where one number more of one processor is taken, just one key more passes
 pub key_inserted : (old new : List Numbers) (p n q m : ℕ) → Has (numbers_at new q) m ↔ (Has (numbers_at old q) m ⊎ ((q ≡ p) × (m ≡ n)))
     → has_key new q m ≡ (has_key old q m || (q == p && m == n))
 key_inserted old new p n q m both =
     same_tests _ _ (has_key-decides new q m)
     (Decides-or _ _ (has_key-decides old q m) (Decides-and _ _ (Decides-eqb q p) (Decides-eqb m n))) both
 
+-- where a processor has the numbers of both sets, the keys of both pass
 pub key_united : (a b c : List Numbers) (p n : ℕ) → Has (numbers_at c p) n ↔ (Has (numbers_at a p) n ⊎ Has (numbers_at b p) n)
     → has_key c p n ≡ (has_key a p n || has_key b p n)
 key_united a b c p n both =
     same_tests _ _ (has_key-decides c p n) (Decides-or _ _ (has_key-decides a p n) (has_key-decides b p n)) both
 
+-- where a processor has the same numbers, the same keys pass
 pub key_kept : (a b : List Numbers) (p n : ℕ) → Has (numbers_at a p) n ↔ Has (numbers_at b p) n → has_key a p n ≡ has_key b p n
 key_kept a b p n both = same_tests _ _ (has_key-decides a p n) (has_key-decides b p n) both
 
@@ -61,9 +67,11 @@ key_kept a b p n both = same_tests _ _ (has_key-decides a p n) (has_key-decides 
 abbrev pub KeysWithin : List Numbers → List Numbers → Type 0
 KeysWithin a b = (p n : ℕ) → has_key a p n ≡ true → has_key b p n ≡ true
 
+-- where a set has all numbers of another, the other's keys pass there
 pub keys_within : (a b : List Numbers) → ((p n : ℕ) → Has (numbers_at a p) n → Has (numbers_at b p) n) → KeysWithin a b
 keys_within a b within p n t = (has_key-decides b p n).1 (within p n ((has_key-decides a p n).0 t))
 
+-- where a set passes all keys of another, it has all of the other's numbers
 pub within_keys : (a b : List Numbers) → KeysWithin a b → (p n : ℕ) → Has (numbers_at a p) n → Has (numbers_at b p) n
 within_keys a b within p n h = (has_key-decides b p n).0 (within p n ((has_key-decides a p n).1 h))
 

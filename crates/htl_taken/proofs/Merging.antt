@@ -1,4 +1,4 @@
--- Two rising lists merged into one.
+-- Two rising lists merged into one give a rising list with the numbers of both.
 use Rattle.std.proofs.Common.{◌≡◌, ℕ, ◌+◌, ◌<◌, ◌≤◌, List, [], ◌∷◌, ◌++◌, refl, sym, ap, ◌∙◌, subst, append-nil, arith, inl, inr, ◌⊎◌}
 use Rattle.std.specs.Prelude.{Contains}
 use Rattle.std.proofs.lemmas.Bool.{cases_lt, lt-ltb, le-ltb}
@@ -40,6 +40,7 @@ rises_with high x xs rest low (z ∷ zs) le r rz =
       ]
     ]
 
+-- the merge of two rising lists rises
 pub Rises-merged : (low high : ℕ) (xs ys : List ℕ) → Rises low high xs → Rises low high ys → Rises low high (merged xs ys)
 Rises-merged low high [] ys rx ry = ry
 Rises-merged low high (x ∷ xs) ys rx ry = rises_with high x xs (λ zs. Rises-merged (x + 1) high xs zs rx.1) low ys rx.0 rx.1 ry
@@ -64,6 +65,7 @@ left_with n x xs rest h (z ∷ zs) =
       ]
     ]
 
+-- the merge has each number of the first list
 pub Contains-merged_left : (xs ys : List ℕ) (n : ℕ) → Contains xs n → Contains (merged xs ys) n
 Contains-merged_left [] ys n h = absurd (Contains-nil n h)
 Contains-merged_left (x ∷ xs) ys n h = left_with n x xs (λ zs. Contains-merged_left xs zs n) h ys
@@ -88,6 +90,7 @@ right_with n x xs rest (z ∷ zs) h =
       ]
     ]
 
+-- the merge has each number of the second list
 pub Contains-merged_right : (xs ys : List ℕ) (n : ℕ) → Contains ys n → Contains (merged xs ys) n
 Contains-merged_right [] ys n h = h
 Contains-merged_right (x ∷ xs) ys n h = right_with n x xs (λ zs. Contains-merged_right xs zs n) ys h
@@ -115,6 +118,7 @@ from_with n x xs rest (z ∷ zs) h =
       ]
     ]
 
+-- each number of the merge is in one of the lists
 pub Contains-from_merged : (xs ys : List ℕ) (n : ℕ) → Contains (merged xs ys) n → Contains xs n ⊎ Contains ys n
 Contains-from_merged [] ys n h = inr h
 Contains-from_merged (x ∷ xs) ys n h = from_with n x xs (λ zs. Contains-from_merged xs zs n) ys h

@@ -1,4 +1,4 @@
--- The sets of a set, as places.
+-- The numbers of each processor stand at its place in a set, and what a place gains or loses the set does.
 use Rattle.std.proofs.Common.{◌≡◌, ℕ, zero, suc, ◌+◌, ◌<◌, ◌≤◌, List, [], ◌∷◌, ◌++◌, map, length}
 use Rattle.std.proofs.Common.{get_or, slice_set, arith, refl, sym, ap, ◌∙◌, subst, inl, inr, ◌⊎◌, ext_get_or}
 use Rattle.std.specs.Prelude.{◌↔◌}
@@ -12,6 +12,7 @@ use Rattle.htl_taken.specs.NumberSets.{numbers_of}
 use Rattle.htl_event.proofs.Members.{Contains-nil}
 use Rattle.htl_taken.proofs.Numbers.{IsUnion-merged, Has-with_loose, Has-settled}
 
+-- a processor of an empty set has proper numbers: none
 pub IsProper-no_numbers : (p : ℕ) → IsProper (numbers_at [] p)
 IsProper-no_numbers p = record { rises = omega arith }
 
@@ -21,6 +22,7 @@ IsProper-sets [] p = IsProper-no_numbers p
 IsProper-sets (r ∷ sets) zero = record { rises = r.proper }
 IsProper-sets (r ∷ sets) (suc p) = IsProper-sets sets p
 
+-- the numbers at a processor are those of the number set at its place
 pub numbers_at-set : {A : Type 0} (sets : List (NumberSet A)) (p : ℕ) (r : NumberSet A) → p < length sets → r ≡ get_or sets p r
     → numbers_at (map numbers_of sets) p ≡ numbers_of r
 numbers_at-set sets p r lt is = get_or-map numbers_of sets p r no_numbers lt ∙ ap numbers_of (sym is)
@@ -30,17 +32,21 @@ pub numbers_at-view : {A : Type 0} (sets : List (NumberSet A)) (ps : List Number
     → (p : ℕ) (r : NumberSet A) → p < length sets → r ≡ get_or sets p r → numbers_at ps p ≡ numbers_of r
 numbers_at-view sets ps view p r lt is = rw (← view) (numbers_at-set sets p r lt is)
 
+-- in the view of a set, the numbers at a processor are those of the item at its place
 pub numbers_at-item : {A : Type 0} (sets items : List (NumberSet A)) (ps : List Numbers) → map numbers_of sets ≡ ps → items ≡ sets
     → (p : ℕ) (r : NumberSet A) → p < length items → r ≡ get_or items p r → numbers_at ps p ≡ numbers_of r
 numbers_at-item {A} sets items ps view same p r lt is =
     numbers_at-view items ps (ap (λ (rs : List (NumberSet A)). map numbers_of rs) same ∙ view) p r lt is
 
+-- a set's view has as many places as the set
 pub length-view : {A : Type 0} (sets : List (NumberSet A)) (ps : List Numbers) → map numbers_of sets ≡ ps → length ps ≡ length sets
 length-view sets ps view = rw (← view) (length-map sets numbers_of)
 
+-- a processor beyond the last place has no numbers
 pub numbers_at-past : (ps : List Numbers) (p : ℕ) → length ps ≤ p → numbers_at ps p ≡ no_numbers
 numbers_at-past ps p le = get_or_past ps p no_numbers le
 
+-- a processor whose place was set has what it was set to
 pub numbers_at-set_same : (ps : List Numbers) (p : ℕ) (q : Numbers) → p < length ps → numbers_at (slice_set ps p q) p ≡ q
 numbers_at-set_same ps p q lt = get_or-set_same ps p q no_numbers lt
 
@@ -58,10 +64,12 @@ IsUnion-past a b c p la lb lc =
     rw (numbers_at-past a p la, numbers_at-past b p lb, numbers_at-past c p lc)
     (IsUnion-merged no_numbers no_numbers 0 [] (IsProper-no_numbers p) (IsProper-no_numbers p) refl refl)
 
+-- setting one place of the sets sets that place of their view
 pub sets_set : {A : Type 0} (sets : List (NumberSet A)) (p : ℕ) (r : NumberSet A) (q : Numbers) → numbers_of r ≡ q
     → map numbers_of (slice_set sets p r) ≡ slice_set (map numbers_of sets) p q
 sets_set sets p r q e = map-set numbers_of sets p r ∙ ap (λ (x : Numbers). slice_set (map numbers_of sets) p x) e
 
+-- setting a place to what is there keeps the view
 pub sets_kept : {A : Type 0} (sets : List (NumberSet A)) (p : ℕ) (r : NumberSet A) → numbers_of r ≡ numbers_at (map numbers_of sets) p
     → map numbers_of (slice_set sets p r) ≡ map numbers_of sets
 sets_kept sets p r e = sets_set sets p r (numbers_at (map numbers_of sets) p) e ∙ set-get_or (map numbers_of sets) p no_numbers

@@ -1,4 +1,4 @@
--- Fronts and loose numbers of one processor.
+-- The numbers of one processor, a front and loose ones, stay proper where one is added, where they settle and where two are united.
 use Rattle.std.proofs.Common.{◌≡◌, ℕ, zero, suc, ◌+◌, ◌-◌, ◌<◌, ◌≤◌, max, List, []}
 use Rattle.std.proofs.Common.{◌∷◌, drop, refl, sym, ap, ◌∙◌, subst, arith, inl, inr, ◌⊎◌}
 use Rattle.std.specs.Prelude.{Contains, ◌↔◌, filter, nat_le}
@@ -16,6 +16,7 @@ use Rattle.htl_taken.proofs.Reaching.{reach_from-ge, reach_absent, before_reach,
 
 -- ---- one place
 
+-- numbers with the same front and the same loose ones are equal
 pub same_numbers : (q r : Numbers) → q.front ≡ r.front → q.loose ≡ r.loose → q ≡ r
 same_numbers q r f l =
     let one : q ≡ record { front = r.front; loose = q.loose } = ap (λ (n : ℕ). record { front = n; loose = q.loose }) f in
@@ -62,6 +63,7 @@ module _ (q : Numbers) where
   pub settled-drop : IsProper q → drop (reach_of q - q.front) q.loose ≡ (settled q).loose
   settled-drop proper = kept_loose q.front MAX_FRONT k (reach_of q) q.loose proper.rises reaches refl
 
+  -- proper numbers stay proper when they settle
   pub IsProper-settled : IsProper q → IsProper (settled q)
   IsProper-settled proper = record {
     rises = rw (← settled-drop proper) (subst (λ (n : ℕ). Rises n MAX_FRONT (drop k q.loose)) reaches
@@ -78,6 +80,7 @@ module _ (q : Numbers) where
   Has-before_reach n lt =
       elim (cases_lt n q.front) [ inl below ↦ inl below | inr le ↦ inr (before_reach q.front q.loose n le lt) ]
 
+  -- settling keeps which numbers are taken
   pub Has-settled : (m : ℕ) → Has (settled q) m ↔ Has q m
   Has-settled m = (
     (λ h. elim h [
@@ -95,10 +98,12 @@ module _ (q : Numbers) where
 
 -- ---- a number more
 
+-- proper numbers stay so with one loose number more, which isn't there yet and has room for a front above it
 pub IsProper-with_loose : (q : Numbers) (n : ℕ) → IsProper q → q.front ≤ n → n < MAX_FRONT → (Contains q.loose n → ⊥)
     → IsProper (with_loose q n)
 IsProper-with_loose q n proper le lt new = record { rises = Rises-insert q.front MAX_FRONT n q.loose proper.rises le lt new }
 
+-- with one loose number more, this number is taken and no other more
 pub Has-with_loose : (q : Numbers) (n m : ℕ) → Has (with_loose q n) m ↔ (Has q m ⊎ (m ≡ n))
 Has-with_loose q n m = (
   (λ h. elim h [
@@ -140,6 +145,7 @@ IsUnion-merged a b front loose pa pb greater is =
       );
     })
 
+-- a union has the numbers of both
 pub Has-union : (a b c : Numbers) → IsUnion a b c → (n : ℕ) → Has c n ↔ (Has a n ⊎ Has b n)
 Has-union a b c u n = (λ h. from h, λ h. elim h [ inl x ↦ into_left x | inr y ↦ into_right y ]) where
   from : Has c n → Has a n ⊎ Has b n
@@ -166,6 +172,7 @@ covers_by a b pa pb le within n (inr h) =
       | inr ge ↦ inr (within n (Contains-from_gap b.front MAX_FRONT a.front b.loose pb.rises n h ge))
     ]
 
+-- where all numbers of another set are taken, its front is no higher than the reach
 pub reach_covered : (a b : Numbers) → IsProper a → ((n : ℕ) → Has b n → Has a n) → b.front ≤ reach_of a
 reach_covered a b pa covered =
     elim (cases_lt (reach_of a) b.front) [
@@ -173,6 +180,7 @@ reach_covered a b pa covered =
       | inr le ↦ le
     ]
 
+-- where all numbers of another set are taken, its loose ones at or above the front are loose here
 pub loose_covered : (a b : Numbers) → IsProper a → IsProper b → ((n : ℕ) → Has b n → Has a n)
     → (n : ℕ) → Contains (drop (gap_of a.front b.loose) b.loose) n → Contains a.loose n
 loose_covered a b pa pb covered n h =

@@ -1,4 +1,4 @@
--- The least number that a rising list doesn't have.
+-- The reach is the least number that a rising list doesn't have.
 use Rattle.std.proofs.Common.{◌≡◌, ℕ, zero, suc, ◌+◌, ◌<◌, ◌≤◌, List, [], ◌∷◌, length, drop, refl, sym, ap, ◌∙◌, subst, arith, inl, inr}
 use Rattle.std.specs.Prelude.{Contains}
 use Rattle.std.proofs.lemmas.Bool.{cases_eq, eq-eqb, ne_eqb}
@@ -7,12 +7,15 @@ use Rattle.htl_event.proofs.Members.{Contains-there, Contains-cases, Contains-ni
 use Rattle.htl_taken.proofs.Members.{Contains-head}
 use Rattle.htl_taken.proofs.Rising.{Rises-member}
 
+-- where a list begins with the number itself, the reach is that from the next number on
 pub reach-next : (n m : ℕ) (ms : List ℕ) → m ≡ n → reach_from n (m ∷ ms) ≡ reach_from (n + 1) ms
 reach-next n m ms e = rw (eq-eqb m n e) refl
 
+-- where a list begins with another number, the reach is the number itself
 pub reach-stop : (n m : ℕ) (ms : List ℕ) → (m ≡ n → ⊥) → reach_from n (m ∷ ms) ≡ n
 reach-stop n m ms ne = rw (ne_eqb m n ne) refl
 
+-- the reach isn't below the number that it is sought from
 pub reach_from-ge : (n : ℕ) (ms : List ℕ) → n ≤ reach_from n ms
 reach_from-ge n [] = omega arith
 reach_from-ge n (m ∷ ms) =
@@ -21,6 +24,7 @@ reach_from-ge n (m ∷ ms) =
       | inr ne ↦ rw (reach-stop n m ms ne) (omega arith)
     ]
 
+-- the reach is no further on than the list is long
 pub reach_from-le : (n : ℕ) (ms : List ℕ) → reach_from n ms ≤ n + length ms
 reach_from-le n [] = omega arith
 reach_from-le n (m ∷ ms) =

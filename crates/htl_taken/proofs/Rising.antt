@@ -1,4 +1,4 @@
--- Lists of numbers in strictly rising order.
+-- A list of numbers that strictly rises has each number once, in bounds, and can be searched.
 use Rattle.std.proofs.Common.{◌≡◌, ℕ, zero, suc, ◌+◌, ◌<◌, ◌≤◌, List, [], ◌∷◌, length, get_or, drop, insert, refl, ap, arith, inl, inr}
 use Rattle.std.specs.Prelude.{Contains}
 use Rattle.std.proofs.lemmas.List.{drop_more}
@@ -19,6 +19,7 @@ pub length-Rises : (low high : ℕ) (xs : List ℕ) → Rises low high xs → lo
 length-Rises low high [] r = omega (arith, r)
 length-Rises low high (x ∷ xs) r = let up = r.0 in let rest = length-Rises (x + 1) high xs r.1 in omega (arith, rest, up)
 
+-- each number of a rising list is within its bounds
 pub Rises-member : (low high : ℕ) (xs : List ℕ) (n : ℕ) → Rises low high xs → Contains xs n → (low ≤ n) × (n < high)
 Rises-member low high [] n r h = absurd (Contains-nil n h)
 Rises-member low high (x ∷ xs) n r h =
@@ -34,6 +35,7 @@ next_below low high xs i r lt =
     (Rises-member low high (drop i xs) (get_or xs i 0) r
     (rw (drop_more xs i 0 lt) (Contains-here (get_or xs i 0) (drop (i + 1) xs)))).1
 
+-- of two places in a rising list, the later has the greater number
 pub Rises-below : (low high : ℕ) (xs : List ℕ) → Rises low high xs → (i j : ℕ) → i < j → j < length xs → get_or xs i 0 < get_or xs j 0
 Rises-below low high [] r i j lt in_range = omega (arith, in_range)
 Rises-below low high (x ∷ xs) r zero zero lt in_range = omega (arith, lt)
@@ -44,6 +46,7 @@ Rises-below low high (x ∷ xs) r zero (suc j) lt in_range =
 Rises-below low high (x ∷ xs) r (suc i) zero lt in_range = omega (arith, lt)
 Rises-below low high (x ∷ xs) r (suc i) (suc j) lt in_range = Rises-below (x + 1) high xs r.1 i j (omega arith) (omega arith)
 
+-- a later place of a rising list has no lesser number
 pub Rises-ordered : (low high : ℕ) (xs : List ℕ) → Rises low high xs → (i j : ℕ) → i ≤ j → j < length xs → get_or xs i 0 ≤ get_or xs j 0
 Rises-ordered low high xs r i j le in_range =
     elim (cases_eq i j) [
@@ -67,6 +70,7 @@ gap-skip n x xs lt = rw (lt-ltb x n lt) refl
 gap-stop : (n x : ℕ) (xs : List ℕ) → n ≤ x → gap_of n (x ∷ xs) ≡ 0
 gap-stop n x xs le = rw (le-ltb x n le) refl
 
+-- a number's gap isn't beyond the end of the list
 pub gap_within : (n : ℕ) (xs : List ℕ) → gap_of n xs ≤ length xs
 gap_within n [] = omega arith
 gap_within n (x ∷ xs) =
@@ -98,6 +102,7 @@ Rises-from_gap low high n (x ∷ xs) r le =
       | inr above ↦ rw (gap-stop n x xs above) (above, r.1)
     ]
 
+-- each number of the list at or above n is in what is left from the gap of n on
 pub Contains-from_gap : (low high n : ℕ) (xs : List ℕ) → Rises low high xs → (m : ℕ) → Contains xs m → n ≤ m
     → Contains (drop (gap_of n xs) xs) m
 Contains-from_gap low high n [] r m h le = h
@@ -122,6 +127,7 @@ in_order low high (x ∷ xs) r = (
   in_order (x + 1) high xs r.1,
 )
 
+-- two rising lists with the same members are equal
 pub Rises-same : (low lower high : ℕ) (xs ys : List ℕ) → Rises low high xs → Rises lower high ys
     → ((n : ℕ) → Contains xs n → Contains ys n) → ((n : ℕ) → Contains ys n → Contains xs n) → xs ≡ ys
 Rises-same low lower high xs ys rx ry f g = same_members ◌<◌ below_strict xs ys (in_order low high xs rx) (in_order lower high ys ry) f g

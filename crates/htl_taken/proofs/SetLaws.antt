@@ -1,4 +1,4 @@
--- The laws of sets of taken segments.
+-- The laws of sets of taken segments hold: of unions, of settled sets and of sizes.
 use Rattle.std.proofs.Common.{◌≡◌, ◌+◌, ◌<◌, ◌≤◌, ℕ, zero, suc, List, ◌++◌, length}
 use Rattle.std.proofs.Common.{sym, ap, ◌∙◌, subst, arith, inl, inr, length-append, add-zero, Contains}
 use Rattle.std.specs.List.{range_with_len}
@@ -19,6 +19,7 @@ use Rattle.htl_taken.proofs.Numbers.{numbers_by, reach_least, Has-before_reach, 
 use Rattle.htl_taken.proofs.Keys.{has_number-decides, key_united, within_keys}
 use Rattle.htl_taken.proofs.NumberSets.{numbers_same}
 
+-- the segments of a union are those of both sets
 pub unites_keys : UnitesKeys
 unites_keys a b c u p n = key_united a b c p n (Has-union (numbers_at a p) (numbers_at b p) (numbers_at c p) (u.each p) n)
 
@@ -32,6 +33,7 @@ same_by_swap a b c d u v =
     (λ n h. let r = (u.loose n).0 h in (v.loose n).1 (let le = r.0 in omega (arith, le, e), elim r.1 [ inl x ↦ inr x | inr y ↦ inl y ]))
     (λ n h. let r = (v.loose n).0 h in (u.loose n).1 (let le = r.0 in omega (arith, le, e), elim r.1 [ inl x ↦ inr x | inr y ↦ inl y ]))
 
+-- the union of two sets is one either way round
 pub commutative : IsUnionCommutative
 commutative a b ab ba len u v =
     numbers_same ab ba (u.len ∙ len ∙ sym v.len)
@@ -63,6 +65,7 @@ same_by_grouping a b c ab bc l r uab ubc ul ur =
       ],
     ))
 
+-- the union of three sets is one, whichever two are united first
 pub associative : IsUnionAssociative
 associative a b c ab bc l r uab ubc ul ur =
     numbers_same l r (ul.len ∙ uab.len ∙ sym ur.len)
@@ -77,12 +80,14 @@ same_as_itself a c proper u =
     (λ n h. elim ((u.loose n).0 h).1 [ inl x ↦ x | inr y ↦ y ])
     (λ n h. (u.loose n).1 (let up = (Rises-member a.front MAX_FRONT a.loose n proper.rises h).0 in omega (arith, up, e), inl h))
 
+-- the union of a set with itself is that set
 pub idempotent : IsUnionIdempotent
 idempotent a c proper u =
     numbers_same c a u.len (λ p lt. same_as_itself (numbers_at a p) (numbers_at c p) (proper p) (u.each p))
 
 -- ---- settled sets
 
+-- a front that was settled can't move
 pub settles_once : SettlesOnce
 settles_once q proper =
     elim (cases_lt (settled q).front (reach_of (settled q))) [
@@ -113,6 +118,7 @@ determined_at a b pa pb sa sb f g =
     let e : a.front ≡ b.front = omega (arith, le, ge) in
     numbers_by a b pa pb e (loose_within a b pa e f) (loose_within b a pb (sym e) g)
 
+-- settled sets with the same segments are equal
 pub determined : IsDetermined
 determined a b len pa pb sa sb f g =
     numbers_same a b len (λ p lt. determined_at (numbers_at a p) (numbers_at b p) (pa p) (pb p) (sa p) (sb p) (within_keys a b f p)
@@ -135,6 +141,7 @@ in_range a (suc n) m le lt =
       | inr ne ↦ Contains-there a (range_with_len (a + 1) n) m (in_range (a + 1) n m (omega (arith, ne, le)) (omega (arith, lt)))
     ]
 
+-- a processor's size is the length of a rising list of its taken numbers
 pub counts_numbers : CountsNumbers
 counts_numbers q proper =
     let ns = range_with_len 0 q.front ++ q.loose in

@@ -1,4 +1,4 @@
--- Whether each number of one rising list is in another, found by one walk over the other.
+-- One walk over a rising list tells whether each number of another one is in it.
 use Rattle.std.proofs.Common.{◌≡◌, ℕ, ◌+◌, List, [], ◌∷◌, sym, ◌∙◌, subst, arith, inl, inr}
 use Rattle.std.specs.Prelude.{Contains, ◌↔◌}
 use Rattle.std.proofs.lemmas.Bool.{cases_eq, eq-eqb, ne_eqb}
@@ -8,6 +8,7 @@ use Rattle.htl_event.proofs.Members.{Contains-here, Contains-there, Contains-cas
 use Rattle.htl_taken.proofs.Members.{Contains-head}
 use Rattle.htl_taken.proofs.Rising.{Rises-member, Rises-lower}
 
+-- each number of the first list is in the second
 abbrev pub IsSubset : List ℕ → List ℕ → Type 0
 IsSubset xs ys = (n : ℕ) → Contains xs n → Contains ys n
 
@@ -63,6 +64,7 @@ module _ (high : ℕ) (xs ys : List ℕ) where
             ]
       ]) d
 
+  -- past a number of the second list, which the first may begin with, what is left still decides it
   pub Decide-step : (left : List ℕ) (y : ℕ) (rest : List ℕ) → Decide high xs ys left (y ∷ rest)
       → Decide high xs ys (without_head y left) rest
   Decide-step [] y rest d = passed [] y rest (λ here within. Contains-nil y here) d
@@ -76,5 +78,6 @@ module _ (high : ℕ) (xs ys : List ℕ) where
   pub Decide-empty : Decide high xs ys [] [] → IsSubset xs ys
   Decide-empty d = d.same.0 (λ n h. h)
 
+  -- where the second list is used up and a number of the first is left, the first isn't within the second
   pub Decide-left : (x : ℕ) (left : List ℕ) → Decide high xs ys (x ∷ left) [] → IsSubset xs ys → ⊥
   Decide-left x left d all = Contains-nil x (d.same.1 all x (Contains-here x left))

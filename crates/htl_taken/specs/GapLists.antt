@@ -3,12 +3,12 @@ use Rattle.std.specs.Prelude.{ℕ, zero, ◌+◌, ◌-◌, nat_lt, if◌then◌e
 use Rattle.htl_taken.specs.declared.gap.Gap.{Gap}
 use Rattle.htl_taken.specs.declared.gap.Gap.TheVariants.{Between, Absent}
 
--- those before each of the numbers, which rise from a least one on
+-- The gaps before each of these numbers, which rise. The least number that can be missing is given.
 abbrev pub gaps_from : ℕ → ℕ → List ℕ → List Gap
 gaps_from p least [] = []
 gaps_from p least (n ∷ ns) = if nat_lt least n then Between p least (n - 1) ∷ gaps_from p (n + 1) ns else gaps_from p (n + 1) ns
 
--- those of the numbers below a front and of loose ones
+-- the gaps of a processor with this front and these loose numbers
 abbrev pub gaps_of : ℕ → ℕ → List ℕ → List Gap
 gaps_of p zero [] = Absent p ∷ []
 gaps_of p front loose = gaps_from p front loose

@@ -4,8 +4,7 @@ use Rattle.htl_event.specs.Members.{Lists}
 use Rattle.htl_taken.specs.declared.gap.Gap.{Gap}
 use Rattle.htl_taken.specs.declared.gap.Gap.TheVariants.{Between, Absent}
 
--- Longest unbroken run of missing numbers below one that is there: none of them is there, the next one is, and so is the
--- one before, if there is one.
+-- All numbers from the one to the other are missing, and no more: the next number is there, and so is the one before, if there is one.
 pub record IsMissingRun (has : ℕ → Type 0) (from to : ℕ) : Type 0 where
   pub order : from ≤ to
   pub missing : (n : ℕ) → from ≤ n → n ≤ to → has n → ⊥

@@ -1,12 +1,12 @@
--- Two rising lists as one, and a list without its head, as the code makes them.
+-- Two rising lists merged into one, and a list without its first number, as the code makes them.
 use Rattle.std.specs.Prelude.{ℕ, List, [], ◌∷◌, ◌==◌, nat_lt, if◌then◌else◌}
 
--- the list after its head, where that is n
+-- the list without its first number, where that is n
 abbrev pub without_head : ℕ → List ℕ → List ℕ
 without_head n [] = []
 without_head n (x ∷ xs) = if x == n then xs else (x ∷ xs)
 
--- x, put before the greater numbers of the second list, and the rest of the first merged with them
+-- x and the rest of its list merged with another list; the function given merges that rest with what is left of the other
 abbrev pub merged_with : ℕ → (List ℕ → List ℕ) → List ℕ → List ℕ
 merged_with x rest [] = x ∷ rest []
 merged_with x rest (y ∷ ys) =

@@ -1,4 +1,4 @@
--- What the numbers of one processor stand for as the code holds them, and their members as facts.
+-- The numbers of one processor as the code holds them, and which numbers these are.
 use Rattle.std.specs.Prelude.{ℕ, ◌<◌, ◌⊎◌, Contains}
 use Rattle.htl_taken.specs.declared.number_set.NumberSet.{NumberSet}
 use Rattle.htl_taken.specs.Numbers.{Numbers}

@@ -5,7 +5,7 @@ use Rattle.std.specs.List.{list_any}
 use Rattle.htl_taken.specs.declared.TheConstants.{MAX_FRONT}
 use Rattle.htl_taken.specs.Rising.{Rises, gap_of, reach_from}
 
--- those of one processor
+-- the taken numbers of one processor
 pub record Numbers : Type 0 where
   pub front : ℕ
   pub loose : List ℕ
@@ -13,7 +13,7 @@ pub record Numbers : Type 0 where
 abbrev pub no_numbers : Numbers
 no_numbers = record { front = 0; loose = [] }
 
--- those of processor p, none where it isn't there
+-- the taken numbers of processor p, none where there is no such processor
 abbrev pub numbers_at : List Numbers → ℕ → Numbers
 numbers_at taken p = slice_index_or taken p no_numbers
 
@@ -42,15 +42,15 @@ size_of q = q.front + length q.loose
 abbrev pub reach_of : Numbers → ℕ
 reach_of q = reach_from q.front q.loose
 
--- with a loose number more
+-- the numbers with one more loose number
 abbrev pub with_loose : Numbers → ℕ → Numbers
 with_loose q n = record { front = q.front; loose = insert q.loose (gap_of n q.loose) n }
 
--- with the front at the reach, and the loose numbers at or above it
+-- the numbers with the front at the least number that is not taken, and the loose ones at or above it
 abbrev pub settled : Numbers → Numbers
 settled q = record { front = reach_of q; loose = filter (λ n. nat_le (reach_of q) n) q.loose }
 
--- the greater front, and the loose numbers of both at or above it
+-- the union: the greater of both fronts, and the loose numbers of both at or above it
 pub record IsUnion (a b c : Numbers) : Type 0 where
   pub front : c.front ≡ max a.front b.front
   pub proper : IsProper c

@@ -1,4 +1,4 @@
--- That a list rises has one proof. A struct that keeps the fact owes this.
+-- That a list rises has one proof, as a struct that keeps the fact has to show.
 use Rattle.std.specs.Prelude.{ℕ, ◌+◌, List, [], ◌∷◌}
 use Rattle.std.specs.Coded.{×_prop, le_prop}
 use Rattle.htl_taken.specs.Rising.{Rises}

@@ -74,6 +74,7 @@ starts_step line l ls p q h = by_passed (is_skipped (words_of l)) refl h
     by_passed true e h = let same : p ≡ q = same_progress (Ok p) p q refl h in rw (kept_passed l ls e, same) refl
     by_passed false e h = let is = by_item line (item_in (words_of l)) p q h in rw (kept_one l ls e, is.0, is.1) refl
 
+-- once a line of the rest was read, what is being read and the rest still tell whether the whole text begins a segment
 pub starts_on : (whole rest later : List (List ℕ)) (line : List ℕ) (n : ℕ) (p q : Progress) → begins (kept whole) ≡ starts p rest
     → kept rest ≡ kept (line ∷ later) → after_words n (words_of line) p ≡ Ok q → begins (kept whole) ≡ starts q later
 starts_on whole rest later line n p q start cut h =

@@ -1,4 +1,4 @@
--- What lines encode, or else their first fault, is what reading comes to.
+-- What lines encode is what reading them comes to, and else their first fault is.
 use Rattle.std.proofs.Common.{◌≡◌, ◌+◌, ℕ, suc, Bool, true, false, List, [], ◌∷◌, ◌++◌, length, refl, arith, ap, sym, ◌∙◌, length-append, add-zero}
 use Rattle.std.specs.Prelude.{Option, Some, None, Result, Ok, Err, All, map}
 use Rattle.std.specs.List.{flat_map}
@@ -48,15 +48,18 @@ pub record First (l : List ℕ) (ls : List (List ℕ)) (i : Item) (is : List Ite
   pub found : item_in (words_of l) ≡ Ok i
   pub rest : Write ls is
 
+-- the first line, where it isn't skipped, has the first item, and the lines behind it have the others
 pub first_of : (l : List ℕ) (ls : List (List ℕ)) (i : Item) (is : List Item) → is_skipped (words_of l) ≡ false → Write (l ∷ ls) (i ∷ is)
     → First l ls i is
 first_of l ls i is e h =
     let both : item_in (words_of l) ∷ map item_in (kept ls) ≡ Ok i ∷ map Ok is = rw (kept_one l ls e) at h in
     record { found = cc; rest = cc }
 
+-- a line that isn't skipped has an item
 pub none_of : (l : List ℕ) (ls : List (List ℕ)) → is_skipped (words_of l) ≡ false → Write (l ∷ ls) [] → ⊥
 none_of l ls e h = let both : item_in (words_of l) ∷ map item_in (kept ls) ≡ [] = rw (kept_one l ls e) at h in cc
 
+-- behind a skipped line, the lines have all items
 pub rest_of : (l : List ℕ) (ls : List (List ℕ)) (is : List Item) → is_skipped (words_of l) ≡ true → Write (l ∷ ls) is → Write ls is
 rest_of l ls is e h = rw (kept_passed l ls e) at h
 

@@ -483,6 +483,7 @@ unfolding without_mark head_line version_part
 no_mark [] = refl
 no_mark (s ∷ ss) = refl
 
+-- the text of segments that fit encodes these segments
 pub dumped_encodes : (ss : List Content) → All Fits ss → Encodes (flat_map segment_text ss) ss
 dumped_encodes ss h = record {
   written =

@@ -11,9 +11,11 @@ use Rattle.htl_text.specs.Lines.{is_blank, is_word, lines_of_text, words_of}
 use Rattle.htl_text.specs.Words.{is_feed}
 use Rattle.std.proofs.lemmas.Bool.{and_parts}
 
+-- the word isn't empty, and all its bytes can be seen
 abbrev pub IsShown : List ℕ → Type 0
 IsShown w = (is_word w ≡ true) × (list_all is_visible w ≡ true)
 
+-- each word isn't empty, and all its bytes can be seen
 abbrev pub AllShown : List (List ℕ) → Type 0
 AllShown [] = Unit {0}
 AllShown (w ∷ ws) = IsShown w × AllShown ws
@@ -58,10 +60,12 @@ word_last : (w : List ℕ) → IsShown w → words_of w ≡ w ∷ []
 unfolding words_of
 word_last w h = rw (word_alone w h.1, h.0) refl
 
+-- a blank before a line doesn't change its words
 pub words_after_blank : (line : List ℕ) → words_of (32 ∷ line) ≡ words_of line
 unfolding words_of
 words_after_blank line = refl
 
+-- the words of a line of shown words, with a blank between them, are these words
 pub words_spaced : (w : List ℕ) (ws : List (List ℕ)) → IsShown w → AllShown ws → words_of (w ++ continued ws []) ≡ w ∷ ws
 words_spaced w [] h hs = rw (append-nil w) (word_last w h)
 words_spaced w (v ∷ ws) h hs = word_then w (v ++ continued ws []) h ∙ ap (λ x. w ∷ x) (words_spaced v ws hs.0 hs.1)
@@ -73,11 +77,13 @@ plain_word [] h = refl
 plain_word (b ∷ bs) h =
     let parts = and_parts (is_visible b) (list_all is_visible bs) h in rw (visible_plain b parts.0, plain_word bs parts.1) refl
 
+-- a line of shown words has no byte that ends a line
 pub plain_spaced : (w : List ℕ) (ws : List (List ℕ)) → IsShown w → AllShown ws → list_all is_plain (w ++ continued ws []) ≡ true
 plain_spaced w [] h hs = rw (append-nil w) (plain_word w h.1)
 plain_spaced w (v ∷ ws) h hs =
     list_all-append is_plain w (32 ∷ (v ++ continued ws [])) ∙ rw (plain_word w h.1, plain_spaced v ws hs.0 hs.1) refl
 
+-- words with a blank before each, and a rest behind them, are these words and then the rest
 pub continued_end : (ws : List (List ℕ)) (rest : List ℕ) → continued ws rest ≡ continued ws [] ++ rest
 continued_end [] rest = refl
 continued_end (w ∷ ws) rest =
@@ -99,6 +105,7 @@ nothing_stripped : (t : List ℕ) → list_all is_plain t ≡ true → strip_car
 nothing_stripped [] h = refl
 nothing_stripped (b ∷ t) h = rw (one_less (length t)) (rw (last_plain b t h) refl)
 
+-- a text that begins with a line and a line feed has this line first, and then those behind the line feed
 pub line_first : (t rest : List ℕ) → list_all is_plain t ≡ true → lines_of_text (t ++ 10 ∷ rest) ≡ t ∷ lines_of_text rest
 unfolding lines_of_text
 line_first t rest h = rw (line_cut t rest h, nothing_stripped t h) refl

@@ -184,6 +184,7 @@ segment_finds lines line place fault h about =
     (before_segment line n place h.first (h.body ++ h.later) (omega (arith, h.line_is))) refl found) in
     rw h.cut all
 
+-- the event that a segment's fault is about stands in the line that is told for it
 pub its_event : (text : List ℕ) (line place : ℕ) (fault : Fault) (h : IsSegmentFault (text_lines text) line fault) → record_of fault ≡ Some place
     → HasEvent (text_lines text) (slice_get h.draft.events place) (event_line text line (Segment fault))
 its_event text line place fault h about =

@@ -13,6 +13,7 @@ use Rattle.htl_text.specs.Steps.{Progress, closed, read, go_on, after_words, Sta
 use Rattle.htl_text.specs.Words.{is_feed, line_end}
 use Rattle.htl_text.proofs.FirstWord.{one_more, position_or_length}
 
+-- the place of the first line feed, or else the length of the text, is where its first line ends
 pub line_end_found : (text : List ℕ) → unwrap_or (position is_feed text) (length text) ≡ line_end text
 line_end_found text =
     position_or_length is_feed text ∙ sym (is_position_or_len line_end is_feed refl (λ x xs. rw (one_more (line_end xs)) refl) text)
@@ -85,11 +86,13 @@ unfolding lines_of_text kept words_of is_skipped
 kept_no_rest text (inr (z, zs, rest, parts)) is = cc
 kept_no_rest text (inl (none, parts)) is = rw parts refl
 
+-- where a text has a line feed, its lines that aren't skipped are those of the first line and of the bytes behind the feed
 pub kept_line_then_rest : (text front back : List ℕ) (len y : ℕ) (ys line : List ℕ) → len ≡ line_end text → front ≡ take len text
     → back ≡ drop len text → back ≡ y ∷ ys → line ≡ strip_carriage_return front → kept (lines_of_text text) ≡ kept (line ∷ lines_of_text ys)
 kept_line_then_rest text front back len y ys line e f b is l =
     rw (l, f, e) (kept_then_rest text y ys (is_cut text) (ap (λ k. drop k text) (sym e) ∙ (sym b ∙ is)))
 
+-- where a text has no line feed, its lines that aren't skipped are those of its only line
 pub kept_last_line : (text front back : List ℕ) (len : ℕ) (line : List ℕ) → len ≡ line_end text → front ≡ take len text
     → back ≡ drop len text → length back ≡ 0 → line ≡ strip_carriage_return front → kept (lines_of_text text) ≡ kept (line ∷ lines_of_text back)
 kept_last_line text front back len line e f b none l =
@@ -139,12 +142,14 @@ events_no_rest text (inr (z, zs, rest, parts)) is segment n = cc
 events_no_rest text (inl (none, parts)) is segment n =
     ap (event_lines segment n) (alone text parts) ∙ events_one segment n (strip_carriage_return (take (line_end text) text))
 
+-- where a text has a line feed, its lines of events are those of the first line and of the bytes behind the feed
 pub events_line_then_rest : (text front back : List ℕ) (len y : ℕ) (ys line : List ℕ) → len ≡ line_end text → front ≡ take len text
     → back ≡ drop len text → back ≡ y ∷ ys → line ≡ strip_carriage_return front → (segment n : ℕ)
     → event_lines segment n (lines_of_text text) ≡ event_lines segment n (line ∷ lines_of_text ys)
 events_line_then_rest text front back len y ys line e f b is l =
     rw (l, f, e) (events_then_rest text y ys (is_cut text) (ap (λ k. drop k text) (sym e) ∙ (sym b ∙ is)))
 
+-- where a text has no line feed, its lines of events are those of its only line
 pub events_last_line : (text front back : List ℕ) (len : ℕ) (line : List ℕ) → len ≡ line_end text → front ≡ take len text
     → back ≡ drop len text → length back ≡ 0 → line ≡ strip_carriage_return front → (segment n : ℕ)
     → event_lines segment n (lines_of_text text) ≡ event_lines segment n (line ∷ lines_of_text back)

@@ -57,6 +57,7 @@ words_begin (x ∷ xs) rest is some = by_case (words_begin xs) (is_blank x) refl
     by_case more true e = word_skipped x xs e ∙ more rest (is ∙ start_skipped x xs e) some
     by_case more false e = rw (is ∙ start_here x xs e) (word_taken x xs e)
 
+-- a line of blanks alone has no words
 pub no_words : (line : List ℕ) → length (drop (word_start line) line) ≡ 0 → words_of line ≡ []
 unfolding words_of
 no_words [] none = refl
@@ -66,6 +67,7 @@ no_words (x ∷ xs) none = by_case (no_words xs) (is_blank x) refl
     by_case more true e = word_skipped x xs e ∙ more (ap length (sym (start_skipped x xs e)) ∙ none)
     by_case more false e = absurd (omega (arith, ap length (start_here x xs e), none))
 
+-- one and a number are the next number
 pub one_more : (n : ℕ) → 1 + n ≡ suc n
 one_more n = omega arith
 
@@ -92,8 +94,10 @@ position_or_length p xs = by_case (nat_lt (position_or_len p xs) (length xs)) re
     by_case true e = rw e refl
     by_case false e = rw e (not_below (position_or_len p xs) (length xs) (prefix_len-le-length (λ x. not (p x)) xs) e)
 
+-- the place of the first blank, or else the length of the line, is where the word in front ends
 pub word_end_found : (line : List ℕ) → unwrap_or (position is_blank line) (length line) ≡ word_end line
 word_end_found line = position_or_length is_blank line ∙ sym (word_end_place line)
 
+-- the place of the first byte that is no blank, or else the length of the line, is where the first word begins
 pub word_start_found : (line : List ℕ) → unwrap_or (position (λ b. not (is_blank b)) line) (length line) ≡ word_start line
 word_start_found line = position_or_length (λ b. not (is_blank b)) line ∙ sym (word_start_place line)

@@ -1,4 +1,4 @@
--- Reading with whole stacks: what is held of it goes the same way.
+-- What is held while a text is read goes the same way as reading with whole stacks.
 use Rattle.std.proofs.Common.{◌≡◌, ◌≤◌, ◌<◌, ◌+◌, ℕ, Bool, true, false, List, [], ◌∷◌, ◌++◌, length, refl, arith, ap, sym, ◌∙◌, add-zero, zero-add}
 use Rattle.std.proofs.Common.{length-append}
 use Rattle.std.specs.Prelude.{Option, Some, None, Result, Ok, Err, map, nat_lt, unwrap_or, if◌then◌else◌}
@@ -35,20 +35,25 @@ pub record Open : Type 0 where
   pub head : Head
   pub events : Option (List Event × Event)
 
+-- the reading of a segment, begun at a line, behind segments that are ended
 abbrev pub opened : List Content → ℕ → Head → Option (List Event × Event) → Open
 opened done line head events = record { done = done; line = line; head = head; events = events }
 
+-- all events of a draft, with the last one that stands apart
 abbrev pub all_of : Option (List Event × Event) → List Event
 all_of None = []
 all_of (Some events) = events.0 ++ events.1 ∷ []
 
+-- the draft of the segment that is being read
 abbrev pub draft_in : Open → Draft
 draft_in o = draft o.head (all_of o.events)
 
+-- the segment of a draft, if its version is one
 abbrev pub contents : Option Version → Draft → List Content
 contents None d = []
 contents (Some v) d = content_of v d ∷ []
 
+-- the segments with that of a draft behind them, or the draft's fault at its line
 abbrev pub checked : List Content → ℕ → Draft → Option Fault → Result (List Content) (ℕ × LineFault)
 checked done line d None = Ok (done ++ contents (version_of d.head.version) d)
 checked done line d (Some fault) = Err (line, Segment fault)
@@ -58,13 +63,16 @@ abbrev pub ended : Option Open → Result (List Content) (ℕ × LineFault)
 ended None = Ok []
 ended (Some o) = checked o.done o.line (draft_in o) (draft_fault (draft_in o))
 
+-- what a header begins behind the segments that are ended, or the fault that ended them
 abbrev pub renewed : ℕ → Head → Result (List Content) (ℕ × LineFault) → Result (Option Open) (ℕ × LineFault)
 renewed line head (Ok done) = Ok (Some (opened done line head None))
 renewed line head (Err fault) = Err fault
 
+-- the event with one frame more
 abbrev pub framed : ℕ → Event → Event
 framed address e = record e { stack = e.stack ++ address ∷ [] }
 
+-- the reading with one frame more of the last event, or a misplaced line where there is none
 abbrev pub with_frame_in : ℕ → ℕ → Open → Option (List Event × Event) → Result (Option Open) (ℕ × LineFault)
 with_frame_in line address o None = Err (line, Order)
 with_frame_in line address o (Some events) = Ok (Some (opened o.done o.line o.head (Some (events.0, framed address events.1))))
@@ -77,13 +85,16 @@ item_read line (item.Event e) (Some o) = Ok (Some (opened o.done o.line o.head (
 item_read line (item.Frame address) None = Err (line, Order)
 item_read line (item.Frame address) (Some o) = with_frame_in line address o o.events
 
+-- what a line with an item or a faulty form does
 abbrev pub form_read : ℕ → Result Item FormFault → Option Open → Result (Option Open) (ℕ × LineFault)
 form_read line (Err fault) o = Err (line, Form fault)
 form_read line (Ok i) o = item_read line i o
 
+-- what a line of these words does, which changes nothing where it is skipped
 abbrev pub words_read : ℕ → List (List ℕ) → Option Open → Result (Option Open) (ℕ × LineFault)
 words_read line ws o = if is_skipped ws then Ok o else form_read line (item_in ws) o
 
+-- reading goes on behind a line without a fault, and ends with its fault
 abbrev pub goes_on : Result (Option Open) (ℕ × LineFault) → (Option Open → Result (List Content) (ℕ × LineFault)) → Result (List Content) (ℕ × LineFault)
 goes_on (Ok o) next = next o
 goes_on (Err fault) next = Err fault
@@ -102,6 +113,7 @@ abbrev pub holding : Option Open → Progress
 holding None = nothing_read
 holding (Some o) = progress (bundle o.done) (Some (hold o.line o.head o.events))
 
+-- the bytes of the segments that were read, or the fault
 abbrev pub bytes_in : Result (List Content) (ℕ × LineFault) → Result (List ℕ) (ℕ × LineFault)
 bytes_in (Ok segments) = Ok (bundle segments)
 bytes_in (Err fault) = Err fault

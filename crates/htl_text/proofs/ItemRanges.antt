@@ -39,6 +39,7 @@ pub record PartsInRange {S : Type 0} (e : EventWith S) : Type 0 where
   pub object : e.object < 2 ^ 64
   pub tag : IsTag e.tag
 
+-- the numbers of the item fit their fields
 abbrev pub ItemInRange : Item → Type 0
 ItemInRange (item.Segment head) = head.trace_id < 2 ^ 64
 ItemInRange (item.Event e) = PartsInRange e
@@ -230,6 +231,7 @@ by_on : (found : Option (Form × List (List ℕ))) → FormInRange found → IfO
 by_on None h = tt
 by_on (Some found) h = said_on found.0 (values_in found.0.fields found.1 no_values) h (values_on found.0.fields found.1 no_values none_in_range)
 
+-- where words have an item, its numbers fit their fields
 pub item_on : (ws : List (List ℕ)) → IfOk (item_in ws) ItemInRange
 unfolding item_in
 item_on ws = by_on (form_of ws) (form_on ws)

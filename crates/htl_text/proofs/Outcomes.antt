@@ -1,4 +1,4 @@
--- What reading comes to, in the words of the contract: what the text encodes, or its first fault.
+-- Reading comes to what the contract says: what the text encodes, or its first fault.
 use Rattle.std.proofs.Common.{◌≡◌, ◌⊎◌, inl, inr, ℕ, List, [], refl, ap, subst, sym, ◌∙◌}
 use Rattle.std.specs.Prelude.{None, Result, Ok, Err, IfOk, IfErr, MatchResult}
 use Rattle.htl_segment.specs.Bundles.{bundle}
@@ -59,11 +59,13 @@ fault_outcome bytes line fault h = outcome_is bytes ∙ ap bytes_in (fault_is_re
 abbrev pub Answers : {V : Type 0} → (V → List ℕ) → List ℕ → Result V TextFault → Type 0
 Answers items bytes answer = MatchResult answer (λ out. outcome bytes ≡ Ok (items out)) (λ fault. Reports (outcome bytes) fault)
 
+-- an answer that gives bytes gives those of segments that the text encodes
 pub answer_found : {V : Type 0} (items : V → List ℕ) (bytes : List ℕ) (answer : Result V TextFault) → Answers items bytes answer
     → IfOk answer (λ out. (segments : List Content) × Encodes bytes segments × (items out ≡ bundle segments))
 answer_found items bytes (Ok out) is = outcome_found bytes (items out) is
 answer_found items bytes (Err fault) is = tt
 
+-- where a text encodes segments, an answer gives their bytes, or memory was refused
 pub answer_only : {V : Type 0} (items : V → List ℕ) (bytes : List ℕ) (answer : Result V TextFault) → Answers items bytes answer
     → (segments : List Content) → Encodes bytes segments
     → MatchResult answer (λ out. items out ≡ bundle segments) (λ refused. refused ≡ text.NoMemory)
@@ -72,12 +74,14 @@ answer_only items bytes (Err (text.Line line fault)) is segments h =
     absurd (never_both (outcome bytes) (bundle segments) (line, fault) (encoded_outcome bytes segments h) is)
 answer_only items bytes (Err text.NoMemory) is segments h = refl
 
+-- a refusal has its cause: the text's first fault, or memory for a segment that it begins with
 pub answer_cause : {V : Type 0} (items : V → List ℕ) (bytes : List ℕ) (answer : Result V TextFault) → Answers items bytes answer
     → IfErr answer (λ refused. NeedsSegment (without_mark bytes) refused) → IfErr answer (λ refused. IsRefused bytes refused)
 answer_cause items bytes (Ok out) is needs = tt
 answer_cause items bytes (Err (text.Line line fault)) is needs = outcome_fault bytes line fault is
 answer_cause items bytes (Err text.NoMemory) is needs = needs
 
+-- where a text has a first fault, the answer is this fault, or memory was refused
 pub answer_fault : {V : Type 0} (items : V → List ℕ) (bytes : List ℕ) (answer : Result V TextFault) → Answers items bytes answer
     → (line : ℕ) (fault : LineFault) → FirstFault bytes line fault
     → MatchResult answer (λ out. ⊥) (λ refused. IsOrNoMemory line fault refused)
@@ -90,19 +94,23 @@ answer_fault items bytes (Err text.NoMemory) is line fault h = inr refl
 same_pair : (m n : ℕ) (f g : LineFault) → let a : ℕ × LineFault = (m, f) in let b : ℕ × LineFault = (n, g) in a ≡ b → (m ≡ n) × (f ≡ g)
 same_pair m n f g e = (ap (λ (x : ℕ × LineFault). x.0) e, ap (λ (x : ℕ × LineFault). x.1) e)
 
+-- a text encodes one list of segments
 pub one_list : (text : List ℕ) (ss ts : List Content) → Encodes text ss → Encodes text ts → ss ≡ ts
 one_list text ss ts h k =
     same_ok (lines_read 0 (text_lines text) None) ss ts (encoded_is_read (text_lines text) ss h) (encoded_is_read (text_lines text) ts k)
 
+-- a text has one first fault, in one line
 pub one_fault : (text : List ℕ) (m n : ℕ) (f g : LineFault) → FirstFault text m f → FirstFault text n g → (m ≡ n) × (f ≡ g)
 one_fault text m n f g h k =
     same_pair m n f g (same_err (lines_read 0 (text_lines text) None) (m, f) (n, g) (fault_is_read (text_lines text) m f h)
     (fault_is_read (text_lines text) n g k))
 
+-- a text that encodes segments has no first fault
 pub not_both : (text : List ℕ) (ss : List Content) (n : ℕ) (f : LineFault) → Encodes text ss → FirstFault text n f → ⊥
 not_both text ss n f h k =
     never_both (lines_read 0 (text_lines text) None) ss (n, f) (encoded_is_read (text_lines text) ss h) (fault_is_read (text_lines text) n f k)
 
+-- a text encodes segments, or has a first fault
 pub one_of_both : (text : List ℕ) → ((ss : List Content) × Encodes text ss) ⊎ ((n : ℕ) × (f : LineFault) × FirstFault text n f)
 one_of_both text = by_read (lines_read 0 (text_lines text) None) (concluded text)
   where

@@ -23,6 +23,7 @@ use Rattle.htl_segment.proofs.RecordLaws.{frames≤64}
 abbrev pub cut : Event → Event
 cut e = record e { stack = take 64 e.stack }
 
+-- the event has more than 64 frames
 abbrev pub is_deep : Event → Bool
 is_deep e = nat_lt 64 (length e.stack)
 
@@ -181,6 +182,7 @@ overfull_parts None false false false true held rest h = refl
 overfull_parts (Some i) false false false true held rest h = refl
 overfull_parts o false false false false held rest h = h
 
+-- as many events are held as there are
 pub length_cut : (es : List Event) → length (map cut es) ≡ length es
 length_cut [] = refl
 length_cut (e ∷ es) = ap suc (length_cut es)
@@ -247,6 +249,7 @@ no_parts false false true s rest h = cc
 no_parts false false false true rest h = cc
 no_parts false false false false rest h = h
 
+-- the events of a draft without a fault are held whole
 pub whole_draft : (v : Version) (d : Draft) → build_fault (content_of v d) ≡ None → map cut d.events ≡ d.events
 unfolding build_fault parts
 whole_draft v d h =

@@ -1,4 +1,4 @@
--- How the fault of a draft is reported, by the fault of what is held of it.
+-- The fault of a draft is reported by that of what is held of it, and by the first stack with too many frames.
 use Rattle.std.proofs.Common.{◌≡◌, ℕ, refl, ap, sym}
 use Rattle.std.specs.Prelude.{Option, Some, None, MatchOption}
 use Rattle.htl_segment.specs.declared.fault.Fault.{Fault}

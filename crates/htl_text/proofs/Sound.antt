@@ -1,4 +1,4 @@
--- What reading comes to is what the lines encode, or else their first fault.
+-- What reading comes to is what the lines encode, or their first fault.
 use Rattle.std.proofs.Common.{◌≡◌, ◌≤◌, ◌<◌, ◌+◌, ◌^◌, ℕ, zero, suc, Bool, true, false, List, [], ◌∷◌, ◌++◌, length, refl, arith, ap, sym, ◌∙◌, length-append}
 use Rattle.std.specs.Prelude.{Option, Some, None, Result, Ok, Err, All, IfOk, map, if◌then◌else◌}
 use Rattle.std.specs.List.{AllByRecursion}
@@ -343,6 +343,7 @@ concludes before n (Some o) h = by_fault (draft_fault (draft_in o)) refl
     by_fault (Some f) is = rw (← append-nil before) (breaks before n o [] f h is (rw kept_nil refl))
     by_fault None is = let closed = closing before n o h is in record { written = closed.written; fits = closed.fits }
 
+-- where the lines before stand for what is being read, all lines encode what reading comes to, or have its fault as their first
 pub sound : (ls before : List (List ℕ)) (n : ℕ) (o : Option Open) → StandsAt before n o → Concludes (before ++ ls) (lines_read n ls o)
 unfolding lines_read
 sound [] before n o h = rw (append-nil before) (concludes before n o h)

@@ -37,7 +37,7 @@ pub record LinesEncode (lines : List (List ℕ)) (segments : List Content) : Typ
 abbrev pub Encodes : List ℕ → List Content → Type 0
 Encodes text segments = LinesEncode (text_lines text) segments
 
--- a draft as a segment of a version
+-- the draft as a segment of this version
 abbrev pub content_of : Version → Draft → Content
 content_of version d = record {
   version = version;
@@ -170,7 +170,7 @@ event_lines segment n (l ∷ ls) =
     if nat_lt segment (n + 1) then event_lines_from (n + 1) (item_in (words_of l)) (event_lines segment (n + 1) ls)
     else event_lines segment (n + 1) ls
 
--- the line of the event that a fault is about, which is reported at a line, where it is about one
+-- the line of the event that a fault is about, if it is about one. The fault is reported at the line that is given.
 abbrev pub event_line : List ℕ → ℕ → LineFault → Option ℕ
 event_line text line (Form fault) = None
 event_line text line Order = None
@@ -188,7 +188,7 @@ abbrev pub begins : List (List (List ℕ)) → Bool
 begins [] = false
 begins (ws ∷ more) = begins_segment (item_in ws)
 
--- the refusal has its cause: the first fault, or out of memory, for a segment that the text begins with
+-- why a text is refused: its first fault, or out of memory, which is asked for only where the text begins with a segment
 abbrev pub IsRefused : List ℕ → TextFault → Type 0
 IsRefused bytes (text.Line line fault) = FirstFault bytes line fault
 IsRefused bytes text.NoMemory = begins (kept (text_lines bytes)) ≡ true

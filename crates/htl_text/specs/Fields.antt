@@ -31,7 +31,7 @@ address_value = hexadecimal_number (2 ^ 64 - 1)
 abbrev pub handle_value : List ℕ → Option ℕ
 handle_value = hexadecimal_number (2 ^ 32 - 1)
 
--- a number whose `0x` tells it from other words
+-- a number that begins with `0x`, which tells it from other words
 unfoldable pub marked_value : ℕ → List ℕ → Option ℕ
 marked_value most text = if starts_with nat_eq text (codes "0x") then hexadecimal_number most text else None
 
@@ -44,11 +44,11 @@ tag_value text =
     if length text == 4 then (if list_all is_visible text then Some text else None)
     else (if length text == 10 then option_map (to_be_bytes w32) (marked_value (2 ^ 32 - 1) text) else None)
 
--- what follows these bytes where a word begins with them
+-- what follows these bytes in a word that begins with them
 unfoldable pub after_bytes : List ℕ → List ℕ → Option (List ℕ)
 after_bytes bytes word = if starts_with nat_eq word bytes then Some (drop (length bytes) word) else None
 
--- what the first word has of a field, after its name and `=`, and the words that follow it
+-- what the first word has after the name of this field and `=`, and the words that follow it
 unfoldable pub first_text : Field → List (List ℕ) → Option (List ℕ × List (List ℕ))
 first_text f [] = None
 first_text f (w ∷ ws) = option_map (λ text. (text, ws)) (option_and_then (after_bytes (codes "=")) (after_bytes (field_name f) w))
@@ -57,11 +57,11 @@ abbrev pub value_of : {A : Type 0} → (List ℕ → Option A) → Option (List 
 value_of value None = None
 value_of value (Some found) = option_map (λ a. (a, found.1)) (value found.0)
 
--- the value of that, where it is one that fits
+-- the value of this field in the first word, where it fits, and the words that follow it
 unfoldable pub first_value : {A : Type 0} → Field → (List ℕ → Option A) → List (List ℕ) → Option (A × List (List ℕ))
 first_value f value ws = value_of value (first_text f ws)
 
--- the value of a word that is one by itself, and the words that follow it
+-- the value of a first word that has no name of a field, and the words that follow it
 unfoldable pub bare_value : {A : Type 0} → (List ℕ → Option A) → List (List ℕ) → Option (A × List (List ℕ))
 bare_value value [] = None
 bare_value value (w ∷ ws) = option_map (λ a. (a, ws)) (value w)
@@ -104,7 +104,7 @@ abbrev pub with_value : {A : Type 0} → (A → Values) → Option (A × List (L
 with_value put None = None
 with_value put (Some found) = Some (put found.0, found.1)
 
--- what the first word says of a field, beside the values so far, and the words that follow it
+-- the values so far with that of this field in the first word, and the words that follow it
 abbrev pub read_field : Field → List (List ℕ) → Values → Option (Values × List (List ℕ))
 read_field Version ws v = with_value (λ n. record v { version = n }) (first_value Version (decimal_number 0xFFFF) ws)
 read_field Trace ws v = with_value (λ n. record v { trace = n }) (first_value Trace address_value ws)

@@ -1,5 +1,5 @@
 -- What the lines of a text say (this project's own), one item each.
-use Rattle.std.specs.Prelude.{ℕ, List, ◌∷◌, map, flat_map}
+use Rattle.std.specs.Prelude.{List, ◌∷◌, map, flat_map}
 use Rattle.htl_event.specs.Events.{Event}
 use Rattle.htl_event.specs.declared.event.Event.{Event as EventWith}
 use Rattle.htl_segment.specs.Content.{Content}

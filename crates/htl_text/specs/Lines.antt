@@ -28,11 +28,11 @@ without_mark text = if starts_with nat_eq text (0xEF ∷ 0xBB ∷ 0xBF ∷ []) t
 abbrev pub text_lines : List ℕ → List (List ℕ)
 text_lines text = lines_of_text (without_mark text)
 
--- what parts words
+-- a blank, which separates words: a space or a tab
 abbrev pub is_blank : ℕ → Bool
 is_blank b = b == 32 || b == 9
 
--- what stands between blanks is a word, if anything does
+-- what stands between two blanks is a word, unless it is empty
 abbrev pub is_word : List ℕ → Bool
 is_word [] = false
 is_word (b ∷ bs) = true
@@ -40,7 +40,7 @@ is_word (b ∷ bs) = true
 unfoldable pub words_of : List ℕ → List (List ℕ)
 words_of line = filter is_word (slice_split is_blank line)
 
--- a line says nothing: it has no word, or `#` stands first
+-- a line that says nothing: it has no word, or begins with `#`
 unfoldable pub is_skipped : List (List ℕ) → Bool
 is_skipped [] = true
 is_skipped (w ∷ ws) = starts_with nat_eq w (codes "#")
@@ -62,7 +62,7 @@ segment_form = record {
   });
 }
 
--- what an event of each kind is about, and then when it was and whose it is
+-- the fields of an event of each kind: what it is about, and then when it was and whose it is
 abbrev pub event_fields : Kind → List Field
 event_fields Opened = Handle ∷ Sequence ∷ Process ∷ Thread ∷ []
 event_fields Closed = Handle ∷ Sequence ∷ Process ∷ Thread ∷ []
@@ -114,12 +114,12 @@ abbrev pub ended : List (List ℕ) → Values → Result Values FormFault
 ended [] v = Ok v
 ended (w ∷ ws) v = Err no_form
 
--- goes on with what was read of a field, or names it
+-- goes on with what was read of a field, or reports the field as the fault
 abbrev pub after : Field → Option (Values × List (List ℕ)) → (List (List ℕ) → Values → Result Values FormFault) → Result Values FormFault
 after f None next = Err (bad_field f)
 after f (Some read) next = next read.1 read.0
 
--- what words say that have these fields in this order, and no word more; or else which field is the first that they don't have
+-- the values of words that have these fields in this order, and no more words; or else the first field that the words don't have
 unfoldable pub values_in : List Field → List (List ℕ) → Values → Result Values FormFault
 values_in [] ws v = ended ws v
 values_in (f ∷ fs) ws v = after f (read_field f ws v) (values_in fs)

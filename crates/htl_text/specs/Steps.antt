@@ -60,7 +60,7 @@ with_event e h = record {
   overfull = h.overfull;
 }
 
--- one frame more, or none where the stack is full
+-- the event with one more frame, or as it is where its stack is full
 abbrev pub with_frame : ℕ → Event → Event
 with_frame address e = if nat_lt (length e.stack) 64 then record e { stack = e.stack ++ address ∷ [] } else e
 
@@ -76,8 +76,8 @@ with_frame_of address h e = record {
   overfull = overfull_after h e;
 }
 
--- A draft with an overfull event at place i has the fault that its held events have where that comes first, and
--- else that of the overfull event.
+-- The fault of a draft with an overfull event at place i: that of its held events where it comes first, and else that
+-- of the overfull event.
 abbrev pub overfull_fault : ℕ → Option Fault → Fault
 overfull_fault i None = faults.Frames i
 overfull_fault i (Some faults.NoMemory) = faults.Frames i
@@ -94,7 +94,7 @@ with_overfull (Some i) fault = Some (overfull_fault i fault)
 abbrev pub held_draft : DraftLines → Draft
 held_draft h = record { head = h.head; events = h.events }
 
--- of a settled draft
+-- the fault of a settled draft
 abbrev pub draft_lines_fault : DraftLines → Option Fault
 draft_lines_fault h = with_overfull h.overfull (draft_fault (held_draft h))
 
@@ -148,7 +148,7 @@ abbrev pub go_on : Result Progress (ℕ × LineFault) → (Progress → Result (
 go_on (Ok p) next = next p
 go_on (Err fault) next = Err fault
 
--- what the lines come to that follow n others
+-- the outcome of reading these lines, which follow n others
 unfoldable pub read : ℕ → List (List ℕ) → Progress → Result (List ℕ) (ℕ × LineFault)
 read n [] p = closed p
 read n (l ∷ ls) p = go_on (after_words (n + 1) (words_of l) p) (read (n + 1) ls)
@@ -158,18 +158,18 @@ abbrev pub HasCause : Progress → TextFault → Type 0
 HasCause p (text.Line line fault) = Unit {0}
 HasCause p text.NoMemory = is_some p.draft ≡ true
 
--- and so only of a text that begins with a segment
+-- so memory is taken only for a text that begins with a segment
 abbrev pub NeedsSegment : List ℕ → TextFault → Type 0
 NeedsSegment bytes (text.Line line fault) = Unit {0}
 NeedsSegment bytes text.NoMemory = begins (kept (lines_of_text bytes)) ≡ true
 
--- the text is a line and the others, as far as reading goes
+-- as far as reading goes, the text is this line and then the rest
 abbrev pub StartsWithLine : List ℕ → List ℕ → List ℕ → Type 0
 StartsWithLine text line rest =
     (n : ℕ) (p : Progress)
     → read n (lines_of_text text) p ≡ go_on (after_words (n + 1) (words_of line) p) (read (n + 1) (lines_of_text rest))
 
--- how the fault of a draft is reported that begins at the line, by the fault of what is held of it
+-- how the fault of a draft is reported, from the line at which it begins and the fault of what is held of it
 abbrev pub refused_of : ℕ → Option ℕ → Fault → TextFault
 refused_of line (Some i) fault = text.Line line (Segment (overfull_fault i (Some fault)))
 refused_of line None faults.NoMemory = text.NoMemory
@@ -180,7 +180,7 @@ IsReportedOfLine line fault text.NoMemory = Unit {0}
 IsReportedOfLine line fault (text.Line n (Segment f)) = (n ≡ line) × (fault ≡ Some f)
 IsReportedOfLine line fault (text.Line n f) = ⊥
 
--- what is answered where a settled draft is to be a segment
+-- what comes of making a segment of a settled draft
 abbrev pub IsBuilt : DraftLines → Result Content TextFault → Type 0
 IsBuilt h (Ok segment) = (draft_lines_fault h ≡ None) × IsSegmentOf (held_draft h) segment
 IsBuilt h (Err refused) = IsReportedOfLine h.line (draft_lines_fault h) refused

@@ -1,4 +1,4 @@
--- The counts of some slots, and their sums.
+-- The counts of some slots are listed by stack and by slot, and their sums by slot.
 use Rattle.std.proofs.Common.{◌≡◌, ℕ, ◌≤◌, List, [], ◌∷◌}
 use Rattle.std.proofs.Common.{map, Option, Some, None, Result, Ok, Err, IfOk, T, Bool, true}
 use Rattle.std.proofs.Common.{false, ◌&&◌, cond, unwrap_or, refl, sym, ◌∙◌, ap, subst, arith, inl, inr}
@@ -113,6 +113,7 @@ module _ (p : Slot → Bool) where
         | false ↦ h
       ]
 
+-- the rows of a tree whose slots are asked for are listed, by stack and then by slot
 pub lists_rows_of : (t : Tree) → IsTree t → (slots : Slots) → ListsRowsOf t slots (picked (has_slot slots) t)
 lists_rows_of t h slots = record { rising = rising (has_slot slots) t h.ordered; members = λ x. (into x, out x) }
   where
@@ -176,6 +177,7 @@ asked_total slots s t =
       | false ↦ λ same. omega (arith, same)
     ] is
 
+-- where no count of a tree is zero, none of those that are asked for is
 pub asked_positive : (slots : Slots) (t : Tree) → Each IsPositive t → Each IsPositive (asked_of slots (counts_in t))
 asked_positive slots [] h = tt
 asked_positive slots (row ∷ t) h =
@@ -253,6 +255,7 @@ lists_sums t slots sums h = record { rising = sums_rise sums h.sorted; members =
 abbrev pub no_count : Slot × Count
 no_count = (Tagged 0 [], zero_count)
 
+-- where a result that is good has P, and P implies Q, it has Q
 pub if_ok : {X E : Type 0} {P Q : X → Type 0} (r : Result X E) → IfOk r P → ((x : X) → P x → Q x) → IfOk r Q
 if_ok (Ok x) h f = f x h
 if_ok (Err e) h f = tt

@@ -1,4 +1,4 @@
--- Equal tallies have one tree.
+-- Two positions in normal form that count the same have the same counts and children alike.
 use Rattle.std.proofs.Common.{◌≡◌, ℕ, zero, suc, ◌<◌, List, [], ◌∷◌, length, map, get_or, Option, Some}
 use Rattle.std.proofs.Common.{None, cond, true, false, unwrap_or, refl, inl, inr, sym, ◌∙◌, ap, subst, arith}
 use Rattle.std.proofs.lemmas.Bool.{cases_eq}
@@ -123,6 +123,7 @@ same_below {A} (e ∷ es) (f ∷ fs) h g p s =
       | false ↦ same_below es fs h.2 g p s
     ])
 
+-- where two positions have the same counts, and children alike, they count the same everywhere
 pub same_from : {A : Type 0} (a b : Position A) → counts a ≡ counts b → SameChildren (children a) (children b) → IsSameTally (tally_of a) (tally_of b)
 same_from a b o k [] s = rw o refl
 same_from a b o k (f ∷ p) s = same_below (children a) (children b) k f p s
@@ -131,6 +132,7 @@ abbrev PositiveIfSome : Option Count → Type 0
 PositiveIfSome None = Unit {0}
 PositiveIfSome (Some c) = IsPositive c
 
+-- a count that is found among counts that aren't zero isn't zero
 pub found_positive : {K : Type 0} (R : K → K → Ordering) (k : K) (es : List (K × Count)) → Each IsPositive es
     → PositiveIfSome (find R k es)
 found_positive R k [] h = tt
@@ -177,6 +179,7 @@ canonical_children a b h k same =
     (witnesses (children b) y.frames y.nonempty (λ f c found. normal_child b k f c found))
     (λ g p s. same (g ∷ p) s)
 
+-- lists of children alike have the same length
 pub same_length : {A : Type 0} (es fs : List (ℕ × Position A)) → SameChildren es fs → length es ≡ length fs
 same_length [] [] h = refl
 same_length [] (f ∷ fs) h = absurd h
@@ -187,10 +190,12 @@ same_length (e ∷ es) (f ∷ fs) h = ap suc (same_length es fs h.2)
 abbrev pub SameChild : {A : Type 0} → (ℕ × Position A) → (ℕ × Position A) → Type 0
 SameChild e f = (e.0 ≡ f.0) × IsSameTally (tally_of e.1) (tally_of f.1)
 
+-- two children alike stay so where each is replaced by one that equals it
 pub same_ends : {A : Type 0} (a b d e : ℕ × Position A) → d ≡ a → e ≡ b → SameChild a b → SameChild d e
 same_ends {A} a b d e is_a is_b h =
     subst (λ (x : ℕ × Position A). SameChild x e) (sym is_a) (subst (λ (x : ℕ × Position A). SameChild a x) (sym is_b) h)
 
+-- lists of children alike have children alike at each index
 pub same_at_index : {A : Type 0} (es fs : List (ℕ × Position A)) → SameChildren es fs → (i : ℕ) (d c : ℕ × Position A) → i < length es
     → SameChild (get_or es i d) (get_or fs i c)
 same_at_index [] fs h i d c lt = absurd (omega arith)
@@ -198,6 +203,7 @@ same_at_index (e ∷ es) [] h i d c lt = absurd h
 same_at_index (e ∷ es) (f ∷ fs) h zero d c lt = (h.0, h.1)
 same_at_index (e ∷ es) (f ∷ fs) h (suc i) d c lt = same_at_index es fs h.2 i d c (omega arith)
 
+-- lists of one length that have children alike at each index are lists of children alike
 pub same_from_indexes : {A : Type 0} (es fs : List (ℕ × Position A)) → length es ≡ length fs
     → ((i : ℕ) (d c : ℕ × Position A) → i < length es → SameChild (get_or es i d) (get_or fs i c)) → SameChildren es fs
 same_from_indexes [] [] l h = tt

@@ -1,4 +1,4 @@
--- Lists of entries: what is found after the first, keys that are changed alike, and lists put one after the other.
+-- Entries are found in lists put one after the other, and alike where all keys are changed alike.
 use Rattle.std.proofs.Common.{◌≡◌, ℕ, ◌+◌, List, [], ◌∷◌, ◌++◌, map, Some, None, T}
 use Rattle.std.proofs.Common.{true, false, cond, unwrap_or, refl, sym, ◌∙◌, ap, subst, arith}
 use Rattle.std.specs.Ordering.{is_lt, is_eq, eq_by_cmp}
@@ -13,10 +13,12 @@ use Rattle.htl_lemmas.proofs.Tests.{both, both_left, both_right}
 use Rattle.htl_sorted.proofs.Finds.{find_first, find_below, below_lower, below_tied}
 
 module _ {K X : Type 0} (R : K → K → Ordering) where
+  -- a key that the second list lacks is found in both together as it is in the first
   pub find-append_left : (q : K) (xs ys : List (K × X)) → find R q ys ≡ None → find R q (xs ++ ys) ≡ find R q xs
   find-append_left q [] ys none = none
   find-append_left q (x ∷ xs) ys none = ap (λ o. cond (eq_by_cmp R q x.0) (Some x.1) o) (find-append_left q xs ys none)
 
+  -- a key that the first list lacks is found in both together as it is in the second
   pub find-append_right : (q : K) (xs ys : List (K × X)) → find R q xs ≡ None → find R q (xs ++ ys) ≡ find R q ys
   find-append_right q [] ys none = refl
   find-append_right q (x ∷ xs) ys none =
@@ -25,6 +27,7 @@ module _ {K X : Type 0} (R : K → K → Ordering) where
         | false ↦ λ rest. find-append_right q xs ys rest
       ]) none
 
+  -- a key below all of two lists is below all of both together
   pub below_append : (k : K) (xs ys : List (K × X)) → T (below_all R k xs) → T (below_all R k ys) → T (below_all R k (xs ++ ys))
   below_append k [] ys g h = h
   below_append k (x ∷ xs) ys g h = both _ _ (both_left _ _ g) (below_append k xs ys (both_right _ _ g) h)
@@ -34,6 +37,7 @@ module _ {K X : Type 0} (R : K → K → Ordering) where
   AllBelow [] ys = Unit {0}
   AllBelow (x ∷ xs) ys = T (below_all R x.0 ys) × AllBelow xs ys
 
+  -- two sorted lists, the first of which is below the second, are sorted together
   pub sorted_append : (xs ys : List (K × X)) → IsSorted R xs → IsSorted R ys → AllBelow xs ys → IsSorted R (xs ++ ys)
   sorted_append [] ys g h all = h
   sorted_append (x ∷ xs) ys g h all =
@@ -103,6 +107,7 @@ module _ {K X : Type 0} (R : K → K → Ordering) where
       all_keys_from_found P es (both_right _ _ s) (λ k v found. h k v (found_behind e es s k v found)),
     )
 
+    -- P still holds of each key once an entry with such a key was put
     pub all_keys_put : (P : K → Type 0) (k : K) (v : X) (es : List (K × X)) → P k → AllByRecursion (λ e. P e.0) es
         → AllByRecursion (λ e. P e.0) (put R k v es)
     all_keys_put P k v [] p h = (p, tt)
@@ -113,6 +118,7 @@ module _ {K X : Type 0} (R : K → K → Ordering) where
           | Greater ↦ (h.0, all_keys_put P k v es p h.1)
         ]
 
+    -- where P holds of each key, it holds of a key that is found
     pub key_found : ((x y : K) → R x y ≡ Equal → x ≡ y) → (P : K → Type 0) (k : K) (v : X) (es : List (K × X))
         → AllByRecursion (λ e. P e.0) es → find R k es ≡ Some v → P k
     key_found proper P k v [] h e = cc
@@ -136,6 +142,7 @@ module _ {J K X : Type 0} (h : K → J) (S : J → J → Ordering) where
   below-map q less (e ∷ es) = both _ _ (subst (λ r. T (is_lt r)) (sym (less e.0)) tt) (below-map q less es)
 
   module _ (R : K → K → Ordering) (same : (k j : K) → S (h k) (h j) ≡ R k j) where
+    -- a key is found among keys that were changed alike as the unchanged key is among the unchanged
     pub find-map_key : (q : K) (es : List (K × X)) → find S (h q) (map (λ e. (h e.0, e.1)) es) ≡ find R q es
     find-map_key q [] = refl
     find-map_key q (e ∷ es) = rw (same q e.0) (ap (λ o. cond (is_eq (R q e.0)) (Some e.1) o) (find-map_key q es))
@@ -145,10 +152,12 @@ module _ {J K X : Type 0} (h : K → J) (S : J → J → Ordering) where
     below-map_key q (e ∷ es) b = both _ _ (subst (λ r. T (is_lt r)) (sym (same q e.0)) (both_left _ _ b))
         (below-map_key q es (both_right _ _ b))
 
+    -- a list whose keys are changed alike, in a way that keeps their order, stays sorted
     pub sorted-map_key : (es : List (K × X)) → IsSorted R es → IsSorted S (map (λ e. (h e.0, e.1)) es)
     sorted-map_key [] s = tt
     sorted-map_key (e ∷ es) s = both _ _ (below-map_key e.0 es (both_left _ _ s)) (sorted-map_key es (both_right _ _ s))
 
+  -- what holds of each value still does where only the keys are changed
   pub each-map_key : (P : X → Type 0) (es : List (K × X)) → Each P es → Each P (map (λ e. (h e.0, e.1)) es)
   each-map_key P [] all = tt
   each-map_key P (e ∷ es) all = (all.0, each-map_key P es all.1)

@@ -1,4 +1,4 @@
--- The positions one frame further in, one by one.
+-- The positions one frame further in are those at the frames, one by one, in normal form and lower.
 use Rattle.std.proofs.Common.{◌≡◌, ℕ, zero, suc, ◌+◌, ◌<◌, ◌≤◌, List, [], ◌∷◌, ◌++◌, length, map, max}
 use Rattle.std.proofs.Common.{take, drop, get_or, Some, append_assoc, refl, sym, ◌∙◌, ap, subst, arith}
 use Rattle.std.specs.Cmp.{nat_cmp_total}
@@ -26,6 +26,7 @@ found_at_index {A} n h i d lt is =
     subst (λ es. find nat_cmp d.0 es ≡ Some d.1) (map-id (children n))
     (row_found (λ (e : ℕ × Position A). e.0) (λ e. e.1) nat_cmp_total (children n) sorted i d lt is)
 
+-- each child of a position in normal form is in normal form
 pub normal_at_index : {A : Type 0} (n : Position A) → IsNormal n → (i : ℕ) (d : ℕ × Position A) → i < length (children n) → d ≡ get_or (children n) i d
     → IsNormal d.1
 normal_at_index n h i d lt is = normal_child n h d.0 d.1 (found_at_index n h i d lt is)
@@ -52,6 +53,7 @@ heights-tops [] = refl
 heights-tops (k ∷ ks) = ap (λ h. max h (max_of (map (λ j. (j.0, height_of j.1)) ks))) (height_top k.1)
     ∙ ap (max (height (top k.1))) (heights-tops ks)
 
+-- a position is one higher than the highest of those one frame further in
 pub height_is : {A : Type 0} (c : Position A) → height c ≡ heights (children c) + 1
 height_is {A} c = of c.0
   where
@@ -75,6 +77,7 @@ pub record IsChildAt {A : Type 0} (n : Node A) (i : ℕ) (d : ℕ × Node A) : T
   pub value : top_of d ≡ get_or (children (inside n)) i (top_of d)
 
 module _ {A : Type 0} (n : Node A) (ks : List (ℕ × Node A)) (is : ks ≡ children_of n) (i : ℕ) where
+  -- the child at an index is the top of the node that stands there
   pub child_at : (d : ℕ × Node A) → i < length ks → d ≡ get_or ks i d → IsChildAt n i d
   child_at d lt at = record {
     within = subst (λ l. i < length (tops l)) is (omega (arith, length-map ks (λ (k : ℕ × Node A). top_of k), lt));

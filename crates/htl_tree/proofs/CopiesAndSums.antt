@@ -1,4 +1,4 @@
--- Nodes made of others: copies and sums.
+-- A node can be made of others: a copy counts what the node counts, and a sum what both nodes count.
 use Rattle.std.proofs.Common.{◌≡◌, ℕ, zero, suc, ◌+◌, ◌-◌, ◌<◌, ◌≤◌, ◌^◌, List, [], ◌∷◌, ◌++◌, length, map}
 use Rattle.std.proofs.Common.{take, drop, get_or, Option, Some, None, unwrap_or, refl, sym, ◌∙◌, ap, subst, arith}
 use Rattle.std.proofs.lemmas.List.{length-drop, get_or-drop, drop_all, map_push}
@@ -31,6 +31,7 @@ use Rattle.htl_tree.proofs.Positions.{before, find_before}
 
 -- ---- copies
 
+-- the copy of a position that isn't empty isn't empty
 pub copied_nonempty : {A : Type 0} (n m : Position A) → IsNormal n → IsCopy n m → IsNonEmpty n → IsNonEmpty m
 copied_nonempty n m h copy some = let w = inhabited n h some in
     nonempty_from m w.path w.slot (subst IsPositive (sym (copy.counts w.path w.slot)) w.counts)
@@ -67,6 +68,7 @@ module _ {A : Type 0} (n m : Position A) (h : IsNormal n) (same : counts m ≡ c
       of (Some k) is m = copied_nonempty k c (normal_child n h f k is) m
           (each_found nat_cmp (λ c. IsNonEmpty c) f k (children n) (normal_here n h).nonempty is)
 
+  -- a position with the same counts and filters, whose children are copies, is a copy
   pub copied : IsCopy n m
   copied = record { normal = record { everywhere = at }; counts = tallied }
     where
@@ -138,10 +140,12 @@ tops_push {A} ks new f n is = ap tops is ∙ map_push (λ (k : ℕ × Node A). (
 
 -- ---- sums
 
+-- a count and zero add up to the count
 pub zero_right : (c : Count) → c ≡ plus_count c zero_count
 zero_right c = let p : c.plus ≡ c.plus + 0 = omega arith in let m : c.minus ≡ c.minus + 0 = omega arith in
     λ i. record { plus = p i; minus = m i }
 
+-- zero and a count add up to the count
 pub zero_left : (c : Count) → c ≡ plus_count zero_count c
 zero_left c = let p : c.plus ≡ 0 + c.plus = omega arith in let m : c.minus ≡ 0 + c.minus = omega arith in
     λ i. record { plus = p i; minus = m i }
@@ -177,6 +181,7 @@ sum_normal p None (Some y) (Some z) m = m.normal.everywhere p
 sum_normal p (Some x) None (Some z) m = m.normal.everywhere p
 sum_normal p (Some x) (Some y) (Some z) m = m.normal.everywhere p
 
+-- a sum whose left side isn't empty isn't empty
 pub summed_nonempty : {A : Type 0} (a b c : Position A) → IsNormal a → IsSum a b c → IsNonEmpty a → IsNonEmpty c
 summed_nonempty a b c h sum some =
     let w = inhabited a h some in
@@ -235,6 +240,7 @@ module _ {A : Type 0} (a b c : Position A) (g : IsNormal a) (h : IsNormal b)
       (λ y is. each_found slot_cmp IsPositive s y (counts b) (normal_here b h).positive is)
       (sym (values s) ∙ e)
 
+  -- a position whose counts, filters and children are made of those of both sides is their sum
   pub summed : IsSum a b c
   summed = record { normal = record { everywhere = at }; counts = tallied }
     where
@@ -265,14 +271,17 @@ module _ {A : Type 0} (left right : List (ℕ × Position A)) where
     frames r e = ap (λ (k : ℕ × Position A). nat_cmp k.0 (get_or right j y).0) (sym is_x)
         ∙ ap (λ (k : ℕ × Position A). nat_cmp x.0 k.0) (sym is_y) ∙ e
 
+    -- where the left side's next frame is the lesser, a copy of its child comes next
     pub sum_less : nat_cmp x.0 y.0 ≡ Less → IsCopy x.1 c → new ≡ out ++ (x.0, c) ∷ [] → IsMadeOf (i + 1) j new
     sum_less e copy more = carry_less nat_cmp (λ sides sum. SumOf sides sum) left right i j out new h x y lt lu c (frames Less e)
         (subst (λ (k : ℕ × Position A). IsCopy k.1 c) is_x copy) (more ∙ ap (λ (k : ℕ × Position A). out ++ (k.0, c) ∷ []) is_x)
 
+    -- where the right side's next frame is the lesser, a copy of its child comes next
     pub sum_greater : nat_cmp x.0 y.0 ≡ Greater → IsCopy y.1 c → new ≡ out ++ (y.0, c) ∷ [] → IsMadeOf i (j + 1) new
     sum_greater e copy more = carry_greater nat_cmp (λ sides sum. SumOf sides sum) left right i j out new h x y lt lu c
         (frames Greater e) (subst (λ (k : ℕ × Position A). IsCopy k.1 c) is_y copy) (more ∙ ap (λ (k : ℕ × Position A). out ++ (k.0, c) ∷ []) is_y)
 
+    -- where both sides have the same next frame, the sum of their children comes next
     pub sum_equal : nat_cmp x.0 y.0 ≡ Equal → IsSum x.1 y.1 c → new ≡ out ++ (x.0, c) ∷ [] → IsMadeOf (i + 1) (j + 1) new
     sum_equal e sum more = carry_equal nat_cmp (λ sides sum. SumOf sides sum) left right i j out new h x y lt lu c (frames Equal e)
         (subst (λ (k : ℕ × Position A). IsSum k.1 (get_or right j y).1 c) is_x (subst (λ (k : ℕ × Position A). IsSum x.1 k.1 c) is_y sum))

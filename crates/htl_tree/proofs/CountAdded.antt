@@ -1,4 +1,4 @@
--- Positions before and after a count was added.
+-- A position to which a count was added, there or further in, counts one more at one path and else the same.
 use Rattle.std.proofs.Common.{◌≡◌, ℕ, ◌≢◌, ◌++◌, List, [], ◌∷◌, Option, Some, None, Result, Ok}
 use Rattle.std.proofs.Common.{Err, IfOk, MatchResult, IsErr, unwrap_or, refl, sym, inl, inr, ◌∙◌, ap, subst, arith}
 use Rattle.std.specs.Cmp.{tied_itself, nat_cmp_total}
@@ -27,9 +27,11 @@ use Rattle.htl_tree.proofs.FilterBits.{filters_counted}
 use Rattle.htl_tree.proofs.FiltersOfPositions.{has_left, counts_have_filters, filters_end, filters_on, filters_before, filters_counts}
 use Rattle.htl_tree.proofs.Positions.{before, find_before, frames_before}
 
+-- a position in normal form is so at itself
 pub normal_here : {A : Type 0} (n : Position A) → IsNormal n → IsNormalPosition n
 normal_here n h = h.everywhere []
 
+-- the child that is found at a frame of a position in normal form is in normal form
 pub normal_child : {A : Type 0} (n : Position A) → IsNormal n → (f : ℕ) (c : Position A) → find nat_cmp f (children n) ≡ Some c → IsNormal c
 normal_child {A} n h f c e = record { everywhere = λ p. subst (λ o. AtChild (λ c. NormalAt p c) o) e (h.everywhere (f ∷ p)) }
 
@@ -62,6 +64,7 @@ module _ {A : Type 0} (n m : Position A) where
           }
       at (f ∷ p) = rw k (h.everywhere (f ∷ p))
 
+  -- a position with one more in its own counts, and the slot's filter, is the old one with one added there
   pub added_here : (s : Slot) (sign : Sign) → IsNormal n → counts m ≡ counted s sign (counts n) → filters m ≡ bit_or (filters n) (filter_of s)
       → children m ≡ children n → IsAdded [] s sign n m
   added_here s sign h more new k =
@@ -81,6 +84,7 @@ module _ {A : Type 0} (n m : Position A) where
       elsewhere [] t differs = rw (more, find_put_other slot_cmp slot_total slot_same t s _ (counts n) (differs refl)) refl
       elsewhere (f ∷ p) t differs = rw k refl
 
+  -- a position with the counts, filters and children of another is in normal form and counts the same
   pub kept_counts : IsNormal n → counts m ≡ counts n → filters m ≡ filters n → children m ≡ children n → IsKept n m
   kept_counts h o w k =
       let here = normal_here n h in
@@ -96,6 +100,7 @@ module _ {A : Type 0} (n m : Position A) where
 
   module _ (f : ℕ) (c : Position A) (o : counts m ≡ counts n) (w : HasFilters c → HasFilters m)
       (k : children m ≡ put nat_cmp f c (children n)) (h : IsNormal n) where
+    -- a position into whose children one in normal form was put, which isn't empty, is in normal form
     pub normal_with_child : IsNormal c → IsNonEmpty c → IsNormal m
     normal_with_child good some = record { everywhere = at }
       where
@@ -112,9 +117,11 @@ module _ {A : Type 0} (n m : Position A) where
           | inr other ↦ rw (k, find_put_other nat_cmp nat_cmp_total nat_cmp-IsAntisymmetric g f c (children n) other) (h.everywhere (g ∷ p))
         ]
 
+    -- through the frame of the child that was put, the position counts what this child counts
     pub tally_child : (p : List ℕ) (t : Slot) → tally (f ∷ p) t m ≡ tally p t c
     tally_child p t = rw (k, find_put_same nat_cmp nat_cmp_total f c (children n)) refl
 
+    -- through each frame but that of the child that was put, the position counts what it counted before
     pub tally_else : (g : ℕ) (p : List ℕ) (t : Slot) → g ≢ f → tally (g ∷ p) t m ≡ tally (g ∷ p) t n
     tally_else g p t other = rw (k, find_put_other nat_cmp nat_cmp_total nat_cmp-IsAntisymmetric g f c (children n) other) refl
 
@@ -131,6 +138,7 @@ module _ {A : Type 0} (n m : Position A) where
 
     -- a child that was there
     module _ (old : Position A) (found : find nat_cmp f (children n) ≡ Some old) where
+      -- one added further in, at a path from the child, is one added at the path with the child's frame before it
       pub added_below : (path : List ℕ) (s : Slot) (sign : Sign) → IsAdded path s sign old c → IsAdded (f ∷ path) s sign n m
       added_below path s sign added = record {
         normal = normal_with_child added.normal (nonempty_from c path s (rw added.counts.here (add_one_positive sign _)));
@@ -159,6 +167,7 @@ module _ {A : Type 0} (n m : Position A) where
       counts = adds_child path s sign (rw none new.counts);
     }
 
+-- what holds of a result still holds where each case implies a weaker one
 pub match_result : {X E : Type 0} {P P' : X → Type 0} {Q Q' : E → Type 0} (r : Result X E) → MatchResult r P Q → ((x : X) → P x → P' x)
     → ((e : E) → Q e → Q' e) → MatchResult r P' Q'
 match_result (Ok x) h f g = f x h
@@ -177,6 +186,7 @@ stepped n m h f old new found o w k path s sign r result = match_result r result
     (λ x added. added_below n m f new o w k h old found path s sign added)
     (λ x kept. kept_below n m f new o w k h old found kept (nonempty_child n h f old found))
 
+-- where a result is an error, and Q holds, Q holds of the error
 pub refused : {X E : Type 0} (P : X → Type 0) {Q : Type 0} (r : Result X E) → IsErr r → Q → MatchResult r P (λ _. Q)
 refused P (Ok x) e q = cc
 refused P (Err x) e q = q
@@ -244,6 +254,7 @@ pub put_before : {A : Type 0} (f : ℕ) (c k : Position A) → children (before 
 put_before f c k = rw (tied_itself nat_cmp_total f) refl
 
 module _ {A : Type 0} where
+  -- where a position with one frame before it is in normal form, the position is
   pub normal_after : (f : ℕ) (c : Position A) → IsNormal (before f c) → IsNormal c
   normal_after f c h = normal_child (before f c) h f c (find_before f c)
 
@@ -277,6 +288,7 @@ module _ {A : Type 0} where
   branch_before (f ∷ fs) m path s sign new = branch_on (f ∷ fs, m) (fs, m) f (fs ++ path) s sign refl refl (λ t is. is)
       (branch_before fs m path s sign new)
 
+  -- a node that counts one slot once at its own place counts it at the end of its frames, seen from their top
   pub branch_top : (m : Node A) (s : Slot) (sign : Sign) → IsBranch [] s sign (inside m) → IsBranch (frames m) s sign (top m)
   branch_top m s sign new = subst (λ l. IsBranch l s sign (top m)) (append-nil (frames m)) (branch_before (frames m) m [] s sign new)
 

@@ -1,4 +1,4 @@
--- A node that was left only some of its frames: what is done inside it, seen from where all of them led to it.
+-- What is done inside a node that was left only some of its frames is done, too, where all of them led to it.
 use Rattle.std.proofs.Common.{◌≡◌, ℕ, ◌<◌, List, [], ◌∷◌, ◌++◌, length, reverse, Some, Result, MatchResult}
 use Rattle.std.proofs.Common.{length-append, refl, sym, ◌∙◌, ap, subst, arith}
 use Rattle.std.specs.Ordering.{nat_cmp}
@@ -63,13 +63,16 @@ pub record IsOnward {A : Type 0} (old : Position A) (stack rest : List ℕ) (inn
   pub shorter : length rest < length stack
 
 module _ {A : Type 0} (old : Position A) (n : Node A) (kept : IsKept old (top n)) where
+  -- where a node, seen from its top, kept what an old position counted, its inside is in normal form
   pub normal_entered : IsNormal (inside n)
   normal_entered = normal_inside (frames n) n kept.normal
 
   module _ (path rest : List ℕ) (is : path ≡ frames n ++ rest) (s : Slot) where
+    -- what the old position counts along the whole path, the inside of the node counts along the rest of it
     pub entered_tally : tally path s old ≡ tally rest s (inside n)
     entered_tally = sym (kept.counts path s) ∙ ap (λ p. tally p s (top n)) is ∙ tally_inside (frames n) n rest s
 
+    -- one added inside at the rest of the path is one added to the old position at the whole path
     pub entered_added : (m : Node A) → frames m ≡ frames n → (sign : Sign) → IsAdded rest s sign (inside n) (inside m)
         → IsAdded path s sign old (top m)
     entered_added m same sign added = subst (λ p. IsAdded p s sign old (top m)) (sym is)
@@ -77,6 +80,7 @@ module _ {A : Type 0} (old : Position A) (n : Node A) (kept : IsKept old (top n)
         (subst (λ l. IsAdded (frames n ++ rest) s sign (top n) (l, m)) (sym same)
         (added_before (frames n) n m kept.normal rest s sign added)))
 
+  -- a node whose inside counts what the entered node's counted, seen from its top, counts what the old position did
   pub entered_kept : (m : Node A) → frames m ≡ frames n → IsKept (inside n) (inside m) → IsKept old (top m)
   entered_kept m same again = kept_kept old (top n) (top m) kept
       (subst (λ l. IsKept (top n) (l, m)) (sym same) (kept_before (frames n) n m kept.normal again))

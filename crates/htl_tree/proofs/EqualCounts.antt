@@ -1,4 +1,4 @@
--- What `==` says of slots and counts.
+-- `==` says of slots and of counts whether they are equal.
 use Rattle.std.proofs.Common.{◌≡◌, arith, ◌&&◌, rules}
 use Rattle.std.specs.Bool.{Decides}
 use Rattle.std.proofs.lemmas.Bool.Decides.{nat_tests}

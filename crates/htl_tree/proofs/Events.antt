@@ -133,18 +133,22 @@ tally_event_rows (e ∷ events) slot stack =
 
 -- ---- sums at the stacks that pass
 
+-- the number that a count has on one side
 abbrev pub side : Sign → Count → ℕ
 side Plus c = c.plus
 side Minus c = c.minus
 
+-- on each side, a sum of counts has the sum of their numbers
 pub side_adds : (sign : Sign) (c d : Count) → side sign (plus_count c d) ≡ side sign c + side sign d
 side_adds Plus c d = refl
 side_adds Minus c d = refl
 
+-- zero has 0 on each side
 pub side_zero : (sign : Sign) → side sign zero_count ≡ 0
 side_zero Plus = refl
 side_zero Minus = refl
 
+-- counts with the same number on each side are equal
 pub same_sides : (c d : Count) → ((sign : Sign) → side sign c ≡ side sign d) → c ≡ d
 same_sides c d same = λ i. record { plus = same Plus i; minus = same Minus i }
 

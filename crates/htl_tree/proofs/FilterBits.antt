@@ -1,4 +1,4 @@
--- Numbers that have the filters of slots: a filter stays where others are added, and a slot that is counted has its filter there.
+-- A number keeps the filters of slots where others are added, and a slot that is counted has its filter there.
 use Rattle.std.proofs.Common.{◌≡◌, ℕ, List, [], ◌∷◌, ◌++◌, Option, Some, None, cond, unwrap_or}
 use Rattle.std.proofs.Common.{refl, sym, ap, subst, arith, inl, inr}
 use Rattle.std.specs.Prelude.{◌⊎◌}
@@ -27,23 +27,28 @@ pub or_left : (a b m : ℕ) → bit_and a m ≡ m → bit_and (bit_or a b) m ≡
 or_left a b m h = same_from_bits _ _
     (λ i. omega (arith, bit_at_and (bit_or a b) m i, bit_at_or a b i, bit_at_and a m i, ap (λ n. bit_at n i) h))
 
+-- bits that the second number has are in both together
 pub or_right : (a b m : ℕ) → bit_and b m ≡ m → bit_and (bit_or a b) m ≡ m
 or_right a b m h = same_from_bits _ _
     (λ i. omega (arith, bit_at_and (bit_or a b) m i, bit_at_or a b i, bit_at_and b m i, ap (λ n. bit_at n i) h))
 
+-- zero isn't positive
 pub not_zero : IsPositive zero_count → ⊥
 not_zero h = omega (arith, h)
 
 -- ---- lists whose slots have their filters in a number
 
+-- slots whose filters a number has still have them where other bits are added behind
 pub filters_more : (m n : ℕ) (es : List (Slot × Count)) → HaveFilters m es → HaveFilters (bit_or m n) es
 filters_more m n [] h = tt
 filters_more m n (e ∷ es) h = (or_left m n (filter_of e.0) h.0, filters_more m n es h.1)
 
+-- slots whose filters a number has still have them where other bits are added before
 pub filters_also : (m n : ℕ) (es : List (Slot × Count)) → HaveFilters n es → HaveFilters (bit_or m n) es
 filters_also m n [] h = tt
 filters_also m n (e ∷ es) h = (or_right m n (filter_of e.0) h.0, filters_also m n es h.1)
 
+-- a number that has the filters of a list and of one more slot has those of both
 pub filters_push : (m : ℕ) (es : List (Slot × Count)) (e : Slot × Count) → HaveFilters m es → HasFilter m e.0 → HaveFilters m (es ++ e ∷ [])
 filters_push m [] e h new = (new, tt)
 filters_push m (x ∷ es) e h new = (h.0, filters_push m es e h.1 new)
@@ -90,6 +95,7 @@ filters_list m es sorted positive h = all_from_found slot_cmp slot_total (λ s v
 
 -- ---- sums that count something
 
+-- where a sum of two counts isn't zero, one of them isn't
 pub either_positive : (x y : Count) → IsPositive (plus_count x y) → IsPositive x ⊎ IsPositive y
 either_positive x y some = elim (cases_lt 0 (total_of x)) [
   | inl here ↦ inl here

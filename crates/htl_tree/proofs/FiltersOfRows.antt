@@ -21,12 +21,14 @@ use Rattle.htl_tree.proofs.Under.{same_slot_Decides}
 abbrev pub RowsHaveFilters : ℕ → Tree → Type 0
 RowsHaveFilters m t = AllByRecursion (λ (row : (List ℕ × Slot) × Count). HasFilter m row.0.1) t
 
+-- the filters at a position in normal form are those of all its rows' slots
 pub rows_have_filters : {A : Type 0} (n : Position A) → IsNormal n → RowsHaveFilters (filters n) (rows n)
 rows_have_filters n h = all_from_found path_cmp path_total (λ k v. HasFilter (filters n) k.1) (rows n) (rows_sorted n h)
     (λ k v found. (normal_here n h).filtered k.0 k.1 (subst IsPositive
     (sym (ap (λ (o : Option Count). unwrap_or o zero_count) found) ∙ tally_rows k.0 k.1 n h)
     (each_found path_cmp IsPositive k v (rows n) (rows_positive n h) found)))
 
+-- where no slot that is asked for has its filter there, no row is of such a slot
 pub no_filter_no_rows : (m : ℕ) (slots : Slots) (path : List ℕ) (t : Tree) → RowsHaveFilters m t
     → ((s : Slot) → has_slot slots s ≡ true → HasFilter m s → ⊥) → rows_at (has_slot slots) path t ≡ []
 no_filter_no_rows m slots path [] h missing = refl
@@ -36,6 +38,7 @@ no_filter_no_rows m slots path (row ∷ t) h missing = (elim (has_slot slots row
       | false ↦ λ no. no_filter_no_rows m slots path t h.1 missing
     ]) refl
 
+-- where a slot's filter is missing, the sum of its counts under each path is zero
 pub no_filter_no_sum : (m : ℕ) (s : Slot) (path : List ℕ) (t : Tree) → RowsHaveFilters m t → (HasFilter m s → ⊥)
     → sum_where (λ p. starts_with nat_eq p path) s t ≡ zero_count
 no_filter_no_sum m s path [] h missing = refl
@@ -47,6 +50,7 @@ no_filter_no_sum m s path (row ∷ t) h missing =
       | false ↦ λ no. no_filter_no_sum m s path t h.1 missing
     ]) refl
 
+-- where no slot that is asked for has its filter there, none is counted
 pub no_filter_no_counts : (m : ℕ) (slots : Slots) (t : Tree) → RowsHaveFilters m t → ((s : Slot) → has_slot slots s ≡ true → HasFilter m s → ⊥)
     → asked_of slots (counts_in t) ≡ []
 no_filter_no_counts m slots [] h missing = refl

@@ -1,4 +1,4 @@
--- The rows of a position: what is found in them, and their order.
+-- The rows of a position count what it counts there and further in, and they are in the order of paths and slots.
 use Rattle.std.proofs.Common.{◌≡◌, ℕ, List, [], ◌∷◌, ◌++◌, map, Option, Some, None, T, true, false, cond, unwrap_or, append-nil, refl, sym, ◌∙◌, ap}
 use Rattle.std.specs.Prelude.{option_and_then}
 use Rattle.std.specs.List.{flat_map}
@@ -31,6 +31,7 @@ use Rattle.htl_tree.proofs.Positions.{ind_position}
 abbrev pub path_cmp : List ℕ × Slot → List ℕ × Slot → Ordering
 path_cmp = then_cmp (on (λ key. key.0) (slice_cmp nat_cmp)) (on (λ key. key.1) slot_cmp)
 
+-- the order of rows by path and slot is total
 pub path_total : IsTotalOrder path_cmp
 path_total = then_total (on_total (λ (key : List ℕ × Slot). key.0) nat_list_cmp_total)
     (on_total (λ (key : List ℕ × Slot). key.1) slot_total)
@@ -193,10 +194,12 @@ each_inner : {A : Type 0} (P : Position A → Type 0) (ks : List (ℕ × ((c : P
 each_inner P [] h = tt
 each_inner P (k ∷ ks) h = (k.1.1 h.0, each_inner P ks h.1)
 
+-- the children of a position in normal form are in normal form
 pub children_normal : {A : Type 0} (n : Position A) → IsNormal n → Each (λ c. IsNormal c) (children n)
 children_normal n h = each_from_found nat_cmp nat_cmp_total (λ c. IsNormal c) (children n) (normal_here n h).frames
     (λ f c e. normal_child n h f c e)
 
+-- the rows of a position in normal form are in the order of paths and slots
 pub rows_sorted : {A : Type 0} (n : Position A) → IsNormal n → IsSorted path_cmp (rows n)
 rows_sorted {A} = ind_position (λ n. HasOrder n) (λ n ks inner h.
     let each : Each (λ c. IsSorted path_cmp (rows c)) (children n) =
@@ -206,6 +209,7 @@ rows_sorted {A} = ind_position (λ n. HasOrder n) (λ n ks inner h.
     (sorted-map_key at_node path_cmp slot_cmp (λ k j. refl) (counts n) here.slots) (positions_sorted (children n) here.frames each)
     (all_here_below (counts n) (children n))))
 
+-- no row of a position in normal form counts zero
 pub rows_positive : {A : Type 0} (n : Position A) → IsNormal n → Each IsPositive (rows n)
 rows_positive n h = each_from_found path_cmp path_total IsPositive (rows n) (rows_sorted n h)
     (λ k v e. found_positive k.0 k.1 n h v (sym (find_rows k.0 k.1 n h) ∙ e))

@@ -1,4 +1,4 @@
--- Positions in a tree: what they are where a node was made of its parts, and induction from position to position.
+-- A node that was made of parts has these inside, and what goes on from position to position holds of all.
 use Rattle.std.proofs.Common.{◌≡◌, ℕ, List, [], ◌∷◌, ◌++◌, map, Some, refl, sym, ◌∙◌, ap}
 use Rattle.std.specs.Cmp.{nat_cmp_total}
 use Rattle.std.specs.Ordering.{nat_cmp}
@@ -11,18 +11,23 @@ use Rattle.htl_tree.specs.declared.node.Node.TheViews.{roll-Node, out-roll-Node}
 use Rattle.htl_tree.specs.declared.node.Node.TheFolds.{ind-Node}
 use Rattle.htl_tree.specs.Nodes.{Position, frames, children_of, top, inside, tops, counts, filters, children, tally, at_child}
 
+-- the frames of a node made of parts are those parts' frames
 pub frames_rolled : {A : Type 0} (x : Node-F A (Node A)) → frames (roll-Node A x) ≡ x.frames.items
 frames_rolled {A} x = ap (λ (y : Node-F A (Node A)). y.frames.items) (out-roll-Node A x)
 
+-- the counts inside it are the parts' counts
 pub counts_rolled : {A : Type 0} (x : Node-F A (Node A)) → counts (inside (roll-Node A x)) ≡ x.counts.items
 counts_rolled {A} x = ap (λ (y : Node-F A (Node A)). y.counts.items) (out-roll-Node A x)
 
+-- the filters inside it are the parts' filters
 pub filters_rolled : {A : Type 0} (x : Node-F A (Node A)) → filters (inside (roll-Node A x)) ≡ x.filters
 filters_rolled {A} x = ap (λ (y : Node-F A (Node A)). y.filters) (out-roll-Node A x)
 
+-- the children of a node made of parts are those parts' children
 pub children_rolled : {A : Type 0} (x : Node-F A (Node A)) → children_of (roll-Node A x) ≡ x.children.items
 children_rolled {A} x = ap (λ (y : Node-F A (Node A)). y.children.items) (out-roll-Node A x)
 
+-- the positions one frame further in than the node are the tops of the parts' children
 pub tops_rolled : {A : Type 0} (x : Node-F A (Node A)) → children (inside (roll-Node A x)) ≡ tops x.children.items
 tops_rolled x = ap tops (children_rolled x)
 
@@ -41,6 +46,7 @@ tally_before f c p s = ap (at_child (λ k. tally p s k)) (find_before f c)
 abbrev pub frames_before : {A : Type 0} → List ℕ → Position A → Position A
 frames_before fs c = (fs ++ c.0, c.1)
 
+-- with frames before a position, the path along these and on counts what the path from the position counts
 pub tally_along : {A : Type 0} (fs : List ℕ) (c : Position A) (p : List ℕ) (s : Slot) → tally (fs ++ p) s (frames_before fs c) ≡ tally p s c
 tally_along [] c p s = refl
 tally_along (f ∷ fs) c p s = tally_before f (frames_before fs c) (fs ++ p) s ∙ tally_along fs c p s

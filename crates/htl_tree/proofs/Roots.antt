@@ -1,4 +1,4 @@
--- The root of a tree, and the tree that it is seen as.
+-- A root, whose nodes are in normal form, is seen as the tree of what it counts.
 use Rattle.std.proofs.Common.{◌≡◌, ℕ, ◌+◌, ◌<◌, ◌≤◌, ◌^◌, ◌≢◌, List, [], ◌∷◌, map}
 use Rattle.std.proofs.Common.{reverse, length, Option, Some, None, unwrap_or, sym, ◌∙◌, ap, subst, arith}
 use Rattle.std.specs.Ordering.{nat_cmp, ordering_then}
@@ -35,13 +35,16 @@ all_outward : (t : Tree) → AllShort t → AllShort (map (λ row. (outward row.
 all_outward [] h = tt
 all_outward (row ∷ t) h = (rw (length-reverse row.0.0) h.0, all_outward t h.1)
 
+-- where no path is too long once it is turned around, none is too long
 pub all_inward : (t : Tree) → AllShort (map (λ row. (outward row.0, row.1)) t) → AllShort t
 all_inward [] h = tt
 all_inward (row ∷ t) h = (rw (length-reverse row.0.0) at h.0, all_inward t h.1)
 
+-- the tree of a position in normal form is in stack order and slot order
 pub sorted_tree : {A : Type 0} (n : Position A) → IsNormal n → IsSorted key_cmp (tree_at n)
 sorted_tree n h = sorted-map_key outward key_cmp path_cmp outward_cmp (rows n) (rows_sorted n h)
 
+-- no count of the tree of a position in normal form is zero
 pub positive_tree : {A : Type 0} (n : Position A) → IsNormal n → Each IsPositive (tree_at n)
 positive_tree n h = each-map_key outward key_cmp IsPositive (rows n) (rows_positive n h)
 
@@ -55,6 +58,7 @@ root_from n h some short =
 pub top_from : {A : Type 0} {t : Tree} (n : Position A) → IsNormal n → IsNonEmpty n → IsTree t → tree_at n ≡ t → IsNormalTop n
 top_from {A} {t} n h some tree is = root_from n h some (all_inward (rows n) (subst (λ u. AllShort u) (sym is) tree.shallow))
 
+-- what a root's position counts is a tree
 pub top_is_tree : {A : Type 0} (n : Position A) → IsNormalTop n → IsTree (tree_at n)
 top_is_tree n h = record {
   ordered = sorted_tree n h.normal;
@@ -62,6 +66,7 @@ top_is_tree n h = record {
   shallow = all_outward (rows n) h.shallow;
 }
 
+-- what a root counts is a tree, also where there are no nodes
 pub root_is_tree : {A : Type 0} (root : Option (Node A)) → IsNormalRoot root → IsTree (tree_of root)
 root_is_tree None h = nothing_is_tree
 root_is_tree (Some n) h = top_is_tree (top n) h
@@ -74,6 +79,7 @@ count_tree n h slot stack =
     ap (λ k. count_at t slot k) (sym (reverse-reverse stack)) ∙ ap (λ (o : Option Count). unwrap_or o zero_count)
     (find-map_key outward key_cmp path_cmp outward_cmp (reverse stack, slot) (rows n)) ∙ tally_rows (reverse stack) slot n h
 
+-- what a position counts at a path is what its tree counts at the stack of the path
 pub tally_tree : {A : Type 0} (n : Position A) → IsNormal n → (p : List ℕ) (slot : Slot)
     → tally p slot n ≡ count_at (tree_at n) slot (reverse p)
 tally_tree n h p slot = ap (λ q. tally q slot n) (sym (reverse-reverse p)) ∙ sym (count_tree n h slot (reverse p))
@@ -83,10 +89,12 @@ pub same_trees : {A : Type 0} (n m : Position A) → IsNormal n → IsNormal m �
     → IsSameTree (tree_at n) (tree_at m)
 same_trees n m g h same slot stack = count_tree n g slot stack ∙ sym (same (reverse stack) slot) ∙ sym (count_tree m h slot stack)
 
+-- positions whose trees count the same count the same
 pub same_nodes : {A : Type 0} (n m : Position A) → IsNormal n → IsNormal m → IsSameTree (tree_at n) (tree_at m)
     → IsSameTally (tally_of n) (tally_of m)
 same_nodes n m g h same p slot = tally_tree m h p slot ∙ sym (same slot (reverse p)) ∙ sym (tally_tree n g p slot)
 
+-- roots whose trees count the same have one tree
 pub equal_trees : {A : Type 0} (a b : Option (Node A)) → IsNormalRoot a → IsNormalRoot b → IsSameTree (tree_of a) (tree_of b)
     → tree_of a ≡ tree_of b
 equal_trees a b g h same = let t = root_is_tree a g in let u = root_is_tree b h in
@@ -96,6 +104,7 @@ back : (stack k : List ℕ) → reverse k ≡ reverse stack → k ≡ stack
 back stack k e = sym (reverse-reverse k) ∙ ap reverse e ∙ reverse-reverse stack
 
 module _ {A : Type 0} (slot : Slot) (sign : Sign) (stack : List ℕ) where
+  -- where one was added at a stack's path, the tree is the old one with one more there
   pub added_tree : (n m : Position A) → IsNormalTop n → length stack ≤ 64 → IsAdded (reverse stack) slot sign n m
       → IsNormalTop m × (tree_at m ≡ with_one (tree_at n) slot sign stack)
   added_tree n m h short added =
@@ -112,6 +121,7 @@ module _ {A : Type 0} (slot : Slot) (sign : Sign) (stack : List ℕ) where
         is,
       )
 
+  -- a node that counts one slot once at a stack's path has the tree with this one count
   pub branch_tree : (m : Position A) → length stack ≤ 64 → IsBranch (reverse stack) slot sign m
       → IsNormalTop m × (tree_at m ≡ with_one [] slot sign stack)
   branch_tree m short new =
@@ -131,6 +141,7 @@ pub same_tree : {A : Type 0} (n m : Position A) → IsNormal n → IsNormal m �
 same_tree n m g h same = canonical_trees (tree_at m) (tree_at n) (sorted_tree m h) (positive_tree m h) (sorted_tree n g)
     (positive_tree n g) (same_trees m n h g (λ p s. sym (same p s)))
 
+-- a position that kept all that another counted has its tree
 pub kept_tree : {A : Type 0} (n m : Position A) → IsNormalTop n → IsKept n m → IsNormalTop m × (tree_at m ≡ tree_at n)
 kept_tree n m h kept =
     let is = same_tree n m h.normal kept.normal kept.counts in
@@ -147,11 +158,13 @@ counts_something n h none =
 
 -- ---- copies and sums
 
+-- a copy of a root's position has its tree
 pub copied_tree : {A : Type 0} (n m : Position A) → IsNormalTop n → IsCopy n m → IsNormalTop m × (tree_at m ≡ tree_at n)
 copied_tree n m h copy =
     let is = same_tree n m h.normal copy.normal copy.counts in
     (top_from m copy.normal (copied_nonempty n m h.normal copy h.nonempty) (top_is_tree n h) is, is)
 
+-- the tree of a sum counts what the trees of both sides count together
 pub summed_tree : {A : Type 0} (a b c : Position A) → IsNormalTop a → IsNormalTop b → IsSum a b c
     → IsNormalTop c × IsSumTally (tree_at c) (tree_at a) (tree_at b)
 summed_tree a b c g h sum =
@@ -163,6 +176,7 @@ summed_tree a b c g h sum =
     (sorted_tree c sum.normal) (positive_tree c sum.normal) (top_is_tree a g) (top_is_tree b h) added in
     (root_from c sum.normal (summed_nonempty a b c g.normal sum g.nonempty) (all_inward (rows c) short), added)
 
+-- where the totals of two trees add up to less than 2 ^ 64, all counts of both sides do
 pub fits_roots : {A : Type 0} (a b : Position A) → IsNormal a → IsNormal b
     → total_count (tree_at a) + total_count (tree_at b) < 2 ^ 64 → FitsSum a b
 fits_roots a b g h fits p s =

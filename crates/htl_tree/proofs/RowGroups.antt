@@ -1,4 +1,4 @@
--- Rows in groups, and a tree with a group of rows counted too.
+-- Rows are put in groups of one stack, whose order doesn't matter, and a tree can count a group more.
 use Rattle.std.proofs.Common.{◌≡◌, ℕ, ◌+◌, ◌-◌, ◌<◌, ◌≤◌, ◌≢◌, List, []}
 use Rattle.std.proofs.Common.{◌∷◌, ◌++◌, reverse, length, get_or, take, drop, Option, Some, None}
 use Rattle.std.proofs.Common.{true, false, cond, nat_eq, unwrap_or, append-nil, refl, sym, ◌∙◌, ap, subst, arith}
@@ -69,6 +69,7 @@ entries-permutation xs ys moved slot stack sign =
           | false ↦ omega (arith, rest)
         ]) ∙ sym whole
 
+-- rows in another order count the same
 pub sum-permutation : (xs ys : List Row) → IsPermutation xs ys → (slot : Slot) (stack : List ℕ)
     → sum_at (entries_of ys) slot stack ≡ sum_at (entries_of xs) slot stack
 sum-permutation xs ys moved slot stack = same_sides _ _ (entries-permutation xs ys moved slot stack)
@@ -129,6 +130,7 @@ all_short rows h = record { positive = positive rows h; short = short rows h }
     short [] h = tt
     short (row ∷ rows) h = (h.0.1, short rows h.1)
 
+-- each group of rows, whatever the order of the groups, has rows that are none too long and none zero
 pub short_group : (rows moved : List Row) (gs hs : List (Bor (List Row))) → AreShort rows → IsPermutation rows moved
     → rows_of gs ≡ moved → IsPermutation gs hs → (g : Bor (List Row)) → Contains hs g → AreShort g.now
 short_group rows moved gs hs h p is q g there =
@@ -252,6 +254,7 @@ first_alike [] h = tt
 first_alike (row ∷ rows) h = AllByRecursion-weaker (λ (x : Row). x.stack.now ≡ h.stack) (λ (x : Row). x.stack.now ≡ row.stack.now)
     (row ∷ rows) (λ x is. is ∙ sym h.alike.0) h.alike
 
+-- the stack of a group's first row isn't too long
 pub first_short : (rows : List Row) → IsGroup rows → AreShort rows → length (get_or rows 0 no_row).stack.now ≤ 64
 first_short [] h each = absurd (let some = h.some in omega arith)
 first_short (row ∷ rows) h each = each.short.0
@@ -261,6 +264,7 @@ pub groups_append : (gs hs : List (Bor (List Row))) → AllByRecursion (λ (grou
 groups_append [] hs a b = b
 groups_append (g ∷ gs) hs a b = (a.0, groups_append gs hs a.1 b)
 
+-- two lists of rows with one stack are one list of rows with that stack
 pub alike_append : (k : List ℕ) (xs ys : List Row) → AllByRecursion (λ (row : Row). row.stack.now ≡ k) xs
     → AllByRecursion (λ (row : Row). row.stack.now ≡ k) ys → AllByRecursion (λ (row : Row). row.stack.now ≡ k) (xs ++ ys)
 alike_append k [] ys a b = b
@@ -268,6 +272,7 @@ alike_append k (x ∷ xs) ys a b = (a.0, alike_append k xs ys a.1 b)
 
 -- ---- one group after the other
 
+-- the first groups and one more count what the first count, and what the one counts
 pub sum-take_more : (gs : List (Bor (List Row))) (i : ℕ) (d : Bor (List Row)) → i < length gs → (slot : Slot) (stack : List ℕ)
     → sum_at (entries_of (rows_of (take (i + 1) gs))) slot stack
     ≡ plus_count (sum_at (entries_of (rows_of (take i gs))) slot stack) (sum_at (entries_of (get_or gs i d).now) slot stack)
@@ -314,8 +319,10 @@ group_more gs new one n len rows rest left is its so_far within groups group = (
       (groups_append gs (one ∷ []) groups (subst (λ (l : List Row). IsGroup l) (sym its) group, tt)),
 )
 
+-- the rows from a place on are as many as are left there
 pub rest_is : (n : ℕ) (rows : List Row) → take (length rows - n) (drop n rows) ≡ drop n rows
 rest_is n rows = take_all (length rows - n) (drop n rows) (omega (arith, length-drop n rows))
 
+-- a group at the front of the rows that are left ends within all rows
 pub rest_within : (n len : ℕ) (rows rest : List Row) → rest ≡ drop n rows → n ≤ length rows → len ≤ length rest → n + len ≤ length rows
 rest_within n len rows rest left within more = omega (arith, ap length left, length-drop n rows)

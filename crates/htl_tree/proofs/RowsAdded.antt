@@ -1,4 +1,4 @@
--- Positions before and after rows were added.
+-- A position to which rows were added, there or further in, counts these more at one path and else the same.
 use Rattle.std.proofs.Common.{◌≡◌, ℕ, zero, suc, ◌+◌, ◌<◌, ◌≤◌, ◌≢◌, List, [], ◌∷◌, ◌++◌, length, get_or, take, Option}
 use Rattle.std.proofs.Common.{Some, None, true, false, cond, unwrap_or, refl, sym, inl, inr, ◌∙◌, ap, subst, arith}
 use Rattle.std.specs.Cmp.{tied_itself, nat_cmp_total}
@@ -86,6 +86,7 @@ count_put counts row slot =
       | Greater ↦ λ c. zero_right (count_in counts slot)
     ]) refl
 
+-- counts that gained rows, and then the count of one row more, gained all of them
 pub gained_more : (rows : List Row) (row : Row) (old mid new : List (Slot × Count)) → Gained rows old mid → IsPositive row.count
     → new ≡ put slot_cmp row.slot (plus_count (count_in mid row.slot) row.count) mid → Gained (rows ++ row ∷ []) old new
 gained_more rows row old mid new h some is =
@@ -102,6 +103,7 @@ gained_more rows row old mid new h some is =
 -- ---- a node with more
 
 module _ {A : Type 0} (n m : Position A) (rows : List Row) where
+  -- a position whose own counts gained rows, with their filters, is the old one with the rows added there
   pub gained_here : (es : List (Slot × Count)) (w : ℕ) → IsNormal n → counts m ≡ es → filters m ≡ bit_or (filters n) w → children m ≡ children n
       → Gained rows (counts n) es → HaveFilters w es → IsGained [] rows n m
   gained_here es w h o new k gained filtered = record {
@@ -134,6 +136,7 @@ module _ {A : Type 0} (n m : Position A) (rows : List Row) where
         let sum : IsPositive (plus_count (old path some.0) (slot_sum some.0 rows)) = omega (arith, positive) in
         nonempty_from c path some.0 (subst IsPositive (sym (adds.here some.0)) sum)
 
+    -- rows added further in, at a path from the child, are added at the path with the child's frame before it
     pub gained_below : (old : Position A) → find nat_cmp f (children n) ≡ Some old → (path : List ℕ) → IsGained path rows old c
         → IsGained (f ∷ path) rows n m
     gained_below old found path gained = record {
@@ -141,6 +144,7 @@ module _ {A : Type 0} (n m : Position A) (rows : List Row) where
       counts = adds_below path (rw found gained.counts);
     }
 
+    -- a new child that counts rows at a path adds these at the path with the child's frame before it
     pub gained_branch : find nat_cmp f (children n) ≡ None → (path : List ℕ) → IsChain path rows c → IsGained (f ∷ path) rows n m
     gained_branch none path new = record {
       normal = normal_with_child n m f c o w k h new.normal (filled path no_tally new.counts);
@@ -149,6 +153,7 @@ module _ {A : Type 0} (n m : Position A) (rows : List Row) where
 
 -- ---- chains
 
+-- a node without children, whose counts are those of rows, counts these rows at its own place and nothing else
 pub chain_end : {A : Type 0} (m : Position A) (rows : List Row) → children m ≡ [] → Gained rows [] (counts m) → HaveFilters (filters m) (counts m)
     → IsChain [] rows m
 chain_end {A} m rows k gained filtered = record {
@@ -237,5 +242,6 @@ module _ {A : Type 0} (rows : List Row) (some : (slot : Slot) × IsPositive (slo
   chain_before (f ∷ fs) m path new =
       chain_on (f ∷ fs, m) (fs, m) f (fs ++ path) rows some refl refl (λ s is. is) (chain_before fs m path new)
 
+  -- a node that counts rows at its own place counts them at the end of its frames, seen from their top
   pub chain_top : (m : Node A) → IsChain [] rows (inside m) → IsChain (frames m) rows (top m)
   chain_top m new = subst (λ l. IsChain l rows (top m)) (append-nil (frames m)) (chain_before (frames m) m [] new)

@@ -1,4 +1,4 @@
--- Rows that count one more: in a row that was there, or in one of its own.
+-- Rows count one more of a slot at a stack: in a row that was there, or in one of its own.
 use Rattle.std.proofs.Common.{◌≡◌, ℕ, zero, suc, ◌+◌, ◌<◌, ◌≤◌, List, [], ◌∷◌, ◌++◌}
 use Rattle.std.proofs.Common.{length, get_or, set, true, false, cond, sym, ◌∙◌, ap, subst, arith}
 use Rattle.std.specs.Ordering.{eq_by_cmp}
@@ -27,6 +27,7 @@ no_row = record { fingerprint = 0; stack = record { ref_ptr = (0, 0); now = [] }
 abbrev Entry : Type 0
 Entry = (List ℕ × Slot) × Count
 
+-- a row as an entry of a tree
 abbrev pub entry : Row → Entry
 entry row = ((row.stack.now, row.slot), row.count)
 

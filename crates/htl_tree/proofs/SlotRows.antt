@@ -1,4 +1,4 @@
--- The rows of one slot.
+-- The rows of one slot, the slots and the counts of a tree are listed from node to node, the node's own first.
 use Rattle.std.proofs.Common.{◌≡◌, ℕ, zero, suc, ◌+◌, ◌<◌, ◌≤◌, List, [], ◌∷◌, ◌++◌, length}
 use Rattle.std.proofs.Common.{map, reverse, drop, get_or, Option, Some, None, T, Bool, true, false, cond}
 use Rattle.std.proofs.Common.{unwrap_or, append_assoc, append-nil, refl, sym, ◌∙◌, ap, subst, arith, inl, inr}
@@ -85,6 +85,7 @@ module _ (p : Slot → Bool) where
       ∙ rows_at-append path (map (λ row. below d.0 row) (rows (top d.1))) rest
       ∙ ap (λ l. l ++ rows_at p path rest) (rows_at-below path d.0 (rows (top d.1)))
 
+  -- the rows of a tree whose slots pass are those of its root's position
   pub picked_tree : {A : Type 0} (n : Position A) → picked p (tree_at n) ≡ rows_at p [] (rows n)
   picked_tree n = of (rows n)
     where
@@ -100,10 +101,12 @@ module _ (p : Slot → Bool) where
 
 -- ---- no stack too long
 
+-- what holds of each element of two lists together holds of each of the first
 pub all_left : (P : Row → Type 0) (xs ys : List Row) → AllByRecursion P (xs ++ ys) → AllByRecursion P xs
 all_left P [] ys h = tt
 all_left P (x ∷ xs) ys h = (h.0, all_left P xs ys h.1)
 
+-- what holds of each element of two lists together holds of each of the second
 pub all_right : (P : Row → Type 0) (xs ys : List Row) → AllByRecursion P (xs ++ ys) → AllByRecursion P ys
 all_right P [] ys h = h
 all_right P (x ∷ xs) ys h = all_right P xs ys h.1
@@ -118,6 +121,7 @@ short_here n depth h lt = short_counts depth (counts n) 0
     (all_left (λ (row : Row). depth + length row.0.0 ≤ 64) (rows_here (counts n)) (child_rows (children n))
     (subst (λ t. IsShortFrom depth t) (rows_is n) h)) lt
 
+-- where stacks with one frame more before them aren't too long, they aren't from one frame further in
 pub short_below : (depth f : ℕ) (t : Tree) → IsShortFrom depth (map (λ row. below f row) t) → IsShortFrom (depth + 1) t
 short_below depth f [] h = tt
 short_below depth f (row ∷ t) h = (omega (arith, h.0), short_below depth f t h.1)
@@ -141,6 +145,7 @@ short_at_index {A} depth (j ∷ ks) zero k h lt is =
 short_at_index depth (j ∷ ks) (suc i) k h lt is = short_at_index depth ks i k
     (all_right (λ (row : Row). depth + length row.0.0 ≤ 64) (map (λ row. below j.0 row) (rows j.1)) (child_rows ks) h) (omega arith) is
 
+-- where the stacks from a node on aren't too long, those from a child on aren't
 pub short_child : {A : Type 0} {n : Node A} {i : ℕ} {d : ℕ × Node A} → IsChildAt n i d → (depth : ℕ) → IsShortFrom depth (rows (inside n))
     → IsShortFrom (depth + 1) (rows (top d.1))
 short_child {A} {n} {i} {d} at depth h =
@@ -148,6 +153,7 @@ short_child {A} {n} {i} {d} at depth h =
     short_at_index depth ks i (top_of d) (all_right (λ (row : Row). depth + length row.0.0 ≤ 64) (rows_here (counts (inside n))) (child_rows ks)
     (subst (λ t. IsShortFrom depth t) (rows_is (inside n)) h)) at.within at.value
 
+-- where no stack of a tree is too long, none is from the root on
 pub short_root : (t : Tree) → AllShort t → IsShortFrom 0 t
 short_root [] h = tt
 short_root (row ∷ t) h = (omega (arith, h.0), short_root t h.1)
@@ -252,6 +258,7 @@ module _ (slot : Slot) where
 
 -- ---- the slots of a whole tree
 
+-- the slots of a position's tree are those of its rows
 pub slots_tree : {A : Type 0} (n : Position A) → slots_of (tree_at n) ≡ slots_of (rows n)
 slots_tree n = of (rows n)
   where
@@ -291,6 +298,7 @@ slots_from_child {A} {n} {i} {d} at =
 
 -- ---- counts whatever their stacks
 
+-- the counts of a position's tree are those of its rows
 pub counts_tree : {A : Type 0} (n : Position A) → counts_in (tree_at n) ≡ counts_in (rows n)
 counts_tree n = of (rows n)
   where
@@ -382,5 +390,6 @@ unfolding IsStrictlySortedBy
 rising_strict [] h = tt
 rising_strict (s ∷ slots) h = (h.0, rising_strict slots h.1)
 
+-- the tree that counts nothing has no slots
 pub no_slots : ListsSlots [] []
 no_slots = lists_slots [] nothing_is_tree [] tt (λ slot. (λ h. h, λ h. h))

@@ -1,4 +1,4 @@
--- What counts add up to by slot: as one count more is added, and whatever their order.
+-- What counts add up to by slot changes with one count more, and not with the order of the counts.
 use Rattle.std.proofs.Common.{◌≡◌, ℕ, zero, suc, ◌+◌, ◌<◌, ◌≤◌, List, [], ◌∷◌, ◌++◌, length, take, drop, get_or}
 use Rattle.std.proofs.Common.{Option, Some, true, false, cond, unwrap_or, refl, sym, ◌∙◌, ap, subst, arith}
 use Rattle.std.specs.Cmp.{tied_itself}
@@ -39,6 +39,7 @@ counts_at-append s (x ∷ xs) ys =
       | false ↦ counts_at-append s xs ys
     ]
 
+-- sums to which one count more was added are those of the counts with this one
 pub added_more : (xs : Counts) (x : Slot × Count) (old new : Counts) → AreAddedUp xs old → IsPositive x.1
     → new ≡ put slot_cmp x.0 (plus_count (count_in old x.0) x.1) old → AreAddedUp (xs ++ x ∷ []) new
 added_more xs x old new h some is =
@@ -75,6 +76,7 @@ added_room xs i d old lt h =
     let same = ap total_of now in
     omega (arith, all, same)
 
+-- each count of a list without zeros isn't zero
 pub positive_at_index : (es : Counts) (i : ℕ) (d : Slot × Count) → i < length es → Each IsPositive es → IsPositive (get_or es i d).1
 positive_at_index [] i d lt h = absurd (omega (arith, lt))
 positive_at_index (e ∷ es) zero d lt h = h.0
@@ -95,11 +97,13 @@ side_of_counts sign s (x ∷ xs) =
       | false ↦ omega (arith, rest)
     ]) ∙ sym whole
 
+-- counts in another order add up to the same for each slot
 pub counts_at-moved : (xs ys : Counts) → IsPermutation xs ys → (s : Slot) → counts_at s ys ≡ counts_at s xs
 counts_at-moved xs ys moved s = same_sides _ _ (λ sign. side_of_counts sign s ys
     ∙ sum_by-IsPermutation (λ (x : Slot × Count). cond (eq_by_cmp slot_cmp s x.0) (side sign x.1) 0) xs ys moved
     ∙ sym (side_of_counts sign s xs))
 
+-- sums of counts are sums of the same counts in another order
 pub added_moved : (xs ys sums : Counts) → IsPermutation xs ys → AreAddedUp ys sums → AreAddedUp xs sums
 added_moved xs ys sums moved h = record {
   sorted = h.sorted;
@@ -115,6 +119,7 @@ each_positive : (es : Counts) → AllByRecursion (λ (e : Slot × Count). IsPosi
 each_positive [] h = tt
 each_positive (e ∷ es) h = (h.0, each_positive es h.1)
 
+-- counts in another order are still none of them zero
 pub positive_moved : (xs ys : Counts) → IsPermutation xs ys → Each IsPositive xs → Each IsPositive ys
 positive_moved xs ys moved h = each_positive ys (each_member (λ (e : Slot × Count). IsPositive e.1) ys
     (λ e there. at_member (λ (e : Slot × Count). IsPositive e.1) xs e (all_positive xs h)

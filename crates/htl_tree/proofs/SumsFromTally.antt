@@ -62,12 +62,14 @@ pub is_built : (t : Tree) → IsTree t → (xs : List Row) → Each IsPositive x
 is_built t h xs p same = canonical_trees t (built xs) h.ordered h.positive (sorted_built xs) (positive_built xs p)
     (λ slot stack. same slot stack ∙ sym (count_built xs slot stack))
 
+-- counts can be added up in either grouping
 pub plus_assoc : (c d e : Count) → plus_count (plus_count c d) e ≡ plus_count c (plus_count d e)
 plus_assoc c d e =
     let p : (c.plus + d.plus) + e.plus ≡ c.plus + (d.plus + e.plus) = omega arith in
     let m : (c.minus + d.minus) + e.minus ≡ c.minus + (d.minus + e.minus) = omega arith in
     λ i. record { plus = p i; minus = m i }
 
+-- what two lists of rows count together is the sum of what each counts
 pub sum_at-append : (xs ys : List Row) (slot : Slot) (stack : List ℕ)
     → sum_at (xs ++ ys) slot stack ≡ plus_count (sum_at xs slot stack) (sum_at ys slot stack)
 sum_at-append [] ys slot stack = zero_left (sum_at ys slot stack)
@@ -96,6 +98,7 @@ sum_at_tree (x ∷ xs) s slot stack =
       | Greater ↦ λ c. sum_at_tree xs (both_right _ _ s) slot stack
     ] refl
 
+-- what holds of each value of two lists holds of each value of both together
 pub each-append : (P : Count → Type 0) (xs ys : List Row) → Each P xs → Each P ys → Each P (xs ++ ys)
 each-append P [] ys g h = h
 each-append P (x ∷ xs) ys g h = (g.0, each-append P xs ys g.1 h)
@@ -103,6 +106,7 @@ each-append P (x ∷ xs) ys g h = (g.0, each-append P xs ys g.1 h)
 -- sums of a weight that counts put together have put together
 module _ (weight : List ℕ × Slot → Count → ℕ) (zero : (k : List ℕ × Slot) → weight k zero_count ≡ 0)
     (adds : (k : List ℕ × Slot) (c d : Count) → weight k (plus_count c d) ≡ weight k c + weight k d) where
+  -- the sum of the weights of rows
   abbrev pub weigh : List Row → ℕ
   weigh xs = sum_by (λ (row : Row). weight row.0 row.1) xs
 
@@ -117,6 +121,7 @@ module _ (weight : List ℕ × Slot → Count → ℕ) (zero : (k : List ℕ × 
       let whole : weigh (x ∷ xs) ≡ weight x.0 x.1 + weigh xs = sum_by-cons (λ (row : Row). weight row.0 row.1) x xs in
       omega (arith, put_in, both, rest, whole)
 
+  -- where a tree and rows count the same, they weigh the same
   pub weigh_rows : (t : Tree) → IsTree t → (xs : List Row) → Each IsPositive xs
       → ((slot : Slot) (stack : List ℕ) → count_at t slot stack ≡ sum_at xs slot stack) → weigh t ≡ weigh xs
   weigh_rows t h xs p same = ap weigh (is_built t h xs p same) ∙ weigh_built xs

@@ -1,4 +1,4 @@
--- What a node's list of children says of the positions at their tops.
+-- A node's list of children says where, among the positions at their tops, the one of a frame stands or would go.
 use Rattle.std.proofs.Common.{◌≡◌, ℕ, List, [], ◌∷◌, ◌&&◌, get_or, set, Some, None, T, true, false, cond}
 use Rattle.std.proofs.Common.{refl, sym, ◌∙◌, ap, subst}
 use Rattle.std.specs.Ordering.{nat_cmp, is_lt, eq_by_cmp}
@@ -11,6 +11,7 @@ use Rattle.htl_tree.specs.declared.node.Node.{Node}
 use Rattle.htl_tree.specs.Nodes.{Position, top, inside, tops, children, children_of, IsNormal}
 use Rattle.htl_tree.proofs.CountAdded.{normal_here}
 
+-- the top of a child, with its frame
 abbrev pub top_of : {A : Type 0} → ℕ × Node A → ℕ × Position A
 top_of k = (k.0, top k.1)
 

@@ -1,4 +1,4 @@
--- Trees as lists: equal tallies have one tree, and what one more count changes.
+-- Of trees as lists, equal tallies have one, and one more count puts one row.
 use Rattle.std.proofs.Common.{◌≡◌, ℕ, ◌+◌, ◌≤◌, ◌≢◌, List, [], ◌∷◌, length, Option}
 use Rattle.std.proofs.Common.{Some, true, false, cond, unwrap_or, refl, sym, ◌∙◌, ap, arith}
 use Rattle.std.specs.Ordering.{eq_by_cmp, is_eq, ordering_then}
@@ -22,6 +22,7 @@ use Rattle.htl_tree.proofs.ChangedKeys.{sum_by-put, all_keys_put}
 use Rattle.htl_tree.proofs.CountAdded.{add_one_positive}
 use Rattle.htl_tree.proofs.Canonical.{found_positive, same_option}
 
+-- the order of keys, by stack and then by slot, is total
 pub key_total : IsTotalOrder key_cmp
 key_total = then_total (on_total (λ (key : List ℕ × Slot). key.0) stack_total)
     (on_total (λ (key : List ℕ × Slot). key.1) slot_total)
@@ -29,6 +30,7 @@ key_total = then_total (on_total (λ (key : List ℕ × Slot). key.0) stack_tota
 same_stacks : (a b : List ℕ) → stack_cmp a b ≡ Equal → a ≡ b
 same_stacks a b e = (pointwise_decides unsigned_Decides a b).0 (stack_ties a b ∙ ap is_eq e)
 
+-- keys that tie are equal
 pub key_same : (x y : List ℕ × Slot) → key_cmp x y ≡ Equal → x ≡ y
 key_same x y e = (elim (stack_cmp x.0 y.0) as (λ r. stack_cmp x.0 y.0 ≡ r → ordering_then r (slot_cmp x.1 y.1) ≡ Equal → x ≡ y) [
   | Less ↦ λ c is. absurd (cc)
@@ -39,15 +41,18 @@ key_same x y e = (elim (stack_cmp x.0 y.0) as (λ r. stack_cmp x.0 y.0 ≡ r →
   | Greater ↦ λ c is. absurd (cc)
 ]) refl e
 
+-- two sorted trees without zeros that count the same are the same
 pub canonical_trees : (t u : Tree) → IsSorted key_cmp t → Each IsPositive t → IsSorted key_cmp u → Each IsPositive u
     → IsSameTally t u → t ≡ u
 canonical_trees t u t_sorted t_positive u_sorted u_positive same =
     same_entries key_cmp key_total key_same t u t_sorted u_sorted
     (λ q. same_option _ _ (found_positive key_cmp q t t_positive) (found_positive key_cmp q u u_positive) (sym (same q.1 q.0)))
 
+-- the tree that counts nothing is one
 pub nothing_is_tree : IsTree []
 nothing_is_tree = record { ordered = tt; positive = tt; shallow = tt }
 
+-- a tree with one more at a stack that isn't too long is a tree
 pub with_one_is_tree : (t : Tree) → IsTree t → (slot : Slot) (sign : Sign) (stack : List ℕ) → length stack ≤ 64
     → IsTree (with_one t slot sign stack)
 with_one_is_tree t h slot sign stack short = record {
@@ -95,10 +100,12 @@ is_with_one t u t_sorted t_positive u_sorted u_positive slot sign stack here els
             let other : k ≡ stack → s ≢ slot = λ ek es. apart (λ i. (ek i, es i)) in
             elsewhere s k other ∙ sym (count_with_one-other t slot sign stack s k other)
 
+-- one more on either side makes a count's total one more
 pub add_one_total : (sign : Sign) (c : Count) → total_of (add_one sign c) ≡ total_of c + 1
 add_one_total Plus c = omega arith
 add_one_total Minus c = omega arith
 
+-- a tree with one more counts one more in all
 pub total-with_one : (t : Tree) → IsTree t → (slot : Slot) (sign : Sign) (stack : List ℕ)
     → total_count (with_one t slot sign stack) ≡ total_count t + 1
 total-with_one t h slot sign stack =

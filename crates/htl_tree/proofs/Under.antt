@@ -1,4 +1,4 @@
--- Sums of counts over the rows of a node and of a tree.
+-- The counts of a slot add up over the rows of a node and of a tree, at all paths or under one.
 use Rattle.std.proofs.Common.{◌≡◌, ℕ, ◌+◌, ◌≤◌, List, [], ◌∷◌, ◌++◌, map, reverse, drop, Option}
 use Rattle.std.proofs.Common.{Some, None, Bool, true, false, ◌&&◌, cond, nat_eq, unwrap_or, refl, sym, ◌∙◌, ap, arith}
 use Rattle.std.specs.Bool.{Decides}
@@ -34,6 +34,7 @@ use Rattle.htl_tree.proofs.NodeRows.{rows_here, child_rows, rows_is}
 use Rattle.htl_tree.proofs.CopiesAndSums.{zero_right, zero_left}
 use Rattle.htl_tree.proofs.SumsFromTally.{plus_assoc}
 
+-- the test for the same slot passes exactly where the slots are equal
 pub same_slot_Decides : (s t : Slot) → Decides (same_slot s t) (s ≡ t)
 same_slot_Decides (Tagged a b) (Tagged c d) = let tags = pointwise_decides unsigned_Decides b d in grind (arith, nat_tests, tags)
 same_slot_Decides (Handles a) (Handles b) = grind (arith, nat_tests)
@@ -81,6 +82,7 @@ module _ (slot : Slot) where
         | false ↦ sum_where-none p none xs
       ])
 
+  -- no sum of a slot's counts is above the total of all counts
   pub sum_where_le_total : (p : List ℕ → Bool) (xs : Tree) → total_of (sum_where p slot xs) ≤ total_count xs
   sum_where_le_total p [] = omega arith
   sum_where_le_total p (x ∷ xs) =
@@ -132,6 +134,7 @@ module _ (slot : Slot) where
   child_sum-cons k ks = sum_where-append (λ p. starts_with nat_eq p []) (map (λ row. below k.0 row) (rows k.1)) (child_rows ks)
       ∙ ap (λ d. plus_count d (child_sum ks)) (sum_where-map (λ q. k.0 ∷ q) (λ p. starts_with nat_eq p []) (rows k.1))
 
+  -- a slot's sum at a node is what the node itself counts and what its children count
   pub sum_node : {A : Type 0} (n : Position A) → IsNormal n → sum_under [] slot n ≡ plus_count (count_in (counts n) slot) (child_sum (children n))
   sum_node n h =
       ap (sum_where (λ p. starts_with nat_eq p []) slot) (rows_is n)
@@ -193,6 +196,7 @@ module _ (slot : Slot) where
       ∙ ap (λ d. plus_count d (sum_where P slot (child_rows (children n)))) (no_rows_here f p (counts n))
       ∙ sym (zero_left (sum_where P slot (child_rows (children n)))) ∙ children_under f p (children n) (normal_here n h).frames
 
+  -- a tree's count under a path is what its position counts under this path
   pub under_tree : {A : Type 0} (n : Position A) (path : List ℕ) → count_under (tree_at n) path slot ≡ sum_under path slot n
   under_tree n path =
       sum_where-map reverse (λ stack. starts_with nat_eq (outer stack) path) (rows n)

@@ -1,4 +1,4 @@
--- Filters: one bit of 64 for each slot, by which walks skip what can't count a slot.
+-- Filters: one bit of 64 for each slot. By them a walk skips nodes that can't count a slot.
 use Rattle.std.specs.Prelude.{◌≡◌, ℕ, ◌*◌, ◌/◌, ◌%◌, ◌^◌, List}
 use Rattle.std.specs.List.{AllByRecursion}
 use Rattle.std.specs.Int.Bits.{bit_and}
@@ -18,7 +18,7 @@ filter_of (Tagged object tag) = bit_of object
 filter_of (Handles process) = bit_of process
 filter_of (Bad process handle) = bit_of process
 
--- what the filters of the slots that are asked for have in common
+-- the bits that the filters of all slots that are asked for have in common
 abbrev pub common_filter : Slots → ℕ
 common_filter All = 0
 common_filter (One slot) = filter_of slot

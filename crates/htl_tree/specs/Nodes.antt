@@ -35,18 +35,18 @@ filters_at {A} n = (out-Node A n).filters
 
 -- ---- positions in a tree, one frame apart
 
--- so many frames before a node, or at the node where there are none
+-- A position: the frames that are left on the way to a node, and the node. Where none are left, it is at the node.
 abbrev pub Position : Type 0 → Type 0
 Position A = List ℕ × Node A
 
 abbrev pub position_of : {A : Type 0} → Cursor A → Position A
 position_of c = (c.frames.now, c.node.now)
 
--- from where all of its frames lead to the node
+-- before a node, with all of its frames left
 abbrev pub top : {A : Type 0} → Node A → Position A
 top n = (frames n, n)
 
--- at the node
+-- at a node, with no frame left
 abbrev pub inside : {A : Type 0} → Node A → Position A
 inside n = ([], n)
 
@@ -61,7 +61,7 @@ counts_from (f ∷ fs) n = []
 abbrev pub counts : {A : Type 0} → Position A → List (Slot × Count)
 counts c = counts_from c.0 c.1
 
--- the filters at a position, which are those of the node
+-- the filters at a position, which are those of its node
 abbrev pub filters : {A : Type 0} → Position A → ℕ
 filters c = filters_at c.1
 
@@ -108,7 +108,7 @@ abbrev pub NormalAt : {A : Type 0} → List ℕ → Position A → Type 0
 NormalAt [] n = IsNormalPosition n
 NormalAt (f ∷ p) n = AtChild (λ c. NormalAt p c) (find nat_cmp f (children n))
 
--- each position is in order, and none further in is empty
+-- all positions from this one on are in normal form
 pub record IsNormal {A : Type 0} (n : Position A) : Type 0 where
   pub everywhere : (p : List ℕ) → NormalAt p n
 
@@ -121,7 +121,7 @@ no_tally p s = zero_count
 abbrev pub IsSameTally : (List ℕ → Slot → Count) → (List ℕ → Slot → Count) → Type 0
 IsSameTally old new = (p : List ℕ) (s : Slot) → new p s ≡ old p s
 
--- one more at one position, and no change at any other
+-- one more is counted at one path and slot, and nothing else changes
 pub record AddsOne (path : List ℕ) (slot : Slot) (sign : Sign) (old new : List ℕ → Slot → Count) : Type 0 where
   pub here : new path slot ≡ add_one sign (old path slot)
   pub elsewhere : (p : List ℕ) (s : Slot) → (p ≡ path → s ≢ slot) → new p s ≡ old p s
@@ -145,11 +145,11 @@ pub record IsKept {A : Type 0} (old new : Position A) : Type 0 where
 
 -- ---- all that is counted from a position on
 
--- a row one frame further in
+-- a row as it is seen from one frame further out
 abbrev pub below : ℕ → (List ℕ × Slot) × Count → (List ℕ × Slot) × Count
 below f row = ((f ∷ row.0.0, row.0.1), row.1)
 
--- rows these frames further in
+-- rows as they are seen from these frames further out
 abbrev pub along : List ℕ → Tree → Tree
 along [] t = t
 along (f ∷ fs) t = map (λ row. below f row) (along fs t)
@@ -161,7 +161,7 @@ node_rows counts below_it = map (λ e. (([], e.0), e.1)) counts ++ flat_map (λ 
 abbrev pub rows_step : {A : Type 0} → Node-F A Tree → Tree
 rows_step x = along x.frames.items (node_rows x.counts.items x.children.items)
 
--- the same with the node's frames before
+-- the same, by path from where all of the node's frames are left
 abbrev pub rows_of : {A : Type 0} → Node A → Tree
 rows_of {A} = fold-Node A Tree rows_step
 
@@ -169,11 +169,11 @@ rows_of {A} = fold-Node A Tree rows_step
 abbrev pub rows : {A : Type 0} → Position A → Tree
 rows c = along c.0 (node_rows (counts_of c.1) (map (λ k. (k.0, rows_of k.1)) (children_of c.1)))
 
--- the same by stack
+-- the same, by stack
 abbrev pub tree_at : {A : Type 0} → Position A → Tree
 tree_at c = map (λ row. ((reverse row.0.0, row.0.1), row.1)) (rows c)
 
--- the root is made by the first count
+-- the tree of a root, which is made by the first count
 abbrev pub tree_of : {A : Type 0} → Option (Node A) → Tree
 tree_of None = []
 tree_of (Some n) = tree_at (top n)
@@ -202,8 +202,8 @@ heights ks = max_of (map (λ k. (k.0, height k.1)) ks)
 abbrev pub IsShallow : {A : Type 0} → Position A → Type 0
 IsShallow c = AllShort (rows c)
 
--- What the position before each root is. The recursions go down one position or more a call, so by `low` none is
--- more than 64 calls deep.
+-- What holds of the position before each root. A recursive call goes down by one position or more, so by `low` no recursion is more
+-- than 64 calls deep.
 pub record IsNormalTop {A : Type 0} (n : Position A) : Type 0 where
   pub normal : IsNormal n
   pub nonempty : IsNonEmpty n
@@ -219,7 +219,7 @@ pub record IsRoot {A : Type 0} (root : Option (Node A)) (total : ℕ) : Type 0 w
   pub counted : total ≡ total_count (tree_of root)
   pub fits : total < 2 ^ 64
 
--- ---- nodes made of others
+-- ---- nodes that are made of other nodes
 
 pub record IsCopy {A : Type 0} (node copy : Position A) : Type 0 where
   pub normal : IsNormal copy
@@ -252,25 +252,25 @@ pub record AreAddedUp (counts sums : List (Slot × Count)) : Type 0 where
 
 -- ---- sums over paths
 
--- what a position counts of a slot at the paths that begin with this one
+-- what a position counts of a slot at all paths that begin with this one
 abbrev pub sum_under : {A : Type 0} → List ℕ → Slot → Position A → Count
 sum_under path slot n = sum_where (λ p. starts_with nat_eq p path) slot (rows n)
 
 -- ---- lists of what a node counts
 
--- the rows of the slots that pass with their stacks, at and below a node that the path leads to
+-- the rows of a tree whose slots pass, with their stacks: the path leads to where the tree begins
 abbrev pub rows_at : (Slot → Bool) → List ℕ → Tree → List ((Slot × List ℕ) × Count)
 rows_at passes path [] = []
 rows_at passes path (row ∷ rows) =
     if passes row.0.1 then ((row.0.1, reverse (path ++ row.0.0)), row.1) ∷ rows_at passes path rows else rows_at passes path rows
 
--- the rows of counts at a node that the path leads to
+-- the rows of the counts at one node, to which the path leads
 abbrev pub rows_of_counts : (Slot → Bool) → List ℕ → List (Slot × Count) → List ((Slot × List ℕ) × Count)
 rows_of_counts passes path [] = []
 rows_of_counts passes path (e ∷ es) =
     if passes e.0 then ((e.0, reverse path), e.1) ∷ rows_of_counts passes path es else rows_of_counts passes path es
 
--- the rows of a tree
+-- the rows of a tree whose slots pass
 abbrev pub picked : (Slot → Bool) → Tree → List ((Slot × List ℕ) × Count)
 picked passes [] = []
 picked passes (row ∷ rows) = if passes row.0.1 then ((row.0.1, row.0.0), row.1) ∷ picked passes rows else picked passes rows
@@ -283,7 +283,7 @@ counts_in t = map (λ row. (row.0.1, row.1)) t
 abbrev pub asked_of : Slots → List (Slot × Count) → List (Slot × Count)
 asked_of slots counts = filter (λ e. has_slot slots e.0) counts
 
--- below so many frames no stack is longer than a stack may be
+-- below a node at this depth, in frames, no stack is longer than 64 frames
 abbrev pub IsShortFrom : ℕ → Tree → Type 0
 IsShortFrom depth t = AllByRecursion (λ (row : (List ℕ × Slot) × Count). depth + length row.0.0 ≤ 64) t
 

@@ -1,4 +1,4 @@
--- Rows: what events count, before it is a tree. They stand in any order, and several may count one slot and stack.
+-- Rows: the counts of events before a tree is made of them. They stand in any order, and several may be of one slot and stack.
 use Rattle.std.specs.Prelude.{◌≡◌, ℕ, ◌+◌, ◌<◌, ◌≤◌, ◌≢◌, List, [], ◌∷◌, map, length, if◌then◌else◌}
 use Rattle.std.specs.List.{AllByRecursion}
 use Rattle.std.specs.Ordering.{eq_by_cmp}
@@ -17,7 +17,7 @@ use Rattle.htl_tree.specs.Nodes.{Position, count_in, tally_of, no_tally, IsNorma
 abbrev pub entries_of : List Row → Tree
 entries_of rows = map (λ row. ((row.stack.now, row.slot), row.count)) rows
 
--- what entries in any order count of the slot at the stack
+-- what entries in any order count of the slot with the stack
 abbrev pub sum_at : Tree → Slot → List ℕ → Count
 sum_at [] slot stack = zero_count
 sum_at (x ∷ xs) slot stack = if eq_by_cmp key_cmp (stack, slot) x.0 then plus_count x.1 (sum_at xs slot stack) else sum_at xs slot stack
@@ -26,17 +26,17 @@ sum_at (x ∷ xs) slot stack = if eq_by_cmp key_cmp (stack, slot) x.0 then plus_
 abbrev pub HaveTally : List Row → List Event → Type 0
 HaveTally rows events = (slot : Slot) (stack : List ℕ) → sum_at (entries_of rows) slot stack ≡ tally events slot stack
 
--- no row counts nothing, and no stack is too long
+-- each row counts something, and no stack is too long
 pub record AreShort (rows : List Row) : Type 0 where
   pub positive : Each IsPositive (entries_of rows)
   pub short : AllShort (entries_of rows)
 
--- rows that count so many events
+-- rows that count this number of events
 pub record AreRows (rows : List Row) (total : ℕ) : Type 0 where
   pub each : AreShort rows
   pub counted : total ≡ total_count (entries_of rows)
 
--- one of a slot with a stack
+-- the count of one event of a slot with a stack
 abbrev pub one_at : List ℕ → Slot → Sign → Slot → List ℕ → Count
 one_at stack slot sign s k = if eq_by_cmp key_cmp (k, s) (stack, slot) then add_one sign zero_count else zero_count
 
@@ -46,7 +46,7 @@ pub record IsOneMore (stack : List ℕ) (slot : Slot) (sign : Sign) (old new : L
   pub total : total_count (entries_of new) ≡ total_count (entries_of old) + 1
   pub each : length stack ≤ 64 → AreShort old → AreShort new
 
--- some rows of one stack
+-- one row or more, all of one stack
 pub record IsGroup (rows : List Row) : Type 0 where
   pub some : 0 < length rows
   pub stack : List ℕ
@@ -65,7 +65,7 @@ pub record Gained (rows : List Row) (old new : List (Slot × Count)) : Type 0 wh
   pub positive : Each IsPositive new
   pub counts : (slot : Slot) → count_in new slot ≡ plus_count (count_in old slot) (slot_sum slot rows)
 
--- the rows' counts more at one path, and no change at any other
+-- what the rows count is added at one path, and nothing changes at any other
 pub record AddsRows (path : List ℕ) (rows : List Row) (old new : List ℕ → Slot → Count) : Type 0 where
   pub here : (s : Slot) → new path s ≡ plus_count (old path s) (slot_sum s rows)
   pub elsewhere : (p : List ℕ) (s : Slot) → p ≢ path → new p s ≡ old p s

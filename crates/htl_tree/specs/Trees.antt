@@ -35,7 +35,7 @@ abbrev pub add_one : Sign → Count → Count
 add_one Plus count = record { plus = count.plus + 1; minus = count.minus }
 add_one Minus count = record { plus = count.plus; minus = count.minus + 1 }
 
--- one more of the slot with the stack
+-- the tree with one more of the slot with the stack
 abbrev pub with_one : Tree → Slot → Sign → List ℕ → Tree
 with_one tree slot sign stack = put key_cmp (stack, slot) (add_one sign (count_at tree slot stack)) tree
 
@@ -57,7 +57,7 @@ total_count tree = sum_by (λ row. total_of row.1) tree
 abbrev pub AllShort : Tree → Type 0
 AllShort tree = AllByRecursion (λ (row : (List ℕ × Slot) × Count). length row.0.0 ≤ 64) tree
 
--- What every tree is. So equal tallies have one tree.
+-- What holds of every tree. So there is one tree for each tally.
 pub record IsTree (tree : Tree) : Type 0 where
   pub ordered : IsSorted key_cmp tree
   pub positive : Each IsPositive tree

@@ -33,6 +33,7 @@ writes-both trace ss ts old mid new a b = record {
   bytes = rw (flat_map-append encoding ss ts) (appends-both old mid new (bundle ss) (bundle ts) a.bytes b.bytes);
 }
 
+-- segments of some keys that were written, and then those of others, are written together
 pub keys-both : (trace : Trace) (ks js : List (ℕ × ℕ)) (old mid new : Option (List ℕ)) → WritesKeys trace ks old mid
     → WritesKeys trace js mid new → WritesKeys trace (ks ++ js) old new
 keys-both trace ks js old mid new a b = (
@@ -41,12 +42,15 @@ keys-both trace ks js old mid new a b = (
   map-append key_of a.0 b.0 ∙ rw (a.2, b.2) refl,
 )
 
+-- a segment of a key that was written is what is written of this key
 pub keys-one : (trace : Trace) (s : Content) (p n : ℕ) (old new : Option (List ℕ)) → s.processor ≡ p → s.number ≡ n
     → Writes trace (s ∷ []) old new → WritesKeys trace ((p, n) ∷ []) old new
 keys-one trace s p n old new is_p is_n w = (s ∷ [], w, ap (λ (q : ℕ). (q, s.number) ∷ []) is_p ∙ ap (λ (m : ℕ). (p, m) ∷ []) is_n)
 
+-- the keys of a turn over one processor more are those of the turn, and then that of this processor
 pub turn-more : (p n : ℕ) → turn (p + 1) n ≡ turn p n ++ (p, n) ∷ []
 turn-more p n = rw add-one refl
 
+-- the keys of one turn more are those of the turns before, and then those of this turn
 pub turns-more : (p n : ℕ) → turns p (n + 1) ≡ turns p n ++ turn p n
 turns-more p n = rw add-one refl

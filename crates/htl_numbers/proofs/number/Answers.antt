@@ -1,4 +1,4 @@
--- A byte that is no digit, too great a number, and one digit more.
+-- A byte that is no digit or a number that grows too great ends the reading, and one digit more goes on with it.
 use Rattle.std.proofs.Common.{◌≡◌, ◌≤◌, ◌<◌, ◌+◌, ◌*◌, ◌^◌, arith, inl, inr, ◌∙◌, take, take_all, length, get_or}
 use Rattle.std.specs.Char.{digit_value}
 use Rattle.std.proofs.lemmas.Bool.{cases_lt}

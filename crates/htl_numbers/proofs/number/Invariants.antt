@@ -1,4 +1,4 @@
--- The digits so far write the number.
+-- The digits so far write the number so far.
 use Rattle.std.proofs.Common.{◌≡◌, take}
 use Rattle.std.specs.Str.Parse.{AllDigits, digits_value}
 use Rattle.htl_numbers.proofs.number.Given as goal

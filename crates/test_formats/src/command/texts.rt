@@ -37,7 +37,7 @@ Options of every question, from summary to growth:
                         18446744073709551615, or 'complete' for the one up to
                         which no segment is missing
       --symbols <FILE>  Names for addresses: CSV of start,end,module,name
-      --workers <N>     How many threads share the work: 1 to 8 [default: 1]
+      --workers <N>     Use up to N threads: 1 to 8 [default: 1]
       --json            One JSON object a line, for other programs
       --complete        Refuse segments of which one is missing (C8)
       --hex             The files hold hexadecimal digits, not bytes
@@ -48,7 +48,7 @@ Options of every question, from summary to growth:
 Exit status:
   0  done                        4  not one trace, or not the one asked about
   1  found, with --exit-code     5  a read or a write failed
-  2  wrong command line          6  out of memory or of threads
+  2  wrong command line          6  out of memory
   3  not a segment or its text   7  not a symbol table
 
 Examples:
@@ -79,7 +79,7 @@ Options:
                         18446744073709551615, or 'complete' for the one up to
                         which no segment is missing
       --symbols <FILE>  Names for addresses: CSV of start,end,module,name
-      --workers <N>     How many threads share the work: 1 to 8 [default: 1]
+      --workers <N>     Use up to N threads: 1 to 8 [default: 1]
       --json            One JSON object a line, for other programs
       --complete        Refuse segments of which one is missing (C8)
       --hex             The files hold hexadecimal digits, not bytes
@@ -107,7 +107,7 @@ Options:
                         18446744073709551615, or 'complete' for the one up to
                         which no segment is missing
       --symbols <FILE>  Names for addresses: CSV of start,end,module,name
-      --workers <N>     How many threads share the work: 1 to 8 [default: 1]
+      --workers <N>     Use up to N threads: 1 to 8 [default: 1]
       --json            One JSON object a line, for other programs
       --complete        Refuse segments of which one is missing (C8)
       --hex             The files hold hexadecimal digits, not bytes
@@ -131,14 +131,15 @@ Options:
       --process <N>     The process: decimal, at most 4294967295
       --since <N>       Only handles opened after this sequence: decimal, at
                         most 18446744073709551615, or 'snapshot' for that of the
-                        process's last snapshot [default of diff: snapshot]
+                        process's last snapshot
+                        [default: snapshot for diff, none for leaks]
       --top <N>         At most N rows: decimal, 1 to 4294967295
       --exit-code       End with status 1 where the answer finds something
       --until <N>       Only events up to this sequence count: decimal, at most
                         18446744073709551615, or 'complete' for the one up to
                         which no segment is missing
       --symbols <FILE>  Names for addresses: CSV of start,end,module,name
-      --workers <N>     How many threads share the work: 1 to 8 [default: 1]
+      --workers <N>     Use up to N threads: 1 to 8 [default: 1]
       --json            One JSON object a line, for other programs
       --complete        Refuse segments of which one is missing (C8)
       --hex             The files hold hexadecimal digits, not bytes
@@ -166,7 +167,7 @@ Options:
                         18446744073709551615, or 'complete' for the one up to
                         which no segment is missing
       --symbols <FILE>  Names for addresses: CSV of start,end,module,name
-      --workers <N>     How many threads share the work: 1 to 8 [default: 1]
+      --workers <N>     Use up to N threads: 1 to 8 [default: 1]
       --json            One JSON object a line, for other programs
       --complete        Refuse segments of which one is missing (C8)
       --hex             The files hold hexadecimal digits, not bytes
@@ -194,7 +195,7 @@ Options:
                         18446744073709551615, or 'complete' for the one up to
                         which no segment is missing
       --symbols <FILE>  Names for addresses: CSV of start,end,module,name
-      --workers <N>     How many threads share the work: 1 to 8 [default: 1]
+      --workers <N>     Use up to N threads: 1 to 8 [default: 1]
       --json            One JSON object a line, for other programs
       --complete        Refuse segments of which one is missing (C8)
       --hex             The files hold hexadecimal digits, not bytes
@@ -218,7 +219,8 @@ Options:
       --process <N>     The process: decimal, at most 4294967295
       --since <N>       Only handles opened after this sequence: decimal, at
                         most 18446744073709551615, or 'snapshot' for that of the
-                        process's last snapshot [default of diff: snapshot]
+                        process's last snapshot
+                        [default: snapshot for diff, none for leaks]
       --at-least <N>    Only stacks with at least N of the handles: decimal, 1
                         to 4294967295 [default: 1]
       --top <N>         At most N rows: decimal, 1 to 4294967295
@@ -228,7 +230,7 @@ Options:
                         18446744073709551615, or 'complete' for the one up to
                         which no segment is missing
       --symbols <FILE>  Names for addresses: CSV of start,end,module,name
-      --workers <N>     How many threads share the work: 1 to 8 [default: 1]
+      --workers <N>     Use up to N threads: 1 to 8 [default: 1]
       --json            One JSON object a line, for other programs
       --complete        Refuse segments of which one is missing (C8)
       --hex             The files hold hexadecimal digits, not bytes
@@ -258,7 +260,7 @@ Options:
                         18446744073709551615, or 'complete' for the one up to
                         which no segment is missing
       --symbols <FILE>  Names for addresses: CSV of start,end,module,name
-      --workers <N>     How many threads share the work: 1 to 8 [default: 1]
+      --workers <N>     Use up to N threads: 1 to 8 [default: 1]
       --json            One JSON object a line, for other programs
       --complete        Refuse segments of which one is missing (C8)
       --hex             The files hold hexadecimal digits, not bytes
@@ -287,7 +289,7 @@ Options:
                         18446744073709551615, or 'complete' for the one up to
                         which no segment is missing
       --symbols <FILE>  Names for addresses: CSV of start,end,module,name
-      --workers <N>     How many threads share the work: 1 to 8 [default: 1]
+      --workers <N>     Use up to N threads: 1 to 8 [default: 1]
       --json            One JSON object a line, for other programs
       --complete        Refuse segments of which one is missing (C8)
       --hex             The files hold hexadecimal digits, not bytes
@@ -314,7 +316,7 @@ Options:
                         18446744073709551615, or 'complete' for the one up to
                         which no segment is missing
       --symbols <FILE>  Names for addresses: CSV of start,end,module,name
-      --workers <N>     How many threads share the work: 1 to 8 [default: 1]
+      --workers <N>     Use up to N threads: 1 to 8 [default: 1]
       --json            One JSON object a line, for other programs
       --complete        Refuse segments of which one is missing (C8)
       --hex             The files hold hexadecimal digits, not bytes
@@ -336,7 +338,7 @@ Arguments:
 
 Options:
       --symbols <FILE>  Names for addresses: CSV of start,end,module,name
-      --workers <N>     How many threads share the work: 1 to 8 [default: 1]
+      --workers <N>     Use up to N threads: 1 to 8 [default: 1]
       --fold            Keep what the events come to, not the events: trace,
                         growth and --until are not answered then
       --complete        Refuse segments of which one is missing (C8)
@@ -451,7 +453,8 @@ Options:
       --process <N>   The process: decimal, at most 4294967295
       --since <N>     Only handles opened after this sequence: decimal, at
                       most 18446744073709551615, or 'snapshot' for that of the
-                      process's last snapshot [default of diff: snapshot]
+                      process's last snapshot
+                      [default: snapshot for diff, none for leaks]
       --at-least <N>  Only stacks with at least N of the handles: decimal, 1
                       to 4294967295 [default: 1]
       --top <N>       At most N rows: decimal, 1 to 4294967295

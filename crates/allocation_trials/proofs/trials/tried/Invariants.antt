@@ -1,4 +1,4 @@
--- Both calls may be made again.
+-- Both closures, the one that makes and the one that calls, may be called again.
 use Rattle.allocation_trials.proofs.trials.tried.Given as goal
 
 abbrev pub invariant-loop-allocation : goal.invariant-loop-allocation

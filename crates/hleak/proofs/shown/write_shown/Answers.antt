@@ -1,4 +1,4 @@
--- One character more is shown; and all characters of the text were.
+-- One character more is shown, and after the last one all characters of the text were.
 use Rattle.std.proofs.Common.{[], List, ℕ, ap, flat_map, map-id, rules, sym, ◌∙◌}
 use Rattle.std.proofs.Output.{has_written_append, has_written_of_eq}
 use Rattle.std.proofs.lemmas.Iterator.{YieldsList-from_chars}

@@ -1,4 +1,4 @@
--- A part more is copied.
+-- One part more is copied as it is.
 use Rattle.std.proofs.Common.{◌≡◌, ◌∙◌, List, ap, sym, ◌∷◌, [], ◌++◌, take}
 use Rattle.std.proofs.lemmas.List.{take_more}
 use Rattle.htl_analyst.specs.States.{Part}

@@ -1,4 +1,4 @@
--- The parts so far have nothing.
+-- So far each part that was made has nothing.
 use Rattle.std.proofs.Common.{◌≡◌, replicate}
 use Rattle.htl_analyst.specs.States.{no_part}
 use Rattle.htl_analyst.proofs.analyst.no_parts.Given as goal

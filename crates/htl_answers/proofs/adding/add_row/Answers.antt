@@ -1,4 +1,4 @@
--- The row joins the last sum, or comes after it.
+-- A row whose key is that of the last sum joins it, and else comes after it.
 use Rattle.std.proofs.Common.{rules, ◌≡◌, ◌<◌, ◌-◌, ◌++◌, ◌∷◌, [], false, length, get_or, set, sym, ◌∙◌, ap, subst, arith}
 use Rattle.std.specs.Ordering.{is_eq}
 use Rattle.std.specs.declared.cmp.Ordering.TheVariants.{Less}

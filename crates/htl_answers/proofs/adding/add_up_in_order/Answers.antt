@@ -1,4 +1,4 @@
--- A row more is added to the sums of those before it.
+-- With one row more, the sums are those of the rows before and of this one.
 use Rattle.std.proofs.Common.{◌≡◌, ◌+◌, ◌-◌, ◌++◌, ◌∷◌, [], get_or, take, sym, ◌∙◌, ap, subst, arith}
 use Rattle.std.specs.Ordering.{is_lt}
 use Rattle.std.proofs.lemmas.List.{take_more, get_or_read}

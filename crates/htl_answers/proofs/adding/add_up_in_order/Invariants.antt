@@ -1,4 +1,4 @@
--- The sums of the rows so far, the last of which has the key of the last row.
+-- The sums are those of the rows so far, and the last one has the key of the last row.
 use Rattle.std.proofs.Common.{◌≡◌, ◌<◌, ◌-◌, length, get_or, take}
 use Rattle.htl_event.specs.declared.slot.Count.{Count}
 use Rattle.htl_answers.specs.Rows.{AreSums}

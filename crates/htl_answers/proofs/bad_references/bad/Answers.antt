@@ -1,4 +1,4 @@
--- The rows of the process's slots.
+-- The rows of the process's bad slots are its bad references.
 use Rattle.std.proofs.Common.{sym, subst, ◌∙◌, ap}
 use Rattle.std.specs.List.{filter_map}
 use Rattle.std.proofs.lemmas.Result.{IfOk-weaker}

@@ -1,4 +1,4 @@
--- One count more.
+-- A count of one of the process's bad slots adds its row, and any other adds nothing.
 use Rattle.std.proofs.Common.{◌++◌, ◌∷◌, [], take, refl, sym, ap, ◌∙◌}
 use Rattle.std.specs.List.{filter_map}
 use Rattle.std.proofs.lemmas.List.{take_more}

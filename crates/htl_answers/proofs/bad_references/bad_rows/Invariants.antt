@@ -1,4 +1,4 @@
--- The rows of the counts so far.
+-- The rows so far are those of the counts that were passed.
 use Rattle.std.proofs.Common.{◌≡◌, take}
 use Rattle.std.specs.List.{filter_map}
 use Rattle.htl_answers.proofs.BadLemmas.{row_of}

@@ -1,4 +1,4 @@
--- The outermost addresses are those of the path.
+-- A stack begins with a path where its outermost addresses are those of the path.
 use Rattle.std.proofs.Common.{◌-◌, length, take, reverse, sym, ap, ◌∙◌, arith, nat_eq}
 use Rattle.std.specs.Ordering.{nat_cmp, is_eq}
 use Rattle.std.specs.Cmp.{unsigned_ties}

@@ -1,4 +1,4 @@
--- The count of the parts so far.
+-- The count under the path is that of the parts so far.
 use Rattle.std.proofs.Common.{◌≡◌, ◌≤◌, List, map, take}
 use Rattle.htl_event.specs.Events.{Event}
 use Rattle.htl_event.specs.Tallies.{under, total_of}

@@ -1,4 +1,4 @@
--- One event more.
+-- The count gains one where one event more is counted under the path.
 use Rattle.std.proofs.Common.{◌∷◌, [], ◌++◌, take, sym, ap, ◌∙◌, arith}
 use Rattle.std.proofs.lemmas.List.{take_more, take_all}
 use Rattle.htl_event.specs.Events.{Event}

@@ -1,4 +1,4 @@
--- The count of the events so far.
+-- The count under the path is that of the events so far.
 use Rattle.std.proofs.Common.{◌≡◌, ◌≤◌, take}
 use Rattle.htl_event.specs.Tallies.{under, total_of}
 use Rattle.htl_answers.proofs.counts.under_events.Given as goal

@@ -1,4 +1,4 @@
--- The events of one list more.
+-- The count under the path gains what the events of one list more count there.
 use Rattle.std.proofs.Common.{◌≡◌, ◌+◌, ◌≤◌, length, take, get_or, ap, ◌∙◌, length-append, arith}
 use Rattle.std.specs.Prelude.{flat_map}
 use Rattle.std.proofs.lemmas.List.{take_all}

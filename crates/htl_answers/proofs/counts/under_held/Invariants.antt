@@ -1,4 +1,4 @@
--- The count of the events of the lists so far.
+-- The count under the path is that of the events of the lists so far.
 use Rattle.std.proofs.Common.{◌≡◌, ◌≤◌, take, length}
 use Rattle.std.specs.Prelude.{flat_map}
 use Rattle.htl_event.specs.Tallies.{under, total_of}

@@ -1,4 +1,4 @@
--- One moment more.
+-- A turn lists one moment of the span more.
 use Rattle.std.proofs.Common.{arith, refl}
 use Rattle.std.proofs.lemmas.List.FromFn.{map-range_with_len_more}
 use Rattle.htl_event.specs.Growth.{moment_at}

@@ -1,4 +1,4 @@
--- The moments so far.
+-- The first moments of the span are listed, as many as were asked for so far.
 use Rattle.std.proofs.Common.{◌≡◌, map}
 use Rattle.std.specs.List.{range_with_len}
 use Rattle.htl_event.specs.Growth.{moment_at}

@@ -1,4 +1,4 @@
--- The moments in order, each once.
+-- The moments that are left once repeats are dropped are the span's, in order, each once.
 use Rattle.htl_answers.proofs.PointLemmas.{moments_are, numbers_rise}
 use Rattle.htl_answers.proofs.growing.moments_of.Goals as goal
 

@@ -1,4 +1,4 @@
--- The points of the moments so far.
+-- The points so far are those of the moments that were passed.
 use Rattle.std.proofs.Common.{◌≡◌, map, take}
 use Rattle.htl_answers.specs.Points.{point_at}
 use Rattle.htl_answers.proofs.growing.points_of.Given as goal

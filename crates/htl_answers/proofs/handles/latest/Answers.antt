@@ -1,4 +1,4 @@
--- One part more.
+-- The handle's latest event over one part more is the later of that so far and the part's.
 use Rattle.std.proofs.Common.{◌≢◌, ◌++◌, ◌∙◌, arith}
 use Rattle.std.proofs.lemmas.List.{take_all}
 use Rattle.htl_event.specs.Slots.{base_of}

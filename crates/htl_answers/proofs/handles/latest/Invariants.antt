@@ -1,4 +1,4 @@
--- The answer over the parts so far.
+-- The event so far is the handle's latest over the parts that were passed.
 use Rattle.std.proofs.Common.{List, map, take}
 use Rattle.std.specs.Prelude.{Contains}
 use Rattle.std.specs.Option.{option_copied}

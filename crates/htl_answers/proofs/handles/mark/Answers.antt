@@ -1,4 +1,4 @@
--- One part more.
+-- The mark over one part more is the greater of that so far and the part's.
 use Rattle.std.proofs.Common.{refl, inl, arith}
 use Rattle.std.proofs.lemmas.List.{take_all}
 use Rattle.htl_event.specs.declared.kind.Kind.TheVariants.{Snapshot}

@@ -1,4 +1,4 @@
--- The answer over the parts so far.
+-- The number so far is the process's snapshot mark over the parts that were passed.
 use Rattle.std.proofs.Common.{List, map, take}
 use Rattle.std.specs.Prelude.{Contains}
 use Rattle.htl_event.specs.Handles.{IsMark}

@@ -1,4 +1,4 @@
--- The events of one list more.
+-- The greatest sequence over one list more is the greater of that so far and the list's.
 use Rattle.std.proofs.Common.{take, refl, arith, inl}
 use Rattle.std.specs.Prelude.{flat_map}
 use Rattle.std.proofs.lemmas.List.{take_all}

@@ -1,4 +1,4 @@
--- The greatest of the events of the lists so far.
+-- The number so far is the greatest sequence of the kind and process in the lists that were passed.
 use Rattle.std.proofs.Common.{take}
 use Rattle.std.specs.Prelude.{flat_map}
 use Rattle.htl_tables.specs.Laws.{IsGreatestOf}

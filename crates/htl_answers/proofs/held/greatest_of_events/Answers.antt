@@ -1,4 +1,4 @@
--- One event more.
+-- The greatest sequence rises to that of one event more, where this is of the kind and process.
 use Rattle.std.proofs.Common.{◌∷◌, [], ◌++◌, take, refl, sym, ap, ◌∙◌, arith, inl}
 use Rattle.std.proofs.lemmas.List.{take_more, take_all}
 use Rattle.htl_event.specs.Events.{Event}

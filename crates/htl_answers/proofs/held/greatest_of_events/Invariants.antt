@@ -1,4 +1,4 @@
--- The greatest of the events so far.
+-- The number so far is the greatest sequence of the kind and process among the events that were passed.
 use Rattle.std.proofs.Common.{take}
 use Rattle.htl_tables.specs.Laws.{IsGreatestOf}
 use Rattle.htl_answers.proofs.held.greatest_of_events.Given as goal

@@ -1,4 +1,4 @@
--- The events of one list more.
+-- The latest event over one list more is the later of that so far and the list's.
 use Rattle.std.proofs.Common.{take, arith}
 use Rattle.std.specs.Prelude.{flat_map}
 use Rattle.std.proofs.lemmas.List.{take_all}

@@ -1,4 +1,4 @@
--- The latest of the events of the lists so far.
+-- The event so far is the handle's latest in the lists that were passed.
 use Rattle.std.proofs.Common.{take}
 use Rattle.std.specs.Prelude.{Contains, flat_map}
 use Rattle.std.specs.Option.{option_copied}

@@ -1,4 +1,4 @@
--- One event more.
+-- One event more of the handle is the latest where it is later than that so far.
 use Rattle.std.proofs.Common.{◌∷◌, [], ◌++◌, take, sym, ap, ◌∙◌, arith}
 use Rattle.std.proofs.lemmas.List.{take_more, take_all}
 use Rattle.htl_event.specs.Events.{Event}

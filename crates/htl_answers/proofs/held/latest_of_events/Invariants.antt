@@ -1,4 +1,4 @@
--- The latest of the events so far.
+-- The event so far is the handle's latest among those that were passed.
 use Rattle.std.proofs.Common.{take}
 use Rattle.std.specs.Prelude.{Contains}
 use Rattle.std.specs.Option.{option_copied}

@@ -1,4 +1,4 @@
--- The counts of the outstanding handles' opens that are so many at least, with the greatest number first.
+-- The rows are the stacks that opened so many outstanding handles at least, with the greatest number first.
 use Rattle.std.proofs.Common.{◌≡◌, map, sym, ap, subst, ◌∙◌}
 use Rattle.std.specs.Prelude.{Contains, filter}
 use Rattle.std.proofs.lemmas.Result.{IfOk-weaker}

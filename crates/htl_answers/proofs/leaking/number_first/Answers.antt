@@ -1,4 +1,4 @@
--- One row more.
+-- A row more is pushed where its number is great enough, and else it is left out.
 use Rattle.std.proofs.Common.{◌≡◌, ◌+◌, ◌∷◌, [], ◌++◌, List, map, take, sym, ap, ◌∙◌, refl}
 use Rattle.std.specs.Prelude.{ℕ, filter}
 use Rattle.std.proofs.lemmas.Bool.{le-leb, lt-leb}

@@ -1,4 +1,4 @@
--- The rows so far that have so many opens.
+-- The rows so far are those of the counts that were passed and are great enough.
 use Rattle.std.proofs.Common.{◌≡◌, map, take}
 use Rattle.std.specs.Prelude.{filter}
 use Rattle.htl_answers.specs.Leaks.{opens_many, counted_first}

@@ -1,4 +1,4 @@
--- One row more.
+-- A turn puts one row more the other way round, the stack first.
 use Rattle.std.proofs.Common.{◌∷◌, [], ◌++◌, map, take, sym, ap, ◌∙◌, refl}
 use Rattle.std.proofs.lemmas.List.{take_more, map-append}
 use Rattle.htl_answers.specs.Leaks.{stack_before_number}

@@ -1,4 +1,4 @@
--- The rows so far.
+-- The rows so far have the stack first and then the number.
 use Rattle.std.proofs.Common.{◌≡◌, map, take}
 use Rattle.htl_answers.specs.Leaks.{stack_before_number}
 use Rattle.htl_answers.proofs.leaking.stack_first.Given as goal

@@ -1,4 +1,4 @@
--- The ends so far and those of the changes that are left.
+-- The ends so far and those of the changes that are left are the ends of all changes.
 use Rattle.std.proofs.Common.{◌≡◌, ◌++◌, drop}
 use Rattle.htl_answers.specs.Lives.{ends_of}
 use Rattle.htl_answers.proofs.lives.ends_of.Given as goal

@@ -1,4 +1,4 @@
--- One event more.
+-- An event more that opens or closes a handle of the process, or exits it, was noted, and any other adds nothing.
 use Rattle.htl_answers.specs.Lives.{change_of, exit_of}
 use Rattle.htl_answers.proofs.FilterMaps.{rows_more}
 use Rattle.htl_answers.proofs.lives.note_all.Goals as goal

@@ -1,4 +1,4 @@
--- The events so far were noted.
+-- The changes and the exits of the events so far were noted.
 use Rattle.std.proofs.Common.{◌≡◌, ◌++◌, take}
 use Rattle.htl_answers.specs.Lives.{changes_of, exits_of}
 use Rattle.htl_answers.proofs.lives.note_all.Given as goal

@@ -1,4 +1,4 @@
--- No more lives ended than began.
+-- Up to the moment no more lives ended than began, so the difference is the number that is left.
 use Rattle.std.proofs.Common.{ap, ◌∙◌, arith}
 use Rattle.htl_answers.specs.Lives.{number_to}
 use Rattle.htl_answers.proofs.lives.number_at.Goals as goal

@@ -1,4 +1,4 @@
--- One change more.
+-- A change more that opened a handle adds its start, and any other adds nothing.
 use Rattle.std.proofs.Common.{false, take, get_or, refl, sym, ap, ◌∙◌}
 use Rattle.std.specs.List.{filter_map}
 use Rattle.std.proofs.lemmas.List.{take_more}

@@ -1,4 +1,4 @@
--- The starts of the changes so far.
+-- The starts so far are those of the changes that were passed.
 use Rattle.std.proofs.Common.{◌≡◌, take}
 use Rattle.std.specs.List.{filter_map}
 use Rattle.htl_answers.specs.Lives.{start_of}

@@ -1,4 +1,4 @@
--- One list more.
+-- The changes and the exits gain those of one list more.
 use Rattle.htl_answers.specs.Lives.{change_of, exit_of}
 use Rattle.htl_answers.proofs.FilterMaps.{rows_of_lists_more}
 use Rattle.htl_answers.proofs.lives.turns_of.Goals as goal

@@ -1,4 +1,4 @@
--- The events of the lists so far were noted.
+-- The changes and the exits of the events of the lists so far were noted.
 use Rattle.std.proofs.Common.{◌≡◌, take}
 use Rattle.std.specs.Prelude.{flat_map}
 use Rattle.htl_answers.specs.Lives.{changes_of, exits_of}

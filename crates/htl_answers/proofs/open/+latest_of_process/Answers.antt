@@ -1,4 +1,4 @@
--- Both halves together.
+-- The process's latest events over both halves together are the later of theirs.
 use Rattle.std.proofs.Common.{length, ◌/◌, sym}
 use Rattle.std.proofs.lemmas.Result.{IfOk-weaker}
 use Rattle.htl_answers.proofs.OpenLemmas.{latest_halves, latest_of_one}

@@ -1,4 +1,4 @@
--- Half as many parts.
+-- Each call of `latest_of_process` has half as many parts, so the calls end.
 use Rattle.std.proofs.Common.{length}
 use Rattle.htl_answers.proofs.open.+latest_of_process.Given as goal
 

@@ -1,4 +1,4 @@
--- What is held and what was folded.
+-- The process's latest events over a part are the later of what it folded and what it holds.
 use Rattle.std.proofs.Common.{sym, subst}
 use Rattle.std.specs.Prelude.{List}
 use Rattle.std.proofs.lemmas.Result.{IfOk-weaker}

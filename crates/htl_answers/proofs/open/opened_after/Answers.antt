@@ -1,4 +1,4 @@
--- One event more.
+-- An event more that is an open after the moment is copied, and any other is left out.
 use Rattle.std.proofs.Common.{[], ◌∷◌, ◌++◌, List, sym, ap, ◌∙◌}
 use Rattle.htl_event.specs.Events.{Event}
 use Rattle.htl_answers.specs.Open.{is_opened_after}

@@ -1,4 +1,4 @@
--- Copies of the opens after the moment so far.
+-- The copies so far are of the opens after the moment among the events that were passed.
 use Rattle.std.proofs.Common.{◌≡◌, take}
 use Rattle.std.specs.Prelude.{filter}
 use Rattle.htl_answers.specs.Open.{is_opened_after}

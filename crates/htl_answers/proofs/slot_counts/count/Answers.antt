@@ -1,4 +1,4 @@
--- A row more, where none was found.
+-- Where no row of the key was found, a row more counts the event.
 use Rattle.std.proofs.Common.{rules, ◌≡◌, ◌≤◌, List, [], ◌∷◌, ◌++◌, take, drop, length, append-nil, sym, ap, ◌∙◌, subst, arith}
 use Rattle.std.proofs.lemmas.List.{drop_all, take_all}
 use Rattle.htl_event.specs.declared.slot.Count.{Count}

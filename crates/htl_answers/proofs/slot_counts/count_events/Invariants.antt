@@ -1,4 +1,4 @@
--- The events so far were counted.
+-- The rows count what those before did, and the events so far.
 use Rattle.std.proofs.Common.{◌++◌, take}
 use Rattle.htl_answers.specs.Rows.{rows_of, CountAlike}
 use Rattle.htl_answers.proofs.slot_counts.count_events.Given as goal

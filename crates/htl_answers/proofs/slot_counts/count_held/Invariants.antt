@@ -1,4 +1,4 @@
--- The lists so far were counted.
+-- The rows count what those before did, and the events of the lists so far.
 use Rattle.std.proofs.Common.{◌++◌, take}
 use Rattle.std.specs.Prelude.{flat_map}
 use Rattle.htl_answers.specs.Rows.{rows_of, CountAlike}

@@ -1,4 +1,4 @@
--- The row that was found counts one more.
+-- The row of the key that was found counts one more, and no other row changes.
 use Rattle.std.proofs.Common.{rules, ◌≡◌, get_or, set, sym, ap, subst, ◌∙◌, ◌++◌, ◌∷◌, []}
 use Rattle.std.proofs.lemmas.List.{get_or_default}
 use Rattle.htl_event.specs.declared.slot.Count.{Count}

@@ -1,4 +1,4 @@
--- The rows of the events, added up.
+-- The rows of the events are added up by their keys.
 use Rattle.std.proofs.Common.{rules, ◌∙◌, arith}
 use Rattle.std.proofs.lemmas.Result.{IfOk-weaker}
 use Rattle.htl_answers.specs.Rows.{CountAlike, rows_of}

@@ -1,4 +1,4 @@
--- The rows of all parts, added up.
+-- The rows of all parts are added up by their keys.
 use Rattle.std.proofs.Common.{◌∙◌}
 use Rattle.std.proofs.lemmas.Result.{IfOk-weaker}
 use Rattle.htl_answers.proofs.slot_counts.counts_of_slots.Goals as goal

@@ -1,4 +1,4 @@
--- One part more: what it folded, and what it holds.
+-- The rows gain those of one part more: of what it folded and of what it holds.
 use Rattle.std.proofs.Common.{rules, ◌≡◌, ◌++◌, [], length, map, take, sym, ap, subst, ◌∙◌, arith}
 use Rattle.std.specs.Prelude.{flat_map}
 use Rattle.std.proofs.lemmas.List.{take_all}

@@ -1,4 +1,4 @@
--- The rows of the parts so far.
+-- The rows so far count the events of the parts that were passed, and no more than these.
 use Rattle.std.proofs.Common.{◌≡◌, ◌≤◌, List, map, take}
 use Rattle.htl_event.specs.Events.{Event}
 use Rattle.htl_answers.specs.Parts.{AreEventsOf, size_of_all}

@@ -1,4 +1,4 @@
--- The counts of all slots, listed.
+-- The counts of all slots list how often each slot of the events came.
 use Rattle.htl_tree.specs.declared.slots.Slots.TheVariants.{All}
 use Rattle.htl_answers.proofs.SlotLists.{sums_listed, all_listed}
 use Rattle.htl_answers.proofs.sums.slot_sums.Goals as goal

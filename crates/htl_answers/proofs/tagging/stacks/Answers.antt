@@ -1,4 +1,4 @@
--- The rows of one slot without it.
+-- The rows of the object's tag, without the slot, are its reference stacks.
 use Rattle.std.proofs.Common.{map, sym, subst, ◌∙◌, ap}
 use Rattle.std.proofs.lemmas.Result.{IfOk-weaker}
 use Rattle.htl_event.specs.Tallies.{IsStacks}

@@ -1,4 +1,4 @@
--- One sum more.
+-- A sum more of one of the object's slots adds its tag's row, and any other adds nothing.
 use Rattle.std.proofs.Common.{take, get_or, refl, sym, ap, ◌∙◌}
 use Rattle.std.specs.List.{filter_map}
 use Rattle.std.proofs.lemmas.List.{take_more}

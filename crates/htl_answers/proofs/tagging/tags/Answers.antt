@@ -1,4 +1,4 @@
--- The rows of the sums over the object's slots.
+-- The tag rows of the sums over the object's slots are its tag balances.
 use Rattle.std.proofs.Common.{sym, subst, ◌∙◌, ap}
 use Rattle.std.specs.List.{filter_map}
 use Rattle.std.proofs.lemmas.Result.{IfOk-weaker}

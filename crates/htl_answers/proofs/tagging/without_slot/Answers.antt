@@ -1,4 +1,4 @@
--- One row more.
+-- A turn adds one row more without its slot.
 use Rattle.std.proofs.Common.{◌≡◌, ◌+◌, ◌++◌, ◌∷◌, [], map, take, refl, sym, ap, ◌∙◌}
 use Rattle.std.proofs.lemmas.List.{take_more, map-append}
 use Rattle.htl_answers.proofs.SlotLists.{strip}

@@ -1,4 +1,4 @@
--- The rows so far.
+-- The rows of slots and stacks so far stand there without their slot.
 use Rattle.std.proofs.Common.{◌≡◌, map, take}
 use Rattle.htl_answers.proofs.SlotLists.{strip}
 use Rattle.htl_answers.proofs.tagging.without_slot.Given as goal

@@ -1,4 +1,4 @@
--- Both halves together.
+-- The tree of both halves together is the sum of their trees.
 use Rattle.std.proofs.Common.{length, ◌/◌}
 use Rattle.std.proofs.lemmas.Result.{IfOk-weaker}
 use Rattle.htl_tree.specs.Trees.{total_count}

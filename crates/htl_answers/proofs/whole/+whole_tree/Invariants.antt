@@ -1,4 +1,4 @@
--- Half as many parts.
+-- Each call of `whole_tree` has half as many parts, so the calls end.
 use Rattle.std.proofs.Common.{length}
 use Rattle.htl_answers.proofs.whole.+whole_tree.Given as goal
 

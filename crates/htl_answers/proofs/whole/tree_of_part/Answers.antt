@@ -1,4 +1,4 @@
--- What is folded and what is held add up.
+-- What a part folded and what it holds add up to its tree.
 use Rattle.std.proofs.Common.{List, length, ap, sym, subst, arith}
 use Rattle.std.proofs.lemmas.Result.{IfOk-weaker}
 use Rattle.htl_event.specs.Events.{Event}

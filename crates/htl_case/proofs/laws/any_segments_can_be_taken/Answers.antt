@@ -1,4 +1,4 @@
--- One segment after another, as a repeat or not.
+-- Segments can be taken one after another, each as a repeat or not.
 use Rattle.htl_case.proofs.Headlines.{any_segments_can_be_taken}
 use Rattle.htl_case.proofs.laws.any_segments_can_be_taken.Goals as goal
 

@@ -1,4 +1,4 @@
--- A step more that isn't faulty.
+-- Where the next step isn't faulty, none of one step more is, and else it is the first faulty one.
 use Rattle.std.proofs.lemmas.Bool.{false≢true}
 use Rattle.htl_case.specs.declared.step.Step.TheVariants.{Take}
 use Rattle.htl_case.proofs.FirstFaults.{none_more, none_all}

@@ -1,4 +1,4 @@
--- A case has 1 to 256 processors.
+-- A new analyst can be made for a case, which has 1 to 256 processors.
 use Rattle.std.proofs.Common.{refl, arith, inl, inr}
 use Rattle.htl_case.proofs.Played.{some_processors, few_processors}
 use Rattle.htl_case.proofs.playing.new_analyst.Goals as goal

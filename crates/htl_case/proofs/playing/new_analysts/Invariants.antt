@@ -1,4 +1,4 @@
--- So far as many new analysts as there were turns.
+-- So far there are as many new analysts as there were turns.
 use Rattle.std.proofs.Common.{◌≡◌, replicate}
 use Rattle.htl_analyst.specs.Steps.{new_state}
 use Rattle.htl_case.proofs.playing.new_analysts.Given as goal

@@ -1,4 +1,4 @@
--- One segment's sequences more, and one segment more that fits.
+-- The sequences of one segment more are put after the others, and one segment more fits.
 use Rattle.std.proofs.Common.{rules}
 use Rattle.std.proofs.lemmas.List.Elements.{All-more}
 use Rattle.htl_segment.specs.Content.{Fits}

@@ -1,4 +1,4 @@
--- What stands inside is of the code's form.
+-- What stands between the parentheses is read as the form of the code asks.
 use Rattle.htl_command.proofs.FaultTexts.{finds-none, no_field, no_numbers}
 use Rattle.htl_command.proofs.printed.parts_of.Goals as goal
 

@@ -1,4 +1,4 @@
--- Two numbers are split at the comma.
+-- Two numbers are read from the halves round the comma, and where there is no comma there are none.
 use Rattle.std.proofs.Common.{◌≡◌, arith, sym}
 use Rattle.std.specs.Prelude.{None, Some}
 use Rattle.std.proofs.lemmas.Str.Pattern.{split_parts}

@@ -12,7 +12,7 @@ use Rattle.htl_command.specs.declared.names.CommandOption.{CommandOption}
 use Rattle.htl_command.specs.declared.names.CommandOption.TheVariants.{Top, Until, Workers}
 use Rattle.htl_command.specs.declared.question.Moment.{Moment}
 use Rattle.htl_command.specs.declared.question.Setting.{Setting}
-use Rattle.htl_command.specs.declared.reading.InvalidValue.{InvalidValue}
+use Rattle.htl_command.specs.declared.no_job.InvalidValue.{InvalidValue}
 use Rattle.htl_command.proofs.reading.job.Goals as goal
 
 -- the first that breaks its rule is the first of more

@@ -1,4 +1,4 @@
--- The text so far went out.
+-- The text up to the place that the writes came to went out.
 use Rattle.std.proofs.Common.{◌≡◌, ◌≤◌, ◌-◌, length, take, false}
 use Rattle.std.specs.Io.KnownBytes.{Appends}
 use Rattle.htl_device.proofs.whole.write_whole.Given as goal

@@ -1,4 +1,4 @@
--- Where nothing is left, the arguments are the line's.
+-- Where nothing is left of the line, the arguments that were split off are all that it has.
 use Rattle.std.proofs.Common.{◌≡◌, ◌∙◌, ◌++◌, List, [], ◌∷◌, ℕ, length, rules, sym, ap, map, string_bytes}
 use Rattle.std.proofs.lemmas.List.{append-nil}
 use Rattle.std.specs.List.{list_all}

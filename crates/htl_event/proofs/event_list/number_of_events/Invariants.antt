@@ -1,4 +1,4 @@
--- The number of the events so far.
+-- The number counted so far is that of the events of the lists that were passed.
 use Rattle.std.proofs.Common.{◌≡◌, take, length}
 use Rattle.std.specs.List.{flat_map}
 use Rattle.htl_event.proofs.event_list.number_of_events.Given as goal

@@ -1,4 +1,4 @@
--- Answers over events that agree on a process or an object are the same.
+-- The law: an answer about a process or an object is the same over all events and over those that are wanted for it.
 use Rattle.htl_event.proofs.Wanted.{process_needs_its_own, open_handles_need_wanted, object_needs_its_own}
 use Rattle.htl_event.proofs.laws.answers_need_what_is_wanted.Goals as goal
 

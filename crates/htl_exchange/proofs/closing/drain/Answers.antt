@@ -1,4 +1,4 @@
--- What is collected adds to what was got.
+-- What the desk collects adds to what it has got.
 use Rattle.std.proofs.Common.{◌∙◌}
 use Rattle.htl_exchange.proofs.Following.{collects_keeps}
 use Rattle.htl_exchange.proofs.closing.drain.Goals as goal

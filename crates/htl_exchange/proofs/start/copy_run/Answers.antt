@@ -1,4 +1,4 @@
--- A turned list has the same members.
+-- The copied segments of a processor, turned around, are its run.
 use Rattle.std.proofs.Common.{◌++◌, List, ap, ◌∙◌}
 use Rattle.std.specs.Prelude.{filter}
 use Rattle.htl_segment.specs.Content.{Content}

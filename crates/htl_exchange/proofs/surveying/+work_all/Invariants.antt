@@ -1,4 +1,4 @@
--- Each call has one desk fewer.
+-- Each call of `work_all` has one desk fewer, so the calls end.
 use Rattle.std.proofs.Common.{vec_len}
 use Rattle.htl_exchange.proofs.surveying.+work_all.Given as goal
 

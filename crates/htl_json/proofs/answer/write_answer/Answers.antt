@@ -1,4 +1,4 @@
--- The first line and the rows are the values.
+-- Of each answer, the first line and then the rows are the values.
 use Rattle.std.proofs.Common.{Some, None, codes, length, rules, subst, sym}
 use Rattle.std.proofs.lemmas.Result.{on_ok_weaker}
 use Rattle.htl_json.proofs.Added.{AddsValues, answer_added}

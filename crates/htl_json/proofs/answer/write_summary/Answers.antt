@@ -1,4 +1,4 @@
--- The first line and the rows are the values.
+-- A summary's values are its first line, its gaps, the processes that are shown, and the objects that are shown.
 use Rattle.std.proofs.Common.{◌++◌, ◌∷◌, [], length, map, rules, subst}
 use Rattle.std.proofs.lemmas.Result.{on_ok_weaker}
 use Rattle.htl_json.proofs.Added.{line_alone, rows_as_values, values_then}

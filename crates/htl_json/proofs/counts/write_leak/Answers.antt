@@ -1,4 +1,4 @@
--- The fields are those of the line.
+-- The fields of a line of `leaks`: the number of handles, and the stack.
 use Rattle.std.proofs.Common.{◌++◌}
 use Rattle.std.proofs.lemmas.Result.{on_ok_weaker}
 use Rattle.htl_json.proofs.Line.{fields_then, line_added}

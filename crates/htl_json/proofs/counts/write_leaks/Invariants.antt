@@ -1,4 +1,4 @@
--- The lines of the rows so far were added.
+-- The lines of the leaking stacks so far were added.
 use Rattle.std.proofs.Common.{take}
 use Rattle.htl_json.specs.Rows.{leak}
 use Rattle.htl_json.specs.Writing.{AddsLines}

@@ -1,4 +1,4 @@
--- Each turn adds a line.
+-- Each turn adds the line of one stack, with its references and dereferences.
 use Rattle.std.proofs.Common.{arith}
 use Rattle.htl_json.proofs.Added.{rows_done, rows_more}
 use Rattle.htl_json.specs.Rows.{counted_stack}

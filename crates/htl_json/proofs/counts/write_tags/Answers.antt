@@ -1,4 +1,4 @@
--- Each turn adds a line.
+-- Each turn adds the line of one tag.
 use Rattle.std.proofs.Common.{arith}
 use Rattle.htl_json.proofs.Added.{row_added, rows_done}
 use Rattle.htl_json.specs.Rows.{tag_balance}

@@ -1,4 +1,4 @@
--- Each call adds its field.
+-- An event's own fields, of which each call adds one: word, handle, sequence, thread.
 use Rattle.std.proofs.Common.{◌++◌, ◌∷◌, [], codes}
 use Rattle.std.proofs.lemmas.Result.{on_ok_weaker}
 use Rattle.json.specs.Json.{string}

@@ -1,4 +1,4 @@
--- Each turn adds a line.
+-- Each turn adds the line of one event of the listing, by the handle as it was written.
 use Rattle.std.proofs.Common.{arith, subst}
 use Rattle.htl_json.proofs.Added.{rows_done, rows_more}
 use Rattle.htl_json.specs.Rows.{event_row, listed}

@@ -1,4 +1,4 @@
--- The address comes before what names it.
+-- The fields of a frame: the address, and then what names it.
 use Rattle.std.proofs.Common.{ap, subst}
 use Rattle.std.proofs.lemmas.Result.{on_ok_weaker}
 use Rattle.htl_symbols.specs.Ranges.{resolved}

@@ -1,4 +1,4 @@
--- The fields are those of the frame.
+-- A frame is an object with the fields of its address.
 use Rattle.std.proofs.Common.{◌++◌}
 use Rattle.std.proofs.lemmas.Result.{on_ok_weaker}
 use Rattle.htl_symbols.specs.Ranges.{resolved}

@@ -1,4 +1,4 @@
--- The frames are the items of the field's array.
+-- A stack is one field: an array whose items are the frames.
 use Rattle.std.proofs.Common.{codes, map, subst, sym}
 use Rattle.std.proofs.lemmas.List.Folds.{flat_map-map}
 use Rattle.std.proofs.lemmas.Result.{on_ok_weaker}

@@ -1,4 +1,4 @@
--- Each call adds its field.
+-- A point's fields, of which each call adds one: sequence, outstanding.
 use Rattle.std.proofs.Common.{◌∷◌, [], codes}
 use Rattle.std.proofs.lemmas.Result.{on_ok_weaker}
 use Rattle.htl_json.proofs.Line.{fields_then}

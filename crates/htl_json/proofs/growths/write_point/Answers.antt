@@ -1,4 +1,4 @@
--- The fields are those of the line.
+-- A point's line has the fields of the point, and no others.
 use Rattle.std.proofs.lemmas.Result.{on_ok_weaker}
 use Rattle.htl_json.proofs.Line.{line_added}
 use Rattle.htl_json.specs.Rows.{point_fields}

@@ -1,4 +1,4 @@
--- The fields are those of both calls.
+-- The end of a first line: the moment, and then the number of rows.
 use Rattle.std.proofs.lemmas.Result.{on_ok_weaker}
 use Rattle.htl_json.proofs.Line.{fields_then}
 use Rattle.htl_json.specs.Heads.{count_field, until_fields}

@@ -1,4 +1,4 @@
--- Each call adds its field.
+-- How many rows of each kind there are, of which each call adds one: gaps, processes, objects, unbalanced.
 use Rattle.std.proofs.Common.{◌++◌, ◌∷◌, [], codes}
 use Rattle.std.proofs.lemmas.Result.{on_ok_weaker}
 use Rattle.htl_json.proofs.Line.{fields_then}

@@ -1,4 +1,4 @@
--- The fields are those of the line.
+-- The fields of the first line of a summary: the totals, how many rows of each kind there are, and the moment.
 use Rattle.std.proofs.Common.{◌++◌}
 use Rattle.std.proofs.lemmas.Result.{on_ok_weaker}
 use Rattle.htl_json.proofs.Line.{fields_then, line_added}

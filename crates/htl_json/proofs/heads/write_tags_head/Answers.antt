@@ -1,4 +1,4 @@
--- The fields are those of the line.
+-- The fields of the first line of `tags`: question and object, and the end.
 use Rattle.std.proofs.Common.{◌++◌, codes}
 use Rattle.std.proofs.lemmas.Result.{on_ok_weaker}
 use Rattle.htl_json.proofs.Line.{fields_then, line_added}

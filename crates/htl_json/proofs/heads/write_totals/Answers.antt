@@ -1,4 +1,4 @@
--- Each call adds its field.
+-- What there is in all, of which each call adds one field.
 use Rattle.std.proofs.Common.{◌++◌, ◌∷◌, [], codes}
 use Rattle.std.proofs.lemmas.Result.{on_ok_weaker}
 use Rattle.json.specs.Json.{string}

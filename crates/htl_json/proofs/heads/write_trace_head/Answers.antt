@@ -1,4 +1,4 @@
--- The fields are those of the line.
+-- The fields of the first line of a listing: question and process, the base handle, and the end.
 use Rattle.std.proofs.Common.{◌++◌, subst, codes}
 use Rattle.std.proofs.lemmas.Result.{on_ok_weaker}
 use Rattle.htl_event.specs.Slots.{base_of}

@@ -1,4 +1,4 @@
--- A value is that of one row.
+-- The law: where two rows of one kind have one value, they agree in all that the value shows.
 use Rattle.htl_json.proofs.OneRow.{one_bad_reference, one_balance, one_counted, one_gap, one_leak, one_listed, one_object, one_opened}
 use Rattle.htl_json.proofs.OneRow.{one_point, one_process}
 use Rattle.htl_json.proofs.laws.a_value_is_of_one_row.Goals as goal

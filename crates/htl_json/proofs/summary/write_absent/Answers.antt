@@ -1,4 +1,4 @@
--- Each call adds its field.
+-- The fields of a processor without a segment, of which each call adds one: row, processor, from.
 use Rattle.std.proofs.Common.{◌++◌, ◌∷◌, [], codes}
 use Rattle.std.proofs.lemmas.Result.{on_ok_weaker}
 use Rattle.json.specs.Json.{string}

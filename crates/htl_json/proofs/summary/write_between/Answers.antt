@@ -1,4 +1,4 @@
--- Each call adds its field.
+-- The fields of segments that are missing, of which each call adds one: row, processor, from, to.
 use Rattle.std.proofs.Common.{◌++◌, ◌∷◌, [], codes}
 use Rattle.std.proofs.lemmas.Result.{on_ok_weaker}
 use Rattle.json.specs.Json.{string}

@@ -1,4 +1,4 @@
--- Each call adds its field.
+-- A process's first fields, of which each call adds one: row, process, outstanding, opens, closes.
 use Rattle.std.proofs.Common.{◌++◌, ◌∷◌, [], codes}
 use Rattle.std.proofs.lemmas.Result.{on_ok_weaker}
 use Rattle.json.specs.Json.{string}

@@ -1,4 +1,4 @@
--- How add reads its sources, why it ends, and what it adds: the case has no fewer segments than before.
+-- `add` reads its sources one after another, it ends for a cause of theirs, and the case has no fewer segments than before.
 use Rattle.std.proofs.Common.{◌≡◌, ◌∙◌, ◌++◌, ◌∷◌, [], ap, arith, length, map, sym}
 use Rattle.std.proofs.lemmas.Grind.{common_steps}
 use Rattle.std.proofs.lemmas.List.{length-map}

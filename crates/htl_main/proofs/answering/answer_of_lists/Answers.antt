@@ -1,4 +1,4 @@
--- The lists are one part, which stands for all their events.
+-- The lists of events are one part, which answers for all of them.
 use Rattle.std.proofs.Common.{flat_map}
 use Rattle.std.proofs.lemmas.Result.{IfOk-weaker}
 use Rattle.htl_main.proofs.UnfoldedLaws.{are_events_of, few_of}

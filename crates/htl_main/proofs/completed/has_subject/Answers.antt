@@ -1,4 +1,4 @@
--- The case's events until the moment are gone through.
+-- An event of the subject is found where one of the case's events until the moment is about it.
 use Rattle.std.proofs.Common.{◌∙◌, List, ap}
 use Rattle.std.specs.List.{list_any}
 use Rattle.htl_event.specs.Moments.{counted_events}

@@ -1,4 +1,4 @@
--- The greatest so far, and the last sequences of what is left, have the greatest of all.
+-- The greatest so far, together with the last sequences of what is left, has the greatest of all.
 use Rattle.std.proofs.Common.{◌≡◌, drop}
 use Rattle.htl_main.specs.CaseOutlines.{greatest_from}
 use Rattle.htl_main.proofs.coverage.greatest_last.Given as goal

@@ -1,4 +1,4 @@
--- How dump_from reads its sources one after another, what it writes of them, and of the one at which it ends.
+-- `dump_from` reads its sources one after another and writes the segments of each, up to the one at which it ends.
 use Rattle.std.proofs.Common.{◌<◌, [], length, get_or, arith, refl}
 use Rattle.std.proofs.KnownBytes.{Appends-nil}
 use Rattle.std.proofs.lemmas.Option.{slice_get-get_or}

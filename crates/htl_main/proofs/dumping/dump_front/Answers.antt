@@ -1,4 +1,4 @@
--- One segment more; or none follows, memory was refused for it, or it could not be written.
+-- The text of one segment more is written; or none follows, memory was refused for it, or it could not be written.
 use Rattle.std.proofs.Common.{sym, ◌∙◌, inl, inr}
 use Rattle.std.proofs.lemmas.List.{take_rest}
 use Rattle.std.proofs.lemmas.Result.{err_from_is_err_and}

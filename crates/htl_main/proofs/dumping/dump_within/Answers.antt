@@ -1,4 +1,4 @@
--- One read more, the end of the source, and that a fault ends the reading.
+-- A read gives more bytes, whose segments are dumped, or finds the end of the source, and a fault ends the reading.
 use Rattle.std.proofs.Common.{◌≡◌, ◌+◌, ◌<◌, ◌≤◌, ◌++◌, ℕ, true, false, [], length, take, arith, subst, ◌∙◌}
 use Rattle.std.specs.Prelude.{is_err}
 use Rattle.std.specs.Io.KnownBytes.{Consumes, IsAtEnd}

@@ -1,4 +1,4 @@
--- How encode_all reads its sources one after another, what their texts encode, and what is reported of the first that is refused or can't be read.
+-- `encode_all` reads its sources one after another and gives what their texts encode, or reports the first that is refused or can't be read.
 use Rattle.std.proofs.Common.{◌<◌, [], length, get_or, arith, refl, inl, true}
 use Rattle.std.proofs.lemmas.Option.{slice_get-get_or}
 use Rattle.std.proofs.lemmas.Result.{err_from_is_err_and}

@@ -1,4 +1,4 @@
--- How encode_input reads the source: its text is gathered whole, and then encoded.
+-- `encode_input` gathers the text of its source whole, and then encodes it.
 use Rattle.htl_main.proofs.OneSource.{gathered, ungathered}
 use Rattle.htl_main.proofs.encoding.encode_input.Goals as goal
 

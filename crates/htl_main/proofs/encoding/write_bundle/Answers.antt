@@ -1,4 +1,4 @@
--- The digits failed to be written, or the line feed.
+-- Where the bundle could not be written, the write of its digits failed, or that of the line feed.
 use Rattle.std.proofs.Common.{[], ◌∷◌}
 use Rattle.std.proofs.lemmas.Result.{err_from_is_err_and}
 use Rattle.hex.specs.Hex.{encode_lower}

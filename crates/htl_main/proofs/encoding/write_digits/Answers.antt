@@ -1,4 +1,4 @@
--- Some digits more, or those of which the write failed.
+-- The digits of some bytes more are written, or the write of some of them failed.
 use Rattle.std.proofs.Common.{◌≡◌, ◌++◌, sym}
 use Rattle.std.proofs.lemmas.List.{take-append-drop}
 use Rattle.std.proofs.lemmas.Result.{err_from_is_err_and}

@@ -1,4 +1,4 @@
--- The first event has the least sequence.
+-- A new segment falls exactly where its first event, which has the least sequence, isn't above what was folded.
 use Rattle.std.proofs.Common.{◌∙◌, ℕ, List, ap, sym}
 use Rattle.std.specs.Prelude.{slice_get}
 use Rattle.htl_event.specs.Events.{Event}

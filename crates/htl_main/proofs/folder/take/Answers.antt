@@ -1,4 +1,4 @@
--- A segment is taken, or is unfit, and the analyst as before.
+-- A segment is taken, or it is unfit and the analyst stays as before.
 use Rattle.std.proofs.Common.{◌<◌, arith, refl}
 use Rattle.htl_main.proofs.FoldLaws.{conflicts, falls, keeps_one, keeps_same, of_other_count, of_other_trace, takes_one}
 use Rattle.htl_main.proofs.folder.take.Goals as goal

@@ -1,4 +1,4 @@
--- What was added, by what an analyst tells of its trace.
+-- What an analyst tells of its trace says how many segments were added and how much of the trace it has.
 use Rattle.std.proofs.Common.{arith, refl}
 use Rattle.htl_main.proofs.folding.added_to.Goals as goal
 

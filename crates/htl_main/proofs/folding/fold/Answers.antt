@@ -1,4 +1,4 @@
--- What fold took of its sources, why it ends, and how it reads them.
+-- `fold` reads its sources one after another, takes their segments, and ends for a cause of theirs.
 use Rattle.std.proofs.Common.{inl, map}
 use Rattle.std.proofs.lemmas.Result.{err_from_is_err_and}
 use Rattle.htl_main.specs.Origins.{by_fault}

@@ -1,4 +1,4 @@
--- What load_folded begins with, why it doesn't, and how it reads its sources.
+-- `load_folded` reads its sources one after another and begins with what they come to, or ends for a cause of theirs.
 use Rattle.std.proofs.Common.{[], None, map}
 use Rattle.std.proofs.lemmas.Result.{err_from_is_err_and}
 use Rattle.std.specs.Option.{option_copied}

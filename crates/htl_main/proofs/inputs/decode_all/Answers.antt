@@ -1,4 +1,4 @@
--- One input more, and what is reported of the first that is refused.
+-- The segments of one input more are decoded behind the others, or the first input that is refused is reported.
 use Rattle.std.proofs.Common.{◌<◌, ℕ, length, map, refl, Vec, Global}
 use Rattle.std.proofs.lemmas.Option.{slice_get_read}
 use Rattle.std.proofs.lemmas.Result.{err_from_is_err_and}

@@ -1,4 +1,4 @@
--- Inputs have one coverage, and a summary reports the same.
+-- The law: inputs have one coverage, which is that of the summary.
 use Rattle.htl_main.proofs.OneCoverage.{one_coverage, summary_reports}
 use Rattle.htl_main.proofs.laws.one_coverage.Goals as goal
 

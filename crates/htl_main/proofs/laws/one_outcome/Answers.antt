@@ -1,4 +1,4 @@
--- Inputs and symbols come to one outcome.
+-- The law: a job over inputs and symbols comes to one outcome, whatever the number of workers.
 use Rattle.htl_main.proofs.OneOutcome.{one_outcome, for_all_workers}
 use Rattle.htl_main.proofs.laws.one_outcome.Goals as goal
 

@@ -1,4 +1,4 @@
--- How load reads its sources, also where it ends after they were decoded, and why it ends then.
+-- `load` reads its sources one after another, also where it ends after they were decoded, and then for what they come to.
 use Rattle.std.proofs.lemmas.Result.{err_from_is_err_and}
 use Rattle.std.proofs.Common.{map, refl}
 use Rattle.std.specs.Option.{option_copied}

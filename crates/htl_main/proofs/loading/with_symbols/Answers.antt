@@ -1,4 +1,4 @@
--- For with_symbols the first fault of the symbols is a cause for whichever job, and so is memory that was refused for them or for the gaps.
+-- The first fault of the symbols ends whichever job loads them, and so does memory that was refused for them or for the gaps.
 use Rattle.std.proofs.Common.{sym, ◌∙◌}
 use Rattle.std.proofs.lemmas.Result.{err_from_is_err_and}
 use Rattle.std.specs.Option.{option_copied}

@@ -1,4 +1,4 @@
--- The key's segment, and one of a lower number that reaches its least sequence.
+-- The pair that is told is the key's segment and one of a lower number that reaches its least sequence.
 use Rattle.std.proofs.Common.{◌≡◌, ◌∙◌, Some, ap, sym}
 use Rattle.std.specs.Prelude.{slice_get}
 use Rattle.std.proofs.lemmas.Option.{same_Some, slice_get-get_or}

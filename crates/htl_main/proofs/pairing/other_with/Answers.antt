@@ -1,4 +1,4 @@
--- One segment more that isn't another one, or the first that is.
+-- One segment more hasn't the key or the sequence, or is this one, or else it is the first other one that has it.
 use Rattle.std.proofs.Common.{◌∙◌, arith, length, refl, rules, sym}
 use Rattle.std.proofs.lemmas.Bool.{both_ways}
 use Rattle.std.proofs.lemmas.Option.{slice_get_read}

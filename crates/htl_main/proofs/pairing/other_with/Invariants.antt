@@ -1,4 +1,4 @@
--- No segment so far is another one that has it.
+-- No segment so far is another one that has the key or the sequence.
 use Rattle.htl_main.proofs.PairLaws.{AreOneBefore}
 use Rattle.htl_main.proofs.pairing.other_with.Given as goal
 

@@ -1,4 +1,4 @@
--- Two different segments that have an event of one sequence.
+-- The pair that is told of a sequence are two different segments that have an event of it.
 use Rattle.htl_main.proofs.PairLaws.{sequence_pair}
 use Rattle.htl_main.proofs.pairing.pair.Goals as goal
 

@@ -1,4 +1,4 @@
--- The lines, the coverage, the subject and the finding of answered_of_picks are those of one answer over the case.
+-- The lines, the coverage, the subject and the finding that are answered of picks are those of one answer over the case.
 use Rattle.std.proofs.Common.{◌∙◌, inr, rules, refl}
 use Rattle.std.proofs.lemmas.Result.{err_from_is_err_and}
 use Rattle.std.specs.Option.{option_copied}

@@ -1,4 +1,4 @@
--- What pick_from makes of the picks comes of the segments of all inputs, and before the first read no source is read.
+-- What `pick_from` makes of picks comes of the segments of all inputs, and where it ends before the first read no source is read.
 use Rattle.std.proofs.Common.{map, false}
 use Rattle.std.specs.Option.{option_copied}
 use Rattle.std.specs.Io.KnownBytes.{Appends}

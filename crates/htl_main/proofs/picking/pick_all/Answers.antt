@@ -1,4 +1,4 @@
--- How pick_all reads its sources one after another, what it picks, and what is reported of the first that is refused or can't be read.
+-- `pick_all` reads its sources one after another and picks what is asked about, or reports the first that is refused or can't be read.
 use Rattle.std.proofs.Common.{◌<◌, length, get_or, arith, false}
 use Rattle.std.proofs.lemmas.Option.{slice_get-get_or}
 use Rattle.std.proofs.lemmas.Result.{err_from_is_err_and}

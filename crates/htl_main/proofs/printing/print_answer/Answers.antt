@@ -1,4 +1,4 @@
--- The lines that print_answer writes are those of the answer, and why not all of them were written.
+-- `print_answer` writes the lines of the answer, or where a write fails some first part of them.
 use Rattle.htl_main.proofs.printing.print_answer.Goals as goal
 
 pub returns-clause-ok : goal.returns-clause-ok

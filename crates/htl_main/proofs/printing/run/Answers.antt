@@ -1,4 +1,4 @@
--- What run prints and reports is that of the answer over the case of its inputs, and why it ends after they were decoded.
+-- `run` prints and reports what the answer over the case of its inputs says, or ends for a cause that comes after they were decoded.
 use Rattle.std.proofs.Common.{Vec, Global, ℕ, Err, ap, map, refl}
 use Rattle.std.specs.Io.KnownBytes.{Appends}
 use Rattle.htl_device.specs.Devices.{AppendsPrefix}

@@ -1,4 +1,4 @@
--- How read_all reads its sources one after another, what it decodes, and what is reported of the first that is refused or can't be read.
+-- `read_all` reads its sources one after another and decodes them, or reports the first that is refused or can't be read.
 use Rattle.std.proofs.Common.{◌<◌, length, get_or, arith, inl}
 use Rattle.std.proofs.lemmas.Option.{slice_get-get_or}
 use Rattle.std.proofs.lemmas.Result.{err_from_is_err_and}

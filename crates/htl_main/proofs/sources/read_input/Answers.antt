@@ -1,4 +1,4 @@
--- What read_input reports of a source of bytes, and how it reads it, as a source of the run.
+-- `read_input` reads a source of bytes, and reports its fault, as a run does of one source.
 use Rattle.htl_main.proofs.EndLaws.{accepted_source, refused_source}
 use Rattle.htl_main.proofs.OneSource.{accepted_read, decoded_ill, reported_bytes_of}
 use Rattle.htl_main.proofs.sources.read_input.Goals as goal

@@ -1,4 +1,4 @@
--- What run_from prints and reports is that of the answer over what it loaded, it reads its sources as load does, and why it ends after that.
+-- `run_from` reads its sources as `load` does, prints and reports what the answer over what was loaded says, or ends for a cause of that.
 use Rattle.std.proofs.Common.{Err, ap, map, refl}
 use Rattle.std.specs.Io.KnownBytes.{Appends}
 use Rattle.htl_device.specs.Devices.{AppendsPrefix}

@@ -1,4 +1,4 @@
--- The lists are one part, which stands for all their events.
+-- The lists of events are one part, of whose processes and objects the summary is.
 use denote.Param.Send.{sendable}
 use Rattle.std.proofs.Common.{flat_map}
 use Rattle.std.proofs.Crossing.{crosses}

@@ -1,4 +1,4 @@
--- How read_all reads its sources one after another, what the folder took of them, and what is reported of the first that is refused.
+-- `read_all` reads its sources one after another, and the folder takes their segments, or the first that is refused is reported.
 use Rattle.std.proofs.Common.{◌<◌, ◌++◌, [], length, get_or, arith, refl}
 use Rattle.std.proofs.lemmas.Option.{slice_get-get_or}
 use Rattle.std.proofs.lemmas.Result.{err_from_is_err_and}

@@ -1,4 +1,4 @@
--- What a folder took of a source, what is reported of it, and how it is read.
+-- A folder takes the segments of a source, which is read as one of the run, or its fault is reported.
 use Rattle.htl_main.specs.Folders.{folds_of}
 use Rattle.htl_main.proofs.FoldInputs.{fault_kept, known_kept, known_ok, source_err, source_kept, source_ok, unread_kept}
 use Rattle.htl_main.proofs.OneSource.{accepted_read, decoded_ill, reported_bytes_of}

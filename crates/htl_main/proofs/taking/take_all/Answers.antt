@@ -1,4 +1,4 @@
--- What take_all took, why it ends, and how it reads its sources.
+-- `take_all` reads its sources one after another, takes their segments, and ends for a cause of theirs.
 use Rattle.std.proofs.Common.{[], ◌∙◌, Option, map, subst}
 use Rattle.std.proofs.lemmas.Result.{on_err_weaker}
 use Rattle.htl_analyst.specs.States.{State}

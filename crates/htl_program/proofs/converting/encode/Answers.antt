@@ -1,4 +1,4 @@
--- A name that could not be opened is the first that is absent, and where all are known memory was refused.
+-- An encoding whose name could not be opened ends for the first that is absent, and where all are known for want of memory.
 use Rattle.std.proofs.Common.{◌≡◌, ◌∙◌, Err, ap, inr, refl, rules}
 use Rattle.htl_program.specs.Worlds.{of_each}
 use Rattle.htl_program.proofs.FirstAbsent.{first_or_memory, none_absent, only_memory}

@@ -1,4 +1,4 @@
--- One name more was opened; or it could not be.
+-- One name more was opened, or it could not be.
 use Rattle.std.proofs.Common.{◌≡◌, ◌++◌, ◌∷◌, ◌∙◌, [], None, Some, All, ap, false, inr, map, refl, rules, subst, sym, take}
 use Rattle.std.specs.Prelude.{string_bytes}
 use Rattle.std.proofs.lemmas.List.{map-append}

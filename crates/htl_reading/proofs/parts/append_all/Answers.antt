@@ -1,4 +1,4 @@
--- One part more.
+-- The keeper takes over the segments of one part more.
 use Rattle.htl_reading.proofs.PartLaws.{took_last}
 use Rattle.htl_reading.proofs.parts.append_all.Goals as goal
 

@@ -1,4 +1,4 @@
--- One part more.
+-- One part more is cut off, up to the next end.
 use Rattle.std.proofs.Common.{◌≡◌, ◌+◌, ◌++◌, ◌∷◌, [], arith, slice_index_or}
 use Rattle.std.proofs.lemmas.Grind.{common_steps}
 use Rattle.htl_reading.proofs.PartLaws.{first_parts, part_behind}

@@ -1,4 +1,4 @@
--- The keeper took the segments of the bytes that the source skips, or memory was refused to take them over.
+-- The keeper took the segments of the parts at the source's front, which are skipped, or memory was refused to take them over.
 use Rattle.std.proofs.Common.{arith, take}
 use Rattle.std.proofs.lemmas.Option.{IfSome_then}
 use Rattle.std.proofs.lemmas.Result.{err_from_is_err_and}

@@ -1,4 +1,4 @@
--- The first read, and what is read on after it.
+-- The first read is taken, and what is read on after it is taken behind it.
 use Rattle.std.proofs.Common.{◌≡◌, ◌≤◌, ◌<◌, ◌+◌, List, [], ℕ, Option, None, take, arith, false, refl, true}
 use Rattle.std.proofs.lemmas.Grind.{common_steps}
 use Rattle.std.proofs.lemmas.List.{take_rest}

@@ -1,4 +1,4 @@
--- The keeper took the segments so far.
+-- The keeper took the segments of the list so far.
 use Rattle.htl_segment.specs.Keepers.{Took}
 use Rattle.htl_reading.proofs.rounds.take_list.Given as goal
 

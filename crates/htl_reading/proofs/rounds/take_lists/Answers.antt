@@ -1,4 +1,4 @@
--- One list more.
+-- The keeper takes the segments of one list more.
 use Rattle.std.proofs.Common.{◌≡◌, []}
 use Rattle.std.proofs.lemmas.List.Elements.{All-nil, All-push}
 use Rattle.htl_segment.specs.declared.keeper.Segments.{Segments}

@@ -1,4 +1,4 @@
--- One round more, and where the rounds end.
+-- One round more is skipped and taken, and the rounds end where one takes nothing.
 use Rattle.std.proofs.Common.{◌≡◌, ◌<◌, [], arith, sym}
 use Rattle.std.proofs.lemmas.Result.{err_from_is_err_and}
 use Rattle.std.proofs.lemmas.List.Elements.{All-nil}

@@ -1,4 +1,4 @@
--- The lines of the frames so far were written.
+-- The lines of the frames so far, of a stack with its addresses, were written.
 use Rattle.std.proofs.Common.{◌≡◌, ◌++◌, take, string_bytes}
 use Rattle.std.specs.List.{flat_map}
 use Rattle.htl_report.specs.Addresses.{frame_line}

@@ -1,4 +1,4 @@
--- The bytes so far were written.
+-- The bytes of the name so far were written.
 use Rattle.std.proofs.Common.{◌≡◌, ◌++◌, map, take}
 use Rattle.htl_report.specs.Folded.{folded_byte}
 use Rattle.htl_report.proofs.flame_graph.write_bytes.Given as goal

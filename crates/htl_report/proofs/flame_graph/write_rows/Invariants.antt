@@ -1,4 +1,4 @@
--- The lines of the rows so far were written.
+-- The lines of the folded stacks so far were written.
 use Rattle.std.proofs.Common.{◌≡◌, ◌++◌, take}
 use Rattle.std.specs.List.{flat_map}
 use Rattle.htl_report.specs.Folded.{folded_line}

@@ -1,4 +1,4 @@
--- The head, and then the rows.
+-- The text of outstanding handles: the first line, and then the rows.
 use Rattle.std.proofs.Common.{◌++◌, ◌∙◌, ap, append_assoc, codes, length, string_bytes, None}
 use Rattle.std.specs.List.{flat_map}
 use Rattle.std.proofs.lemmas.Result.{on_ok_weaker}

@@ -1,4 +1,4 @@
--- The bytes so far were written.
+-- The bytes of the tag so far were written.
 use Rattle.std.proofs.Common.{◌≡◌, ◌++◌, take, string_bytes}
 use Rattle.htl_report.specs.Parts.{shown_tag}
 use Rattle.htl_report.proofs.parts.write_tag.Given as goal

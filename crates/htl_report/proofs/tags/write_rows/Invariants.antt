@@ -1,4 +1,4 @@
--- The lines of the rows so far were written.
+-- The lines of the tags so far were written.
 use Rattle.std.proofs.Common.{◌≡◌, ◌++◌, take, string_bytes}
 use Rattle.std.specs.List.{flat_map}
 use Rattle.htl_report.specs.TagBalances.{tag_row}

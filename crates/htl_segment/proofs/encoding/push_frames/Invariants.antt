@@ -1,4 +1,4 @@
--- The addresses so far are written.
+-- The addresses so far are written, in eight bytes each.
 use Rattle.std.proofs.Common.{◌≡◌, ◌++◌, take}
 use Rattle.std.specs.List.{flat_map}
 use Rattle.htl_segment.specs.Numbers.{bytes_of}

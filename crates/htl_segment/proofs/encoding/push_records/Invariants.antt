@@ -1,4 +1,4 @@
--- The records so far are written.
+-- The records of the events so far are written.
 use Rattle.std.proofs.Common.{◌≡◌, ◌++◌, take}
 use Rattle.htl_segment.specs.Encoding.{records}
 use Rattle.htl_segment.proofs.encoding.push_records.Given as goal

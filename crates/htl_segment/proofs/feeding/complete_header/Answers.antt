@@ -1,4 +1,4 @@
--- The header from its two parts: what follows it completes its segment, or is cut off.
+-- A header made of two parts is there: what follows it completes its segment, or is cut off.
 use Rattle.std.proofs.Common.{◌++◌, sym, ◌∙◌, arith}
 use Rattle.std.proofs.lemmas.List.{length-append, take_rest}
 use Rattle.std.proofs.lemmas.Result.{MatchResult-weaker}

@@ -1,4 +1,4 @@
--- A segment whose header is there: its last bytes complete it.
+-- A segment whose header is there is completed by its last bytes.
 use Rattle.std.proofs.Common.{◌≡◌, ◌+◌, ◌++◌, length, None, refl, sym, ap, ◌∙◌, arith}
 use Rattle.std.proofs.lemmas.List.{length-append}
 use Rattle.std.proofs.lemmas.Result.{MatchResult-weaker}

@@ -1,4 +1,4 @@
--- What was gathered are digits alone.
+-- What was gathered of the text are its digits alone, which write the bytes.
 use Rattle.std.proofs.lemmas.List.Elements.{filter_passes}
 use Rattle.hex.specs.Hex.{is_hex_digit}
 use Rattle.htl_segment.proofs.hexadecimal.from_hex.Goals as goal

@@ -1,4 +1,4 @@
--- The last event has the last sequence.
+-- The last event of a segment has its last sequence.
 use Rattle.std.proofs.Common.{◌-◌, length, sym, arith}
 use Rattle.std.proofs.lemmas.Option.{slice_get_within}
 use Rattle.htl_segment.proofs.OutlineLaws.{last_at}

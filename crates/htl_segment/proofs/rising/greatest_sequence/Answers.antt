@@ -1,4 +1,4 @@
--- A segment more may have a greater sequence.
+-- With one segment more, the greatest sequence is that so far or the segment's last.
 use Rattle.htl_segment.proofs.Greatest.{greatest_none, greatest_of_all, greatest_of_more}
 use Rattle.htl_segment.proofs.rising.greatest_sequence.Goals as goal
 

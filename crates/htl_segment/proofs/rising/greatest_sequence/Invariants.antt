@@ -1,4 +1,4 @@
--- The greatest sequence of the segments so far.
+-- The number so far is the greatest sequence of the segments that were passed.
 use Rattle.std.proofs.Common.{take}
 use Rattle.std.specs.Prelude.{Contains}
 use Rattle.htl_event.specs.Handles.{IsGreatestSequence}

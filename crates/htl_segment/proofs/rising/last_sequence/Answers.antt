@@ -1,4 +1,4 @@
--- The last event has the greatest sequence.
+-- The sequence of the last event, or 0 where there is none, is the greatest of its segment.
 use Rattle.std.proofs.Common.{◌≡◌, ◌-◌, length, Some, sym, inr, refl, arith}
 use Rattle.std.specs.Prelude.{slice_get}
 use Rattle.std.proofs.lemmas.Option.{slice_get_within}

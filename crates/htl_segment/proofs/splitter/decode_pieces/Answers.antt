@@ -1,4 +1,4 @@
--- Pieces one after the other: the segments so far are those of the pieces taken in.
+-- With each piece, the segments so far are those of the pieces taken in, and a refusal tells of all bytes.
 use Rattle.std.proofs.Common.{◌≡◌, ◌+◌, ◌<◌, ◌++◌, length, get_or, take, drop, arith, inl, ap}
 use Rattle.std.proofs.lemmas.List.{length-append, take_all}
 use Rattle.std.proofs.lemmas.Grind.{common_steps}

@@ -1,4 +1,4 @@
--- The rows so far are appended.
+-- The rows that were passed so far are appended.
 use Rattle.std.proofs.Common.{◌≡◌, ◌++◌, take}
 use Rattle.htl_sorted.proofs.merging.append.Given as goal
 

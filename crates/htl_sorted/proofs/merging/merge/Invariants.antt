@@ -1,4 +1,4 @@
--- What is made so far, and what is left of both lists.
+-- So far the rows are made of what was passed of both lists, of which less is left after each turn.
 use Rattle.std.proofs.Common.{◌+◌, ◌-◌, length}
 use Rattle.htl_sorted.proofs.Rows.{IsMadeOf}
 use Rattle.htl_sorted.proofs.merging.merge.Given as goal

@@ -1,4 +1,4 @@
--- Both halves in order, merged.
+-- Both halves are in order and merged, so each key has what all rows have there.
 use Rattle.std.proofs.Common.{rules, ◌≡◌, ◌++◌, ◌/◌, [], length, take, drop, sym, ap, ◌∙◌, append-nil, append_assoc}
 use Rattle.std.specs.FinMap.Entries.{find}
 use Rattle.std.proofs.lemmas.List.{take-append-drop}

@@ -1,4 +1,4 @@
--- Half as many rows.
+-- Each call of `add_up` has half as many rows, so the calls end.
 use Rattle.std.proofs.Common.{length}
 use Rattle.htl_summary.proofs.adding.+add_up.Given as goal
 

@@ -1,4 +1,4 @@
--- The row joins the last sum, or comes after it.
+-- A row whose key is that of the last sum joins it, one with a greater key comes after it, and a lesser one is a fall.
 use Rattle.std.proofs.Common.{rules, ◌≡◌, ◌<◌, ◌-◌, length, get_or, sym, ◌∙◌, ap}
 use Rattle.std.specs.declared.cmp.Ordering.TheVariants.{Less}
 use Rattle.htl_summary.proofs.InOrder.{compared, pushed_sorted, pushed_value, pushed_last, last_value, joined_sorted, joined_value, joined_last}

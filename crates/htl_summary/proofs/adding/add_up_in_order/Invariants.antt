@@ -1,4 +1,4 @@
--- The sums of the rows so far.
+-- The sums so far are those of the rows that were passed, and the last one has the key of the last row.
 use Rattle.std.proofs.Common.{◌≡◌, ◌<◌, ◌-◌, length, get_or, take}
 use Rattle.std.specs.FinMap.Entries.{find}
 use Rattle.htl_sorted.specs.Entries.{IsSorted, entries}

@@ -1,4 +1,4 @@
--- The slots are those of all parts.
+-- The sums of slots over all parts give the unbalanced objects and the number of objects.
 use Rattle.std.proofs.lemmas.Result.{IfOk-weaker}
 use Rattle.htl_answers.specs.Sums.{ListsSlotSums}
 use Rattle.htl_summary.proofs.balancing.balances.Goals as goal

@@ -1,4 +1,4 @@
--- What passes the test is kept.
+-- The rows of objects that show an unbalanced tag are kept, and no other.
 use Rattle.std.proofs.Common.{rules, tests}
 use Rattle.std.proofs.lemmas.List.Elements.{filter_from_retain}
 use Rattle.htl_summary.proofs.ObjectRows.{shows}

@@ -1,4 +1,4 @@
--- Those of the events so far.
+-- The number so far is how many of the events that were passed are opens after the moment.
 use Rattle.std.proofs.Common.{◌≡◌, ◌≤◌, length, take}
 use Rattle.std.specs.Prelude.{filter}
 use Rattle.htl_answers.specs.Open.{is_opened_after}

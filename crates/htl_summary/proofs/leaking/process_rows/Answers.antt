@@ -1,4 +1,4 @@
--- One row more.
+-- A turn adds the row of one used process more.
 use Rattle.std.proofs.Common.{ℕ, ◌++◌, ◌∷◌, [], List, map, take, get_or, sym, ap, ◌∙◌}
 use Rattle.std.proofs.lemmas.List.{take_more, map_push}
 use Rattle.htl_event.specs.declared.summary.ProcessRow.{ProcessRow}

@@ -1,4 +1,4 @@
--- The rows of those so far.
+-- The rows so far are those of the used processes that were passed.
 use Rattle.std.proofs.Common.{◌≡◌, List, map, take}
 use Rattle.htl_event.specs.declared.summary.ProcessRow.{ProcessRow}
 use Rattle.htl_summary.specs.declared.usage.Usage.{Usage}

@@ -1,4 +1,4 @@
--- The rows of all slots can be added up.
+-- The rows of all sums of slots fit, so they can be added up by owner.
 use Rattle.std.proofs.Common.{sym, ◌∙◌}
 use Rattle.htl_summary.proofs.rows.rows_by_owner.Goals as goal
 

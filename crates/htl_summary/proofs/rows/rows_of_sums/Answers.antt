@@ -1,4 +1,4 @@
--- One sum more.
+-- A sum more adds its row if it has one, and else nothing.
 use Rattle.std.proofs.Common.{take, get_or, Option, refl, sym, ap, ◌∙◌}
 use Rattle.std.specs.List.{filter_map}
 use Rattle.std.proofs.lemmas.List.{take_more}

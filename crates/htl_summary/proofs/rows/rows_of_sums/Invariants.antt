@@ -1,4 +1,4 @@
--- The rows of the sums so far.
+-- The rows so far are those of the sums that were passed.
 use Rattle.std.proofs.Common.{◌≡◌, take}
 use Rattle.std.specs.List.{filter_map}
 use Rattle.htl_event.specs.declared.slot.Slot.{Slot}

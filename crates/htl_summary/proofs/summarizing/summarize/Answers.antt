@@ -1,4 +1,4 @@
--- The slots are those of all parts.
+-- The sums of slots over all parts give the processes and the objects of the summary.
 use Rattle.htl_answers.specs.Sums.{ListsSlotSums}
 use Rattle.htl_summary.proofs.summarizing.summarize.Goals as goal
 

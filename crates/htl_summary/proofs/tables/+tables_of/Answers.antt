@@ -1,4 +1,4 @@
--- Both halves together.
+-- The tables of both halves, joined, are those of all parts.
 use Rattle.std.proofs.Common.{◌/◌, map, length, take, drop, sym, subst}
 use Rattle.std.proofs.lemmas.Result.{IfOk-weaker}
 use Rattle.htl_answers.specs.Parts.{AreEventsOf}

@@ -1,4 +1,4 @@
--- Half as many parts.
+-- Each call of `tables_of` has half as many parts, so the calls end.
 use Rattle.std.proofs.Common.{length}
 use Rattle.htl_summary.proofs.tables.+tables_of.Given as goal
 

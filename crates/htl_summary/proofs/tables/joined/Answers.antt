@@ -1,4 +1,4 @@
--- The tables of both sides, joined.
+-- The tables of both sides, joined, have the later event and the greater sequences of both.
 use Rattle.htl_answers.proofs.JoinedTables.{tables_joined}
 use Rattle.htl_summary.proofs.tables.joined.Goals as goal
 

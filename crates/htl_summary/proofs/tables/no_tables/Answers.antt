@@ -1,4 +1,4 @@
--- Tables of nothing.
+-- Tables with nothing in them are those of no events.
 use Rattle.htl_answers.proofs.JoinedTables.{tables_none}
 use Rattle.htl_summary.proofs.tables.no_tables.Goals as goal
 

@@ -1,4 +1,4 @@
--- What is folded and what is held, joined.
+-- The tables of what a part folded and of what it holds, joined, are those of its events.
 use Rattle.std.proofs.Common.{rules, ◌≡◌, ℕ, max, List, [], refl, subst, arith}
 use Rattle.htl_event.specs.Events.{Event}
 use Rattle.htl_tables.specs.Greatest.{sequence_at}

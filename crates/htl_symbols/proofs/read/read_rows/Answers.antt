@@ -1,4 +1,4 @@
--- One row more keeps that, and where none is left the whole table was read.
+-- One row more is read into the table, and where none is left the whole table was read.
 use Rattle.std.proofs.lemmas.Result.{err_from_is_err_and}
 use Rattle.csv.specs.Records.{fields_of}
 use Rattle.htl_symbols.specs.Records.{records_left}

@@ -1,4 +1,4 @@
--- The runs before the numbers so far are added, and those of what is left follow.
+-- The missing runs before the numbers so far are added, and those of what is left follow.
 use Rattle.std.proofs.Common.{◌≡◌, ◌++◌, drop}
 use Rattle.htl_taken.specs.declared.TheConstants.{MAX_FRONT}
 use Rattle.htl_taken.specs.Rising.{Rises}

@@ -1,4 +1,4 @@
--- The bytes so far were written.
+-- The bytes so far were written as they can be seen.
 use Rattle.std.proofs.Common.{◌≡◌, ◌++◌, take, string_bytes}
 use Rattle.htl_text.proofs.dumping.write_visible.Given as goal
 

@@ -1,4 +1,4 @@
--- A group more.
+-- With the next group, more rows are in groups, and the others are left.
 use Rattle.std.proofs.Common.{refl}
 use Rattle.htl_tree.proofs.RowGroups.{group_more, rest_is, rest_within}
 use Rattle.htl_tree.proofs.building.groups_of.Goals as goal

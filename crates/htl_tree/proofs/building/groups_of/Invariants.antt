@@ -1,4 +1,4 @@
--- The rows so far are in groups.
+-- The rows so far are in groups of one stack each, and the others are left.
 use Rattle.std.proofs.Common.{◌≡◌, ◌≤◌, ◌-◌, List, length, take}
 use Rattle.std.specs.Borrow.{Bor}
 use Rattle.std.specs.List.{AllByRecursion}

@@ -1,4 +1,4 @@
--- A group more is counted.
+-- The root counts one group of rows more.
 use Rattle.std.proofs.Common.{◌≡◌, ℕ, List, []}
 use Rattle.std.proofs.Common.{take, get_or, sym, ap, ◌∙◌, subst, arith}
 use Rattle.std.specs.Borrow.{Bor}

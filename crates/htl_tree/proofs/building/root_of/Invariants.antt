@@ -1,4 +1,4 @@
--- The groups so far are counted.
+-- The root counts the groups so far.
 use Rattle.std.proofs.Common.{[], take}
 use Rattle.htl_tree.specs.Nodes.{tree_of, IsNormalRoot}
 use Rattle.htl_tree.specs.Rows.{WithRows}

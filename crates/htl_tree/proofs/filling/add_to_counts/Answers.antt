@@ -1,4 +1,4 @@
--- A row more was added.
+-- The counts gain one row more.
 use Rattle.std.proofs.Common.{List, take, get_or, refl, sym, ap, subst, arith}
 use Rattle.std.proofs.lemmas.List.{take_more}
 use Rattle.htl_event.specs.Tallies.{total_of}

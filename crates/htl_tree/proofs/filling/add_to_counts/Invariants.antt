@@ -1,4 +1,4 @@
--- What the rows so far count was added.
+-- The counts gained the rows so far.
 use Rattle.std.proofs.Common.{take}
 use Rattle.htl_tree.specs.Rows.{Gained}
 use Rattle.htl_tree.proofs.filling.add_to_counts.Given as goal

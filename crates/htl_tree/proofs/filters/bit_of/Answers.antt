@@ -1,4 +1,4 @@
--- One is moved by what the high six bits of the product say.
+-- The bit of a number is 1, moved by what the high six bits of the product say.
 use Rattle.std.proofs.Common.{ℕ, ◌*◌, ◌/◌, ◌%◌, ◌<◌, ◌^◌, arith}
 use Rattle.std.proofs.lemmas.Nat.{one_shl, shr_below}
 use Rattle.htl_tree.specs.Filters.{bit_of}

@@ -1,4 +1,4 @@
--- A filter more is put to the others.
+-- The filters so far, with that of one slot more, are the filters of all of these.
 use Rattle.std.proofs.Common.{List, take, get_or, bit_or, sym, subst}
 use Rattle.std.proofs.lemmas.Nat.{and_or_self}
 use Rattle.std.proofs.lemmas.List.{take_more}

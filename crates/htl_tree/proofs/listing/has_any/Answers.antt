@@ -1,4 +1,4 @@
--- A count that doesn't pass is left out.
+-- A count of a slot that doesn't pass adds no row, and where none passes there is no row.
 use Rattle.std.proofs.Common.{◌≡◌, ℕ, List, drop, get_or, ◌+◌, ◌∷◌, false, cond, reverse, sym, ap, ◌∙◌}
 use Rattle.std.proofs.lemmas.List.{drop_all}
 use Rattle.htl_event.specs.declared.slot.Slot.{Slot}

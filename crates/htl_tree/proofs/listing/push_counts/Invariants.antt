@@ -1,4 +1,4 @@
--- The counts so far are listed.
+-- The counts of the slots that are asked for are listed, as far as the counts were passed.
 use Rattle.std.proofs.Common.{◌≡◌, ◌++◌, take}
 use Rattle.htl_tree.specs.Nodes.{asked_of}
 use Rattle.htl_tree.proofs.listing.push_counts.Given as goal

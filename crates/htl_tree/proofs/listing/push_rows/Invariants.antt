@@ -1,4 +1,4 @@
--- The counts so far are listed.
+-- The rows listed so far and those of the counts that are left are all that ought to be listed.
 use Rattle.std.proofs.Common.{◌≡◌, ◌++◌, drop}
 use Rattle.htl_tree.specs.HasSlot.{has_slot}
 use Rattle.htl_tree.specs.Nodes.{rows_of_counts}

@@ -1,4 +1,4 @@
--- The rows so far stand there.
+-- The rows of the tree so far stand there without their slot.
 use Rattle.std.proofs.Common.{◌≡◌, ℕ, List, map, take}
 use Rattle.htl_event.specs.declared.slot.Slot.{Slot}
 use Rattle.htl_event.specs.declared.slot.Count.{Count}

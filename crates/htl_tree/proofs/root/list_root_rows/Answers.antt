@@ -1,4 +1,4 @@
--- The rows of the root are those of the tree.
+-- The rows that are listed from the root on are those of the tree.
 use Rattle.std.proofs.Common.{◌≡◌, ℕ, List, [], ◌++◌, length, Some, sym, ap, ◌∙◌, subst}
 use Rattle.htl_tree.specs.HasSlot.{has_slot}
 use Rattle.htl_tree.specs.Nodes.{top, tree_of, rows, rows_at, picked, IsNormalRoot, IsShortFrom}

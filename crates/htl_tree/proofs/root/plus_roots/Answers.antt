@@ -1,4 +1,4 @@
--- The sum of two roots, either of which may count nothing.
+-- The sum of two roots, either of which may count nothing, counts what the trees of both count together.
 use Rattle.std.proofs.Common.{◌+◌, ◌<◌, ◌^◌, Some, sym, subst}
 use Rattle.htl_tree.specs.Trees.{total_count}
 use Rattle.htl_tree.specs.declared.node.Node.{Node}

@@ -1,4 +1,4 @@
--- A count more is added.
+-- The sums gain one count more.
 use Rattle.std.proofs.Common.{List, take, get_or, sym, subst, arith}
 use Rattle.std.proofs.lemmas.List.{take_more}
 use Rattle.htl_event.specs.declared.slot.Slot.{Slot}

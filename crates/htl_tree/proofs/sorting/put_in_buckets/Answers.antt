@@ -1,4 +1,4 @@
--- A row more is swapped, or none.
+-- A turn swaps one row more into its bucket, or none.
 use Rattle.std.proofs.Common.{List, sym, subst}
 use Rattle.std.specs.List.Sorted.{IsPermutation}
 use Rattle.std.proofs.lemmas.List.Sorted.{IsPermutation-trans}

@@ -1,4 +1,4 @@
--- The rows only change their places.
+-- Putting rows in buckets only changes their places.
 use Rattle.std.specs.List.Sorted.{IsPermutation}
 use Rattle.htl_tree.proofs.sorting.put_in_buckets.Given as goal
 

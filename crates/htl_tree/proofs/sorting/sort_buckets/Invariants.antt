@@ -1,4 +1,4 @@
--- The rows only change their places.
+-- Sorting the buckets so far only changed the places of the rows.
 use Rattle.std.specs.List.Sorted.{IsPermutation}
 use Rattle.htl_tree.proofs.sorting.sort_buckets.Given as goal
 

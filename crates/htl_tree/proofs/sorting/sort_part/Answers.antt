@@ -1,4 +1,4 @@
--- The sorted part stands in its place.
+-- A part of the rows that was sorted stands in its place among the others.
 use Rattle.std.proofs.Common.{◌-◌}
 use Rattle.std.proofs.lemmas.List.Sorted.{IsPermutation-put_mid}
 use Rattle.htl_tree.proofs.sorting.sort_part.Goals as goal

@@ -1,4 +1,4 @@
--- The rows change their places twice.
+-- The rows only change their places, as they are put in buckets and as each bucket is sorted.
 use Rattle.std.proofs.lemmas.List.Sorted.{IsPermutation-trans}
 use Rattle.htl_tree.proofs.sorting.sort_slice.Goals as goal
 

@@ -1,4 +1,4 @@
--- So far both begin alike.
+-- So far the frames of both sides are the same.
 use Rattle.std.proofs.Common.{length, ◌-◌, ◌≡◌, ◌≤◌, take}
 use Rattle.htl_tree.proofs.sums.common_len.Given as goal
 

@@ -1,4 +1,4 @@
--- The turns so far went out.
+-- The segments of the turns so far went out.
 use Rattle.std.proofs.Common.{◌≡◌, false}
 use Rattle.make_samples.specs.Writing.{WritesKeys, turns}
 use Rattle.htl_samples.specs.declared.trace.TheConstants.{TRACE}

@@ -1,4 +1,4 @@
--- Each call has one desk fewer.
+-- Each call of `play_all` has one desk fewer, so the calls end.
 use Rattle.std.proofs.Common.{vec_len}
 use Rattle.test_cases.proofs.schedules.+play_all.Given as goal
 

@@ -1,4 +1,4 @@
--- The desk stays one of the exchange.
+-- The desk that collects until there is nothing stays one of the exchange.
 use Rattle.htl_exchange.specs.Desks.{IsDeskOf}
 use Rattle.test_cases.proofs.schedules.play_eagerly.Given as goal
 

@@ -1,4 +1,4 @@
--- The desk stays one of the exchange.
+-- The desk stays one of the exchange in each random turn.
 use Rattle.htl_exchange.specs.Desks.{IsDeskOf}
 use Rattle.test_cases.proofs.schedules.play_random.Given as goal
 

@@ -1,4 +1,4 @@
--- Cases with the same segments are one trace.
+-- Two cases that have the same segments are of one trace.
 use Rattle.std.proofs.Common.{rules, ◌≡◌, ◌∙◌, [], sym}
 use Rattle.std.proofs.lemmas.List.{ext_get_or}
 use Rattle.htl_segment.specs.Content.{Content, content}

@@ -1,4 +1,4 @@
--- The processors so far are compacted.
+-- The runs of the processors so far are folded.
 use Rattle.htl_analyst.proofs.Compacts.{AreCompacted}
 use Rattle.htl_analyst.proofs.analyst.Analyst.compact.Given as goal
 

@@ -1,4 +1,4 @@
--- The parts answer for the taken events, whose sequences differ.
+-- The parts answer which handles of the taken events were opened since the moment and are open, as sequences differ.
 use Rattle.htl_analyst.specs.TakenEvents.{taken_events}
 use Rattle.htl_analyst.proofs.Answered.{are_events_read, own_sequences}
 use Rattle.htl_analyst.proofs.analyst.Analyst.diff.Goals as goal

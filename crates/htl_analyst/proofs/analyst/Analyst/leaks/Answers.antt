@@ -1,4 +1,4 @@
--- The parts answer for the taken events, whose sequences differ.
+-- The parts answer which stacks opened the outstanding handles of the taken events, as sequences differ.
 use Rattle.htl_analyst.specs.TakenEvents.{taken_events}
 use Rattle.htl_analyst.proofs.Answered.{are_events_read, own_sequences}
 use Rattle.htl_analyst.proofs.analyst.Analyst.leaks.Goals as goal

@@ -1,4 +1,4 @@
--- The parts answer for the taken events.
+-- The parts answer which snapshot mark the process has over the taken events.
 use Rattle.htl_analyst.specs.TakenEvents.{taken_events}
 use Rattle.htl_analyst.proofs.Answered.{are_events_read}
 use Rattle.htl_analyst.proofs.analyst.Analyst.mark.Goals as goal

@@ -1,4 +1,4 @@
--- The parts answer for the taken events, whose sequences differ, and their counts fit.
+-- The parts answer which processes the taken events have, as sequences differ and counts fit.
 use Rattle.htl_analyst.specs.TakenEvents.{taken_events}
 use Rattle.htl_analyst.proofs.Answered.{are_events_read, sizes_fit_read, own_sequences}
 use Rattle.htl_analyst.proofs.analyst.Analyst.processes.Goals as goal

@@ -1,4 +1,4 @@
--- The parts answer for the taken events, and their counts fit.
+-- The parts answer which reference stacks the object's tag has over the taken events, and their counts fit.
 use Rattle.htl_analyst.specs.TakenEvents.{taken_events}
 use Rattle.htl_analyst.proofs.Answered.{are_events_read, sizes_fit_read}
 use Rattle.htl_analyst.proofs.analyst.Analyst.stacks.Goals as goal

@@ -1,4 +1,4 @@
--- The list's case, or the first rule that it breaks.
+-- A list of segments is answered with its case, or with the first rule that it breaks.
 use Rattle.std.proofs.lemmas.Result.{err_from_is_err_and}
 use Rattle.htl_segment.specs.Traces.{trace}
 use Rattle.htl_case.specs.declared.fault.CaseFault.TheVariants.{SequenceTwice, Falling}

@@ -1,4 +1,4 @@
--- Each segment widens the span.
+-- Each segment of the case begins the span or widens it.
 use Rattle.htl_case.proofs.Counted.{fits_at}
 use Rattle.htl_case.proofs.SpanLaws.{span_more}
 use Rattle.htl_case.proofs.case.Case.span.Goals as goal

@@ -1,4 +1,4 @@
--- The rows are the listing of the handle.
+-- The rows of a case, the newest first, are the listing of the handle.
 use Rattle.std.proofs.Common.{List, ◌∙◌, ap}
 use Rattle.std.specs.Prelude.{filter}
 use Rattle.std.specs.List.Sorted.{IsNonDecreasingBy}

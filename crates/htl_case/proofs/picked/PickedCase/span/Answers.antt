@@ -1,4 +1,4 @@
--- The segment behind each outline widens the span.
+-- The segment behind each outline begins the span or widens it.
 use Rattle.std.proofs.Common.{get_or, refl, ◌∙◌}
 use Rattle.htl_segment.specs.declared.outline.Outline.{Outline}
 use Rattle.htl_case.proofs.SpanLaws.{span_more_behind}

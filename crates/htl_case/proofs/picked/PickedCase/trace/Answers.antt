@@ -1,4 +1,4 @@
--- The rows are the listing of the handle.
+-- The rows of a picked case, the newest first, are the listing of the handle.
 use Rattle.std.proofs.Common.{◌∙◌, ap}
 use Rattle.std.specs.Prelude.{filter}
 use Rattle.htl_case.specs.Listed.{is_of_handle}

@@ -1,4 +1,4 @@
--- With the options that are left, the command is the one that is wanted.
+-- With the flags that are left, the command is the one that is wanted.
 use Rattle.std.proofs.Common.{◌≡◌, false, map, drop}
 use Rattle.clap.specs.Words.{app_of}
 use Rattle.clap.specs.declared.builder.Command.TheViews.{out-Command as fields_of}

@@ -1,4 +1,4 @@
--- The writer takes the token.
+-- The writer takes the start of an array.
 use Rattle.std.proofs.lemmas.Result.{on_ok_weaker}
 use Rattle.htl_json.proofs.lines.Lines.begin_array.Goals as goal
 

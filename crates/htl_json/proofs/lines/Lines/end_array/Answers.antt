@@ -1,4 +1,4 @@
--- The writer takes the token.
+-- The writer takes the end of an array.
 use Rattle.std.proofs.lemmas.Result.{on_ok_weaker}
 use Rattle.htl_json.proofs.lines.Lines.end_array.Goals as goal
 

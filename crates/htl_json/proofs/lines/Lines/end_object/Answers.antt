@@ -1,4 +1,4 @@
--- The writer takes the token.
+-- The writer takes the end of an object.
 use Rattle.std.proofs.lemmas.Result.{on_ok_weaker}
 use Rattle.htl_json.proofs.lines.Lines.end_object.Goals as goal
 

@@ -1,4 +1,4 @@
--- The key and the value are a field.
+-- The name and the number are a field.
 use Rattle.std.proofs.Common.{arith}
 use Rattle.std.proofs.lemmas.Result.{on_ok_weaker}
 use Rattle.htl_json.proofs.Line.{field_added}

@@ -1,4 +1,4 @@
--- The key and the value are a field.
+-- The name and the text that was made are a field.
 use Rattle.std.proofs.Common.{◌∷◌, [], arith, string_bytes, subst}
 use Rattle.std.proofs.lemmas.Result.{on_ok_weaker}
 use Rattle.json.specs.Json.{string}

@@ -1,4 +1,4 @@
--- The writer takes the token.
+-- The writer takes a number.
 use Rattle.std.proofs.lemmas.Result.{on_ok_weaker}
 use Rattle.htl_json.proofs.lines.Lines.write_number.Goals as goal
 

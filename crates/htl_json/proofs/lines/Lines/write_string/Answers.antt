@@ -1,4 +1,4 @@
--- The writer takes the token.
+-- The writer takes a string.
 use Rattle.std.proofs.lemmas.Result.{on_ok_weaker}
 use Rattle.htl_json.proofs.lines.Lines.write_string.Goals as goal
 

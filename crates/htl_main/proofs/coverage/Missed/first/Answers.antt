@@ -1,4 +1,4 @@
--- The key that first answers is that of the first gap, which is the least that is missing.
+-- The key that `first` answers is that of the first gap, which is the least that is missing.
 use Rattle.std.proofs.Common.{◌∙◌, List, ap, sym}
 use Rattle.std.specs.Prelude.{slice_get}
 use Rattle.htl_taken.specs.declared.gap.Gap.{Gap}

@@ -1,4 +1,4 @@
--- One processor more: its gaps, the first of all, and what the processors so far are complete to.
+-- With one processor more, its gaps are listed, the first gap of all is known, and so is what the processors so far are complete to.
 use Rattle.std.proofs.Common.{◌≡◌, ◌+◌, ℕ, List, sym, subst, arith}
 use Rattle.htl_segment.specs.Traces.{HasKey}
 use Rattle.htl_taken.specs.Gaps.{IsGaps}

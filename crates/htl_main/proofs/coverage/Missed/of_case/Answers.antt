@@ -1,4 +1,4 @@
--- What of_case finds by the outlines of a case's segments is missing of the case.
+-- What `of_case` finds by the outlines of a case's segments is missing of the case.
 use Rattle.htl_main.proofs.coverage.Missed.of_case.Goals as goal
 
 pub returns : goal.returns

@@ -1,4 +1,4 @@
--- The new span is behind the others.
+-- The span of the new segments stands behind the others.
 use Rattle.std.proofs.Common.{◌≡◌, ◌∙◌, length, length-append, ap, arith}
 use Rattle.std.proofs.lemmas.Grind.{common_steps}
 use Rattle.htl_main.proofs.SpanLaws.{spans_more}

@@ -1,4 +1,4 @@
--- One segment more was taken, or is unfit.
+-- One segment more was taken, or it is unfit.
 use Rattle.std.proofs.Common.{◌∙◌, sym}
 use Rattle.htl_main.proofs.FolderLaws.{fit_next, took_first, unfit_next}
 use Rattle.htl_main.proofs.folder.Folder.take_next.Goals as goal

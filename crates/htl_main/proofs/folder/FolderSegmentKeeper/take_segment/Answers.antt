@@ -1,4 +1,4 @@
--- What is unfit stays so.
+-- Behind a segment that is unfit none more is taken, and it stays the first that is.
 use Rattle.std.proofs.Common.{◌∙◌, sym}
 use Rattle.htl_main.proofs.FolderLaws.{stays}
 use Rattle.htl_main.proofs.folder.FolderSegmentKeeper.take_segment.Goals as goal

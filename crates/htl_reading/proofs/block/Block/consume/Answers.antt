@@ -1,4 +1,4 @@
--- The bytes held begin later.
+-- The bytes held are those behind the ones that were consumed.
 use Rattle.std.proofs.Common.{◌≡◌, ◌-◌, drop, length, take, ap, sym, ◌∙◌, arith}
 use Rattle.std.proofs.lemmas.List.{length-take-le, length-drop}
 use Rattle.htl_reading.specs.Blocks.{BlockState}

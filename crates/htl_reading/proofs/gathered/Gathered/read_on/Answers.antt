@@ -1,4 +1,4 @@
--- One read more, the end of the source, and that a fault ends the reading.
+-- A read gives more bytes, of which segments are taken, or finds the end of the source, and a fault ends the reading.
 use Rattle.std.proofs.Common.{◌≡◌, ◌≤◌, ◌<◌, length, ap, arith, false, inr, refl, true}
 use Rattle.std.proofs.lemmas.List.{length-append, length-drop}
 use Rattle.std.proofs.lemmas.Grind.{common_steps}

@@ -1,4 +1,4 @@
--- The outlines, the events and the sequences of both, and then the other has none.
+-- The picks have the outlines, the events and the sequences of both, and the other is left with none.
 use Rattle.std.proofs.Common.{ap}
 use Rattle.htl_segment.specs.Repeated.{sequences_of}
 use Rattle.htl_segment.specs.Traces.{all_events}

@@ -1,4 +1,4 @@
--- An outline, the wanted events and the sequences of one segment more.
+-- The picks gain the outline, the wanted events and the sequences of the segment.
 use Rattle.htl_segment.specs.Repeated.{sequences_of}
 use Rattle.htl_segment.specs.Traces.{all_events}
 use Rattle.htl_event.specs.Interests.{wanted}

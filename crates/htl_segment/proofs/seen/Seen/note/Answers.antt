@@ -1,4 +1,4 @@
--- A number that has a mark came twice.
+-- One sequence more was seen: it gets a mark or stands apart, and where it has a mark already it came twice.
 use Rattle.std.proofs.Common.{◌<◌, false, length, sym, ◌∙◌, rules}
 use Rattle.std.proofs.lemmas.List.{get_or_default}
 use Rattle.htl_segment.proofs.SeenLaws.{again}

@@ -1,4 +1,4 @@
--- What a splitter keeps of a piece.
+-- A splitter keeps of a piece what makes no segment yet, and hands on the segments that the piece completes.
 use Rattle.std.proofs.Common.{rules, ◌++◌, ap, arith}
 use Rattle.std.proofs.lemmas.List.{length-append}
 use Rattle.htl_segment.specs.Pieces.{SplitterState}

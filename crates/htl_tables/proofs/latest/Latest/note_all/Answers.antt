@@ -1,7 +1,8 @@
 -- What is left after a half was noted and dropped are the keys that follow it.
-use Rattle.std.proofs.Common.{◌≡◌, ◌+◌, ◌≤◌, length, arith, sym, ◌∙◌}
+use Rattle.std.proofs.Common.{◌≡◌, ◌+◌, ◌≤◌, length, take, drop, ◌++◌, arith, sym, subst, ◌∙◌}
 use Rattle.std.proofs.lemmas.Grind.{div_ceil_times}
-use Rattle.std.proofs.lemmas.List.{length-drop, length-take-le}
+use Rattle.std.proofs.lemmas.List.{length-drop, length-take-le, take-append-drop}
+use Rattle.htl_tables.specs.FirstKeys.{StandFrom}
 use Rattle.htl_tables.proofs.KeyRuns.{first_stand, rest_stand}
 use Rattle.htl_tables.proofs.latest.Latest.note_all.Goals as goal
 
@@ -12,7 +13,8 @@ loop-chosen-preserved g c =
     let half = c.div_ceil-half.result in
     let n = c.loop-chosen.invariant.0 in
     let sum = c.loop-chosen.invariant.1 in
-    let stand = c.loop-chosen.invariant.2 in
+    let stand : StandFrom all n (take half rest ++ drop half rest) =
+    subst (StandFrom all n) (sym (take-append-drop half rest)) c.loop-chosen.invariant.2 in
     let left = c.drop_first.ensures in
     let len : length rest ≡ c.len.result = (rw c.deref.ensures.value at c.deref.ensures.len) ∙ sym c.len.ensures in
     let times = (div_ceil_times c.len.result 2 (omega arith)).1 in
@@ -23,8 +25,8 @@ loop-chosen-preserved g c =
     rw left (
       n + half,
       omega (arith, sum, within, after),
-      rest_stand all n rest stand half,
+      subst (λ len. StandFrom all (n + len) (drop half rest)) first (rest_stand all n (take half rest) (drop half rest) stand),
       (λ process base. rw (← first)
-          ((rw c.deref.ensures.value at c.in_ok-note_keys.ensures) all n c.requires.keys c.requires.sorted (first_stand all n rest stand half)
-          c.loop-chosen.invariant.3 process base)),
+          ((rw c.deref.ensures.value at c.in_ok-note_keys.ensures) all n c.requires.keys c.requires.sorted
+          (first_stand all n (take half rest) (drop half rest) stand) c.loop-chosen.invariant.3 process base)),
     )

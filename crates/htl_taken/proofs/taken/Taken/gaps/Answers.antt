@@ -1,4 +1,4 @@
--- One processor's gaps more, and those of all.
+-- With the gaps of one processor more, the gaps so far grow to those of all.
 use Rattle.std.proofs.Common.{◌≡◌, ℕ, true, length, subst, arith}
 use Rattle.htl_taken.specs.declared.TheConstants.{MAX_FRONT}
 use Rattle.htl_taken.specs.Numbers.{front_at, loose_at, has_key}

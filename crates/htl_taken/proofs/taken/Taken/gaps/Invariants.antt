@@ -1,4 +1,4 @@
--- The gaps of the processors so far.
+-- The gaps so far are those of the processors that were passed.
 use Rattle.std.proofs.Common.{◌≡◌, true}
 use Rattle.htl_taken.specs.Numbers.{has_key}
 use Rattle.htl_taken.specs.Gaps.{IsGaps}

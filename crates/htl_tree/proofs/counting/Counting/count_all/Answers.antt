@@ -1,4 +1,4 @@
--- An event more is counted.
+-- With one event more, the rows count one event more.
 use Rattle.std.proofs.Common.{◌≡◌, List, [], ◌∷◌, ◌+◌, ◌++◌, take, append_assoc, sym, ap, ◌∙◌, subst, arith}
 use Rattle.std.proofs.lemmas.List.{take_more}
 use Rattle.htl_event.specs.Events.{Event}

@@ -1,4 +1,4 @@
--- The events so far are counted.
+-- The rows count the events so far.
 use Rattle.std.proofs.Common.{List, ◌+◌, ◌≤◌, ◌++◌, take}
 use Rattle.htl_event.specs.Events.{Event}
 use Rattle.htl_tree.specs.Rows.{AreRows, HaveTally}

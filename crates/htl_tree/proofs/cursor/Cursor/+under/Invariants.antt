@@ -1,4 +1,4 @@
--- The path gets shorter.
+-- Each call of `under` has a path one frame shorter, so the calls end.
 use Rattle.std.proofs.Common.{length}
 use Rattle.htl_tree.proofs.cursor.Cursor.+under.Given as goal
 

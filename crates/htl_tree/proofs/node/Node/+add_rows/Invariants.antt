@@ -1,4 +1,4 @@
--- The stack gets shorter.
+-- Each call of `add_rows` has a shorter rest of the stack, so the calls end.
 use Rattle.std.proofs.Common.{length}
 use Rattle.htl_tree.proofs.node.Node.+add_rows.Given as goal
 

@@ -1,4 +1,4 @@
--- A child more is added.
+-- With what one child more counts, the sum so far and the children left still add up to the whole.
 use Rattle.std.proofs.Common.{rules, ◌≡◌, ◌+◌, ◌<◌, ◌^◌, [], drop, false, sym, ap, ◌∙◌, subst, arith}
 use Rattle.std.specs.Int.Bits.{bit_and}
 use Rattle.htl_event.specs.SlotOrder.{slot_cmp}

@@ -1,4 +1,4 @@
--- The rows of one slot without it is the slot's rows.
+-- The tree's rows of one slot, without the slot, are the slot's rows.
 use Rattle.std.proofs.Common.{◌≡◌, ℕ, List, map, sym, ap, ◌∙◌, subst}
 use Rattle.htl_event.specs.declared.slot.Slot.{Slot}
 use Rattle.htl_event.specs.declared.slot.Count.{Count}

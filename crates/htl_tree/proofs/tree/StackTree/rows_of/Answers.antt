@@ -1,4 +1,4 @@
--- The rows of the root are those of the tree.
+-- What the root lists for the slots are the tree's rows of these slots.
 use Rattle.std.proofs.Common.{ℕ, List, sym, subst}
 use Rattle.htl_event.specs.declared.slot.Slot.{Slot}
 use Rattle.htl_event.specs.declared.slot.Count.{Count}

@@ -1,4 +1,4 @@
--- Equal tallies have one tree.
+-- Trees are told to be the same exactly where they count the same, and that is where they are equal.
 use Rattle.std.proofs.Common.{refl, sym, ◌∙◌, subst}
 use Rattle.htl_tree.specs.Trees.{Tree, IsSameTally}
 use Rattle.htl_tree.specs.Nodes.{tree_of}

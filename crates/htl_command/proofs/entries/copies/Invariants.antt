@@ -1,0 +1,6 @@
+-- The copies that are made are those of the texts that were gone over.
+use Rattle.std.proofs.Common.{◌≡◌, map, take, string_bytes}
+use Rattle.htl_command.proofs.entries.copies.Given as goal
+
+abbrev pub invariant-loop-text : goal.invariant-loop-text
+invariant-loop-text l = map string_bytes l.copies.items ≡ map (λ text. text.now) (take l.text-index l.texts)

@@ -1,8 +1,0 @@
--- What `get_str` gives is the first text of the entry.
-use Rattle.std.proofs.Common.{◌∙◌}
-use Rattle.clap.specs.Words.{found_of}
-use Rattle.clap.proofs.WalkLemmas.{first_value-rows}
-use Rattle.htl_command.proofs.reading.entry.Goals as goal
-
-pub returns : goal.returns
-returns c = c.get_str.ensures ∙ first_value-rows (found_of c.args.entries.now) c.args.id.now

@@ -1,0 +1,87 @@
+//! Why entries are no job, and what a person reads of it.
+
+use crate::names::CommandOption;
+use crate::values;
+use std::fmt;
+
+/// A value that breaks the rule of its option.
+#[derive(Clone, Copy)]
+pub(crate) struct InvalidValue<'a> {
+    pub option: CommandOption,
+    /// The text that was given; empty where there is none.
+    pub given: &'a str,
+}
+
+/// Why entries are no job.
+#[derive(Clone, Copy)]
+pub(crate) enum NoJob<'a> {
+    /// A value breaks the rule of its option.
+    Value(InvalidValue<'a>),
+    /// Two forms of an answer are asked for.
+    Formats,
+}
+
+impl<'a> From<InvalidValue<'a>> for NoJob<'a> {
+    ghost use Rattle.std.specs.Prelude.{◌≡◌};
+    ghost use Rattle.htl_command.specs.declared.no_job.NoJob.TheVariants.{Value};
+
+    ghost from_gives = { λ refused why. why ≡ Value refused };
+
+    fn from(refused: InvalidValue<'a>) -> NoJob<'a> {
+        NoJob::Value(refused)
+    }
+}
+
+impl fmt::Display for NoJob<'_> {
+    fn fmt<W: fmt::Write>(&self, f: &mut fmt::Formatter<W>) -> fmt::Result {
+        match self {
+            NoJob::Value(refused) => write!(f, "{refused}"),
+            NoJob::Formats => { write!(f, "the argument '--json' cannot be used with '--folded'") }
+        }
+    }
+}
+
+impl fmt::Display for InvalidValue<'_> {
+    fn fmt<W: fmt::Write>(&self, f: &mut fmt::Formatter<W>) -> fmt::Result {
+        write!(
+            f,
+            "invalid value '{}' for '--{} <{}>'\n  [expected: {}]",
+            self.given,
+            self.option.as_str(),
+            self.option.value_name(),
+            self.option.expected()
+        )?;
+        self.write_tip(f)
+    }
+}
+
+impl InvalidValue<'_> {
+    /// What was meant, where a number is written as a debugger shows it.
+    fn write_tip<W: fmt::Write>(&self, f: &mut fmt::Formatter<W>) -> fmt::Result {
+        let given = self.given;
+        match self.option {
+            CommandOption::Process | CommandOption::Since | CommandOption::Until
+                if given.starts_with("0x") => {
+                match values::object(given) {
+                    Some(number) => write!(f, "\n\n  tip: {given} is {number}"),
+                    None => Ok(()),
+                }
+            }
+            CommandOption::Object => match given.split_once('`') {
+                Some((high, low)) if is_address(high, low) => {
+                    write!(f, "\n\n  tip: write {high}{low}")
+                }
+                _ => Ok(()),
+            },
+            _ => Ok(()),
+        }
+    }
+}
+
+/// Whether these are the halves of an address, which a debugger separates by a backquote.
+fn is_address(high: &str, low: &str) -> bool {
+    low.len() == 8
+        && !low.starts_with("0x")
+        && values::object(high).is_some()
+        && values::object(low).is_some()
+}

@@ -1,0 +1,14 @@
+-- What is said of a dump is how the dump ended.
+use Rattle.std.proofs.Common.{rules}
+use Rattle.htl_program.proofs.Told.{run_told}
+use Rattle.htl_program.proofs.performing.do_dump.Goals as goal
+
+pub returns : goal.returns
+returns g c = record {
+  ended = c.dump-ended.result;
+  is = search rules;
+  status_is = c.status_of_conversion.ensures;
+  after_run = g.P.Person.heard c.ends.new.self;
+  hears_run = run_told _ _ _ c.args.line.now.command c.begins.ensures c.ends.ensures;
+  said = rw c.says_words-in_words.ensures at c.say_dump.ensures;
+}

@@ -1,0 +1,206 @@
+//! Runs of commands over inputs, as a person meets them: that one begins, that it ended and how, and its
+//! status.
+
+ghost use Rattle.std.specs.Prelude.{◌≡◌, ◌&&◌, ◌||◌, false, not};
+ghost use Rattle.htl_program.specs.Opened.{known, opened};
+ghost use Rattle.htl_program.specs.Programs.{DoesAnswer, DoesConverse, DoesDump, DoesEncode};
+ghost use Rattle.htl_program.specs.Programs.{Encodes, spoken, told};
+
+use crate::answering::answer;
+use crate::console::Console;
+use crate::conversing::converse;
+use crate::converting::{dump, encode};
+use crate::ending::{status_after, status_of_answer, status_of_conversion};
+use crate::inputs::Inputs;
+use crate::output::Output;
+use crate::person::Person;
+use crate::printing::refuse;
+use crate::saying::{say_answer, say_dialogue, say_dump, say_encoding};
+use crate::speaker::Speaker;
+use crate::world::World;
+use htl_command::{CommandLine, Dialogue, InputForm, ParseFault, Run};
+use htl_device::Source;
+use std::alloc::Global;
+use std::thread::Threads;
+
+/// Answers the question.
+pub(crate) fn do_answer<Rt: Threads + Sync, W: World, O: Output, P: Person>(
+    rt: &Rt,
+    alloc: Global,
+    world: &W,
+    line: &CommandLine,
+    run: &Run,
+    inputs: &mut Inputs<W::Input>,
+    console: &mut Console<O, P>,
+) -> u8
+    requires { O.has_failed console.old.out ≡ false }
+    ensures { DoesAnswer (P.is_watching console.old.person || line.now.notes)
+        (known W.holds W.is_absent W.standard world.now)
+        (opened W.Input.remaining W.Input.has_ended W.Input.has_failed W.Input.good_reads
+        inputs.new)
+        (told O.contents O.has_failed P.heard console.old)
+        (told O.contents O.has_failed P.heard console.new) line.now.command run.now result }
+{
+    let in_words = console.says_words(line);
+    console.person.begins(&line.command);
+    let ended = answer(rt, alloc, world, run, &mut inputs.files, &mut console.out);
+    console.person.ends();
+    say_answer(
+        &line.command,
+        run,
+        in_words,
+        ended,
+        &console.out,
+        &mut console.person,
+    );
+    status_of_answer(run.job.exit_code, ended)
+}
+
+/// Prints segments as text.
+pub(crate) fn do_dump<W: World, O: Output, P: Person>(
+    alloc: Global,
+    world: &W,
+    line: &CommandLine,
+    form: InputForm,
+    files: &[String],
+    inputs: &mut Inputs<W::Input>,
+    console: &mut Console<O, P>,
+) -> u8
+    requires { O.has_failed console.old.out ≡ false }
+    ensures { DoesDump (P.is_watching console.old.person || line.now.notes)
+        (known W.holds W.is_absent W.standard world.now)
+        (opened W.Input.remaining W.Input.has_ended W.Input.has_failed W.Input.good_reads
+        inputs.new)
+        (told O.contents O.has_failed P.heard console.old)
+        (told O.contents O.has_failed P.heard console.new) line.now.command form files.now result }
+{
+    let in_words = console.says_words(line);
+    console.person.begins(&line.command);
+    let ended = dump(
+        alloc,
+        world,
+        form,
+        files,
+        &mut inputs.files,
+        &mut console.out,
+    );
+    console.person.ends();
+    say_dump(
+        &line.command,
+        in_words,
+        ended,
+        &console.out,
+        &mut console.person,
+    );
+    status_of_conversion(ended)
+}
+
+/// Encodes texts as segments. It refuses to write their bytes to a terminal.
+pub(crate) fn do_encode<W: World, O: Output, P: Person>(
+    alloc: Global,
+    world: &W,
+    line: &CommandLine,
+    hex: bool,
+    files: &[String],
+    inputs: &mut Inputs<W::Input>,
+    console: &mut Console<O, P>,
+) -> u8
+    requires { O.has_failed console.old.out ≡ false }
+    ensures { Encodes (not hex && P.sees_output console.old.person)
+        (P.is_watching console.old.person || line.now.notes)
+        (known W.holds W.is_absent W.standard world.now)
+        (opened W.Input.remaining W.Input.has_ended W.Input.has_failed W.Input.good_reads
+        inputs.new)
+        (told O.contents O.has_failed P.heard console.old)
+        (told O.contents O.has_failed P.heard console.new) line.now.command hex files.now result }
+{
+    if !hex && console.person.sees_output() {
+        return refuse(&ParseFault::bytes_at_terminal(alloc), console);
+    }
+    encode_into(alloc, world, line, hex, files, inputs, console)
+}
+
+/// Encodes texts to an output that isn't a terminal.
+fn encode_into<W: World, O: Output, P: Person>(
+    alloc: Global,
+    world: &W,
+    line: &CommandLine,
+    hex: bool,
+    files: &[String],
+    inputs: &mut Inputs<W::Input>,
+    console: &mut Console<O, P>,
+) -> u8
+    requires { O.has_failed console.old.out ≡ false }
+    ensures { DoesEncode (P.is_watching console.old.person || line.now.notes)
+        (known W.holds W.is_absent W.standard world.now)
+        (opened W.Input.remaining W.Input.has_ended W.Input.has_failed W.Input.good_reads
+        inputs.new)
+        (told O.contents O.has_failed P.heard console.old)
+        (told O.contents O.has_failed P.heard console.new) line.now.command hex files.now result }
+{
+    let in_words = console.says_words(line);
+    console.person.begins(&line.command);
+    let ended = encode(
+        alloc,
+        world,
+        hex,
+        files,
+        &mut inputs.files,
+        &mut console.out,
+    );
+    console.person.ends();
+    say_encoding(
+        &line.command,
+        in_words,
+        ended,
+        &console.out,
+        &mut console.person,
+    );
+    status_of_conversion(ended)
+}
+
+/// Replies to the lines of standard input.
+pub(crate) fn do_converse<Rt: Threads + Sync, W: World, O: Output, P: Person, S: Speaker>(
+    rt: &Rt,
+    alloc: Global,
+    world: &W,
+    line: &CommandLine,
+    of: &Dialogue,
+    inputs: &mut Inputs<W::Input>,
+    console: &mut Console<O, P>,
+    speaker: &mut S,
+) -> u8
+    requires { O.has_failed console.old.out ≡ false }
+    ensures { DoesConverse (P.is_watching console.old.person || line.now.notes)
+        (spoken S.told S.noted S.left S.wants_absence S.counts speaker.old speaker.new)
+        (known W.holds W.is_absent W.standard world.now)
+        (opened W.Input.remaining W.Input.has_ended W.Input.has_failed W.Input.good_reads
+        inputs.new)
+        (told O.contents O.has_failed P.heard console.old)
+        (told O.contents O.has_failed P.heard console.new) line.now.command of.now result }
+{
+    let in_words = console.says_words(line);
+    console.person.begins(&line.command);
+    let mut questions = world.questions();
+    let ended = converse(
+        rt,
+        alloc,
+        world,
+        of,
+        &mut inputs.files,
+        &mut questions,
+        &mut console.out,
+        speaker,
+    );
+    speaker.leaves(questions.ended());
+    inputs.questions = Some(questions);
+    console.person.ends();
+    say_dialogue(
+        &line.command,
+        in_words,
+        ended,
+        &console.out,
+        &mut console.person,
+    );
+    status_after(speaker.counts_wrong(), ended)
+}

@@ -1,5 +1,5 @@
 -- The events until a moment are, segment after segment, those of each segment until it.
-use Rattle.std.proofs.Common.{◌≡◌, ℕ, zero, suc, ◌+◌, ◌<◌, Bool, List, [], ◌∷◌, ◌++◌, length, get_or, take, Option, Some, None}
+use Rattle.std.proofs.Common.{◌≡◌, ℕ, zero, suc, ◌+◌, ◌<◌, Bool, List, [], ◌∷◌, ◌++◌, map, length, get_or, take, Option, Some, None}
 use Rattle.std.proofs.Common.{IsPermutation, refl, sym, ap, ◌∙◌, subst, inl, inr, arith}
 use Rattle.std.specs.Prelude.{Contains, filter, flat_map, nat_le}
 use Rattle.std.specs.List.{AllByRecursion}
@@ -9,9 +9,10 @@ use Rattle.std.proofs.lemmas.Grind.{flat_map-append}
 use Rattle.std.proofs.lemmas.List.{append-nil}
 use Rattle.std.proofs.lemmas.List.Elements.{Contains-get_or, filter-append}
 use Rattle.htl_event.proofs.Members.{at_member, filter-pass, filter-skip}
+use Rattle.htl_event.proofs.WantedLists.{unseen}
 use Rattle.htl_event.specs.Events.{Event}
 use Rattle.htl_event.specs.Handles.{HaveOwnSequences}
-use Rattle.htl_event.specs.Interests.{wants, wanted}
+use Rattle.htl_event.specs.Interests.{as_needed, wants, wanted}
 use Rattle.htl_event.specs.Moments.{events_until, counted_events}
 use Rattle.htl_event.specs.declared.interest.Interest.{Interest}
 use Rattle.htl_segment.specs.Content.{Content, EventsFit, Fits}
@@ -97,10 +98,28 @@ turned p q (x ∷ xs) =
       ]
     ]
 
+-- a moment leaves of what is needed of events what is needed of those that it leaves
+kept_needed : (moment : ℕ) (interest : Interest) (es : List Event)
+    → events_until moment (map (as_needed interest) es) ≡ map (as_needed interest) (events_until moment es)
+kept_needed moment interest [] = refl
+kept_needed moment interest (e ∷ es) =
+    let test : Event → Bool = λ x. nat_le x.sequence moment in
+    let same = unseen test (λ x. refl) interest e in
+    let rest = map (as_needed interest) es in
+    elim (cases_Bool (test e)) [
+      | inl kept ↦ filter-pass test (as_needed interest e) rest (same ∙ kept)
+          ∙ ap (λ (l : List Event). as_needed interest e ∷ l) (kept_needed moment interest es)
+          ∙ sym (ap (map (as_needed interest)) (filter-pass test e es kept))
+      | inr dropped ↦ filter-skip test (as_needed interest e) rest (same ∙ dropped) ∙ kept_needed moment interest es
+          ∙ sym (ap (map (as_needed interest)) (filter-skip test e es dropped))
+    ]
+
 -- of the events until a moment, those that are asked about are what the moment leaves of all that are
 pub wanted_until : (interest : Interest) (until : Option ℕ) (es own : List Event) → IsPermutation (wanted interest es) own
     → IsPermutation (wanted interest (counted_events until es)) (counted_events until own)
 wanted_until interest None es own moved = moved
 wanted_until interest (Some moment) es own moved =
-    subst (λ (l : List Event). IsPermutation l (events_until moment own)) (turned (λ e. nat_le e.sequence moment) (wants interest) es)
-    (kept_moved (λ e. nat_le e.sequence moment) (wanted interest es) own moved)
+    let test : Event → Bool = λ e. nat_le e.sequence moment in
+    subst (λ (l : List Event). IsPermutation l (events_until moment own))
+    (kept_needed moment interest (filter (wants interest) es) ∙ ap (map (as_needed interest)) (turned test (wants interest) es))
+    (kept_moved test (wanted interest es) own moved)

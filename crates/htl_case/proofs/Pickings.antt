@@ -1,18 +1,19 @@
 -- What was picked of segments is of a case, or shows that a key comes twice or that the segments are no case.
 use Rattle.std.proofs.Common.{◌≡◌, ℕ, suc, ◌≤◌, Bool, true, false, eqb, cond, List, [], ◌∷◌, map, Option, None, Some, All}
 use Rattle.std.proofs.Common.{IsPermutation, refl, sym, ap, ◌∙◌, inl, inr, arith}
-use Rattle.std.specs.Prelude.{Contains, slice_get, MatchOption}
+use Rattle.std.specs.Prelude.{Contains, filter, slice_get, MatchOption}
 use Rattle.std.specs.Option.{is_some}
 use Rattle.std.proofs.lemmas.Bool.{cases_Bool, and_parts, eqb-true}
 use Rattle.std.proofs.lemmas.List.Elements.{recursion_from_All}
 use Rattle.std.proofs.lemmas.List.Sorted.{All-permutation, Contains-permutation, IsPermutation-map, IsPermutation-sym}
 use Rattle.std.proofs.lemmas.List.Sorted.{sum_by-IsPermutation}
 use Rattle.htl_event.specs.Handles.{HaveOwnSequences}
-use Rattle.htl_event.specs.Interests.{wants, wanted}
+use Rattle.htl_event.specs.Interests.{as_needed, wants, wanted}
 use Rattle.htl_event.specs.Moments.{counted_events}
 use Rattle.htl_event.specs.declared.interest.Interest.{Interest}
 use Rattle.htl_event.specs.Members.{IsRising, IsLeastSuch}
 use Rattle.htl_event.proofs.Members.{Contains-map, Contains-from_map, at_member, each_member}
+use Rattle.htl_event.proofs.WantedLists.{map-as_needed}
 use Rattle.htl_segment.specs.declared.outline.Outline.{Outline}
 use Rattle.htl_segment.specs.declared.picks.Picks.{Picks}
 use Rattle.htl_segment.specs.Content.{Content, Fits}
@@ -204,8 +205,10 @@ module _ (interest : Interest) (picks : Picks) (segments : List Content) (are : 
       record {
         processors = refl;
         outlines = images.are;
-        events = rw are.events (filter_moved (λ (s : Content). s.events) (wants interest) images.behind segments
-            (IsPermutation-sym segments images.behind images.moved));
+        events = rw are.events (IsPermutation-map (as_needed interest) (filter (wants interest) (all_events images.behind))
+            (filter (wants interest) (all_events segments))
+            (filter_moved (λ (s : Content). s.events) (wants interest) images.behind segments
+            (IsPermutation-sym segments images.behind images.moved)));
       },
     )
       where
@@ -237,6 +240,7 @@ picked_own interest T until case is of =
     omega (
       arith,
       times-moved n (wanted interest counted) case.events of.events,
+      ap (times n) (map-as_needed sequence_of (λ e. refl) interest (filter (wants interest) counted)),
       fewer (wants interest) n counted,
       times_from_own counted (own_until until (all_events T.segments) is.sequences) n,
     ))

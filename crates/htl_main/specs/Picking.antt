@@ -1,6 +1,7 @@
 -- For the clauses of private functions: what is picked of one source more, and of all, and why no answer is made of it.
-use Rattle.std.specs.Prelude.{◌≡◌, ⊤, ℕ, Bool, List, ◌++◌, All, Option, Some}
+use Rattle.std.specs.Prelude.{◌≡◌, ⊤, ℕ, Bool, true, false, List, ◌++◌, All, Option, Some}
 use Rattle.htl_event.specs.declared.interest.Interest.{Interest}
+use Rattle.htl_event.specs.declared.interest.Interest.TheVariants.{OpenHandles}
 use Rattle.htl_segment.specs.Content.{Content, Fits}
 use Rattle.htl_segment.specs.Picks.{ArePicksOf}
 use Rattle.htl_segment.specs.declared.picks.Picks.{Picks}
@@ -21,6 +22,11 @@ use Rattle.htl_main.specs.declared.completed.Completed.{Completed}
 use Rattle.htl_main.specs.declared.cut_inputs.CutInputs.{CutInputs}
 use Rattle.htl_main.specs.declared.fault.RunFault.{RunFault}
 use Rattle.htl_main.specs.declared.fault.RunFault.TheVariants.{Incomplete, NoSubject, Symbols, Memory, Write}
+
+-- the question is about the open handles of a process
+abbrev pub is_of_open_handles : Option Interest → Bool
+is_of_open_handles (Some (OpenHandles process)) = true
+is_of_open_handles other = false
 
 -- the picks are those of this input too, after whichever they were of before
 pub record ArePicksMore (form : InputForm) (old new : Picks) (input : List ℕ) (is_cut : Bool) : Type 0 where

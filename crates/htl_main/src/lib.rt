@@ -17,8 +17,9 @@
 //! `origin.rt` (where these two came from), `coverage.rt` (what a case misses of its trace),
 //! `cut_inputs.rt` (which inputs end within a segment), `answering.rt` (the answer over a case),
 //! `unfolded.rt` (segments as they are, over which a run answers), `summarizing.rt` (the summary of
-//! a case), `completed.rt` (what a run reports beside its answer), `picked_run.rt`, `picking.rt`
-//! and `picked.rt` (the run that keeps only what its question asks about), `folding.rt` and
+//! a case), `completed.rt` (what a run reports beside its answer), `interest.rt` (what a question
+//! asks about), `picked_run.rt`, `picking.rt` and `picked.rt` (the run that keeps only that),
+//! `folding.rt` and
 //! `taking.rt` (sources that are read and forgotten), `folder.rt` (how their segments are taken and
 //! folded), `folded_answers.rt` (answers over what was folded), `dumping.rt` and `encoding.rt` (the
 //! runs of `dump` and `encode`), `fault.rt` (the faults, their lines and statuses), `refused.rt` (a
@@ -53,6 +54,7 @@ mod folded_answers;
 mod folder;
 mod folding;
 mod inputs;
+mod interest;
 pub mod laws;
 mod loading;
 mod origin;
@@ -80,9 +82,10 @@ pub use folding::{Folded, fold, load_folded};
 pub use htl_command::{ParseFault, Question};
 pub use htl_device::{Reading, Sink, Source, Writing};
 pub use htl_event::Interest;
+pub use interest::interest;
 pub use loading::{Loaded, load};
 pub use origin::{Between, Origin};
-pub use picked_run::{interest, pick_from};
+pub use picked_run::pick_from;
 pub use printing::{AnswerText, answer_text, run};
 pub use refused::Refused;
 pub use streaming::run_from;

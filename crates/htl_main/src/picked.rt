@@ -1,12 +1,13 @@
 //! The answer over what was picked from a case.
 
-ghost use Rattle.std.specs.Prelude.{◌≡◌, ◌<◌, ◌^◌, List, IfErr, IfOk, OnOk, is_some, length, true};
+ghost use Rattle.std.specs.Prelude.{◌≡◌, ◌<◌, ◌^◌, List, IfErr, IfNone, IfOk, IfSome, OnOk};
+ghost use Rattle.std.specs.Prelude.{is_some, length, true};
 ghost use Rattle.std.specs.Option.{option_copied};
 ghost use Rattle.htl_segment.specs.Content.{Content};
 ghost use Rattle.htl_segment.specs.Picks.{events_in};
 ghost use Rattle.htl_main.specs.Answers.{IsAnswer};
 ghost use Rattle.htl_main.specs.Causes.{IsCauseAfter};
-ghost use Rattle.htl_main.specs.Picked.{interest_of};
+ghost use Rattle.htl_main.specs.Picked.{TellsOfNoHandle, interest_of};
 ghost use Rattle.htl_main.specs.Picking.{EndsAnswer, IsPickedAsOf, IsPickedFor, ReportsOf};
 ghost use Rattle.htl_main.specs.Printed.{AreAnswerLines};
 
@@ -15,6 +16,7 @@ use crate::completed::{Completed, any_list_about, has_finding};
 use crate::coverage::Missed;
 use crate::cut_inputs::CutInputs;
 use crate::fault::RunFault;
+use crate::interest::is_of_open_handles;
 use crate::printing::{check_gaps, check_subject, lines, read_symbols};
 use htl_answers::growth;
 use htl_case::PickedCase;
@@ -24,21 +26,24 @@ use htl_report::Answer;
 use std::alloc::Global;
 
 /// The lines of the answer to the job's question over what was picked of a case, and what is reported
-/// beside them. A case with a gap is refused where the job asks for a complete one.
+/// beside them. A case with a gap is refused where the job asks for a complete one. There is no answer
+/// if nothing tells of the open handles that are asked about.
 pub(crate) fn answered_of_picks(
     alloc: Global,
     job: &Job,
     mut case: PickedCase,
     cut: Option<CutInputs>,
     symbols: Option<&[u8]>,
-) -> Result<(Vec<u8>, Completed), RunFault>
+) -> Result<Option<(Vec<u8>, Completed)>, RunFault>
     requires { is_some (interest_of job.now.question) ≡ true }
-    ensures ok { IfOk result (λ answered. (segments : List Content)
+    ensures ok { IfOk result (λ answered. IfSome answered (λ of. (segments : List Content)
         → IsPickedFor job.now.question case segments
-        → AreAnswerLines segments (option_copied symbols.entry) job.now answered.0.items) }
-    ensures reports { IfOk result (λ answered. (segments : List Content)
+        → AreAnswerLines segments (option_copied symbols.entry) job.now of.0.items)) }
+    ensures reports { IfOk result (λ answered. IfSome answered (λ of. (segments : List Content)
         → IsPickedFor job.now.question case segments
-        → ReportsOf segments job.now cut answered.1) }
+        → ReportsOf segments job.now cut of.1)) }
+    ensures none { IfOk result (λ answered. IfNone answered ((segments : List Content)
+        → IsPickedFor job.now.question case segments → TellsOfNoHandle segments job.now)) }
     ensures err { IfErr result (λ fault. (segments : List Content)
         → IsPickedFor job.now.question case segments
         → IsCauseAfter segments (option_copied symbols.entry) job.now fault) }
@@ -51,18 +56,19 @@ pub(crate) fn answered_of_picks(
     let until = coverage.moment(job.until);
     case.keep_until(until);
     let has_subject = any_list_about(job.question, case.lists());
+    if !has_subject && is_of_open_handles(job.question) {
+        return Ok(None);
+    }
     check_subject(job, has_subject)?;
     let answer = answer_of_picks(alloc, job.question, until, &case)?;
     let lines = lines(alloc, job, until, &answer, &symbols)?;
-    Ok((
-        lines,
-        Completed {
-            coverage,
-            cut,
-            has_subject,
-            has_finding: has_finding(&answer),
-        },
-    ))
+    let completed = Completed {
+        coverage,
+        cut,
+        has_subject,
+        has_finding: has_finding(&answer),
+    };
+    Ok(Some((lines, completed)))
 }
 
 /// The answer to a question about what was picked of a case up to a moment.

@@ -7,9 +7,9 @@ ghost use Rattle.std.specs.Option.{option_copied};
 ghost use Rattle.std.specs.Io.KnownBytes.{Appends};
 ghost use Rattle.htl_device.specs.Devices.{AppendsPrefix};
 ghost use Rattle.htl_segment.specs.Content.{Content};
-ghost use Rattle.htl_case.specs.Picked.{NeedsWhole};
 ghost use Rattle.htl_main.specs.Causes.{IsCauseAfter, Prints, PrintsPart};
-ghost use Rattle.htl_main.specs.Picked.{AskForWhole, NeverCase, Reports, asks_about, interest_of};
+ghost use Rattle.htl_main.specs.Picked.{AskForWhole, NeverCase, PicksFallShort, Reports};
+ghost use Rattle.htl_main.specs.Picked.{asks_about, interest_of};
 ghost use Rattle.htl_main.specs.Picking.{ArePickedFor, EndsPrinting, PrintsOf, ReportsOf};
 ghost use Rattle.htl_main.specs.Readings.{AreRead};
 ghost use Rattle.htl_main.specs.Sources.{IsSourcesCause};
@@ -21,41 +21,20 @@ use crate::picked::answered_of_picks;
 use crate::picking::pick_all;
 use crate::printing::{check_workers, write_lines};
 use htl_case::PickedCase;
-use htl_command::{Job, Question};
+use htl_command::Job;
 use htl_device::{Parted, Sink};
 use htl_event::Interest;
 use htl_segment::Picks;
 use std::alloc::Global;
 use std::thread::Threads;
 
-/// The process or the object that the job asks about, where its inputs are bytes.
-pub fn interest(job: &Job) -> Option<Interest>
-    ensures { result ≡ asks_about job.now.setting.form.hex job.now.question }
-{
-    if job.setting.form.hex {
-        return None;
-    }
-    match job.question {
-        Question::Summary => None,
-        Question::Outstanding { process }
-        | Question::Diff { process, .. }
-        | Question::Leaks { process, .. }
-        | Question::Growth { process, .. } => Some(Interest::OpenHandles(process)),
-        Question::Bad { process } | Question::Trace { process, .. } => {
-            Some(Interest::Process(process))
-        }
-        Question::Tags { object } | Question::Stacks { object, .. } => {
-            Some(Interest::Object(object))
-        }
-    }
-}
-
 /// The same as `run_from` for a question about a process or an object. It makes only the events that
 /// the question asks about.
 ///
 /// It returns `None` if the outcome depends on whole segments: if a key comes twice, so that
-/// contents have to be compared, or if the segments don't form a case. Nothing is written then, and
-/// `run_from` over the same inputs, read again, gives the answer or the fault.
+/// contents have to be compared, if the segments don't form a case, or if the question is about open
+/// handles and no event that counts tells of them. Nothing is written then, and `run_from` over the
+/// same inputs, read again, gives the answer or the fault.
 pub fn pick_from<Rt: Threads + Sync, R: Parted, W: Sink>(
     rt: &Rt,
     alloc: Global,
@@ -76,7 +55,7 @@ pub fn pick_from<Rt: Threads + Sync, R: Parted, W: Sink>(
     ensures reports { (texts : List (List ℕ)) → map R.remaining inputs.old ≡ map Some texts
         → IfOk result (λ done. IfSome done (Reports job.now texts)) }
     ensures whole { (texts : List (List ℕ)) → map R.remaining inputs.old ≡ map Some texts
-        → IfOk result (λ done. IfNone done (AskForWhole job.now.setting.form texts)) }
+        → IfOk result (λ done. IfNone done (AskForWhole job.now texts)) }
     ensures unwritten { IfOk result (λ done. IfNone done (out.new ≡ out.old)) }
     ensures fine { OnOk result (W.has_failed out.new ≡ false) }
     ensures cause { (texts : List (List ℕ)) → map R.remaining inputs.old ≡ map Some texts
@@ -122,7 +101,7 @@ fn print_picks<W: Sink>(
     ensures reports { (segments : List Content) → ArePickedFor job.now.question picks segments
         → IfOk result (λ done. IfSome done (ReportsOf segments job.now cut)) }
     ensures whole { (segments : List Content) → ArePickedFor job.now.question picks segments
-        → IfOk result (λ done. IfNone done (NeedsWhole segments)) }
+        → IfOk result (λ done. IfNone done (PicksFallShort segments job.now)) }
     ensures unwritten { IfOk result (λ done. IfNone done (out.new ≡ out.old)) }
     ensures fine { OnOk result (W.has_failed out.new ≡ false) }
     ensures cause { (segments : List Content) → ArePickedFor job.now.question picks segments
@@ -138,7 +117,9 @@ fn print_picks<W: Sink>(
     let Some(case) = PickedCase::of(picks) else {
         return Ok(None);
     };
-    let (lines, completed) = answered_of_picks(alloc, job, case, cut, symbols)?;
+    let Some((lines, completed)) = answered_of_picks(alloc, job, case, cut, symbols)? else {
+        return Ok(None);
+    };
     write_lines(out, &lines)?;
     Ok(Some(completed))
 }

@@ -7,7 +7,7 @@ use Rattle.htl_command.specs.declared.question.Question.TheVariants as questions
 use Rattle.htl_case.proofs.Pickings.{picked_own}
 use Rattle.std.proofs.lemmas.Result.{IfOk-weaker}
 use Rattle.htl_main.specs.Answers.{IsAnswerOver, span_until}
-use Rattle.htl_main.proofs.PickedAnswers.{of_parts, of_process, over_all}
+use Rattle.htl_main.proofs.PickedAnswers.{of_parts, of_open_handles, over_all}
 use Rattle.htl_main.proofs.WholeLaws.{over_events}
 use Rattle.htl_main.proofs.picked.answer_of_picks.Goals as goal
 
@@ -32,7 +32,7 @@ returns-in_ok-growth-in-Growth c = λ segments is.
     let same = c.lists-lists.ensures in
     let rows = (rw (same, c.span_until-span.ensures) at c.in_ok-growth-in-Growth.ensures)
     (picked_own is.interest T c.args.until c.args.case.now trace is.picked) in
-    let of = of_process c.in-Growth.process is.interest all own (rw c.in-Growth.is at is.about) is.picked.events in
+    let of = of_open_handles c.in-Growth.process is.interest all own (rw c.in-Growth.is at is.about) is.picked.events in
     rw (c.in-Growth.is) (
       refl,
       (

@@ -5,9 +5,8 @@ use Rattle.std.specs.Io.KnownBytes.{Appends}
 use Rattle.std.proofs.lemmas.Result.{err_from_is_err_and}
 use Rattle.htl_device.specs.Devices.{AppendsPrefix}
 use Rattle.htl_main.specs.Causes.{Prints}
-use Rattle.htl_main.specs.Picked.{AskForWhole, Reports}
+use Rattle.htl_main.specs.Picked.{AskForWhole, PicksFallShort, Reports}
 use Rattle.htl_main.specs.Picking.{PrintsOf, ReportsOf}
-use Rattle.htl_case.specs.Picked.{NeedsWhole}
 use Rattle.htl_main.proofs.AfterPicking.{bytes_of, ends_for, ends_without_case, if_done, if_whole, picked_run, prints, prints_part, reports}
 use Rattle.htl_main.proofs.ReadingLaws.{unread}
 use Rattle.htl_main.proofs.picked_run.pick_from.Goals as goal
@@ -49,7 +48,7 @@ pub returns-clause-whole : goal.returns-clause-whole
 returns-clause-whole g c = λ texts all.
     let job = c.args.job.now in
     let run = picked_run job texts c.args.interest c.in_ok-all.all.picks c.requires.about (c.in_ok-all.ensures.ok texts all) in
-    if_whole {P = NeedsWhole run.segments} {Q = AskForWhole job.setting.form texts} c.print_picks.result (λ needs. (run.segments, run.decoded, needs))
+    if_whole {P = PicksFallShort run.segments job} {Q = AskForWhole job texts} c.print_picks.result (λ needs. (run.segments, run.decoded, needs))
     (c.print_picks.ensures.whole run.segments run.picked)
 
 pub returns-clause-cause : goal.returns-clause-cause

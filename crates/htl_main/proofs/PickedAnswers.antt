@@ -1,6 +1,6 @@
 -- An answer over the events that are asked about is the answer over all events.
 use Rattle.std.proofs.Common.{◌≡◌, ◌⊎◌, ℕ, Bool, true, false, List, [], ◌∷◌, Option, Some, None, IsPermutation, inl, inr, refl, sym, ap, ◌∙◌, subst}
-use Rattle.std.specs.Prelude.{◌==◌, Contains, filter, is_some}
+use Rattle.std.specs.Prelude.{◌==◌, ◌&&◌, Contains, filter, is_some, not}
 use Rattle.std.specs.List.{list_any}
 use Rattle.std.proofs.lemmas.Bool.{cases_Bool, and_parts}
 use Rattle.std.proofs.lemmas.List.Folds.{Any-from_list_any}
@@ -236,3 +236,15 @@ tells_of_no_handle job segments T until interest own case named about moved none
       about = about ∙ ap Some of.1;
       none = subst (λ (i : Interest). wanted i es ≡ []) of.1 (nothing_wanted job.question interest es own about moved opens none);
     }
+
+-- ---- where picks fall short
+
+-- they don't: one was found, or the question isn't about open handles
+pub falls_not_short : (found of : Bool) → (not found && of) ≡ false → (found ≡ true) ⊎ (of ≡ false)
+falls_not_short true of is = inl refl
+falls_not_short false of is = inr is
+
+-- they do: none was found, and it is about open handles
+pub falls_short : (found of : Bool) → (not found && of) ≡ true → (found ≡ false) × (of ≡ true)
+falls_short true of is = absurd (cc is)
+falls_short false of is = (refl, is)

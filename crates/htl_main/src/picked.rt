@@ -1,7 +1,7 @@
 //! The answer over what was picked from a case.
 
 ghost use Rattle.std.specs.Prelude.{◌≡◌, ◌<◌, ◌^◌, List, IfErr, IfNone, IfOk, IfSome, OnOk};
-ghost use Rattle.std.specs.Prelude.{is_some, length, true};
+ghost use Rattle.std.specs.Prelude.{◌&&◌, is_some, length, not, true};
 ghost use Rattle.std.specs.Option.{option_copied};
 ghost use Rattle.htl_segment.specs.Content.{Content};
 ghost use Rattle.htl_segment.specs.Picks.{events_in};
@@ -9,6 +9,7 @@ ghost use Rattle.htl_main.specs.Answers.{IsAnswer};
 ghost use Rattle.htl_main.specs.Causes.{IsCauseAfter};
 ghost use Rattle.htl_main.specs.Picked.{TellsOfNoHandle, interest_of};
 ghost use Rattle.htl_main.specs.Picking.{EndsAnswer, IsPickedAsOf, IsPickedFor, ReportsOf};
+ghost use Rattle.htl_main.specs.Picking.{is_of_open_handles};
 ghost use Rattle.htl_main.specs.Printed.{AreAnswerLines};
 
 use crate::answering::{answer_of_lists, span_until};
@@ -56,7 +57,7 @@ pub(crate) fn answered_of_picks(
     let until = coverage.moment(job.until);
     case.keep_until(until);
     let has_subject = any_list_about(job.question, case.lists());
-    if !has_subject && is_of_open_handles(job.question) {
+    if falls_short(job.question, has_subject) {
         return Ok(None);
     }
     check_subject(job, has_subject)?;
@@ -69,6 +70,13 @@ pub(crate) fn answered_of_picks(
         has_finding: has_finding(&answer),
     };
     Ok(Some((lines, completed)))
+}
+
+/// Whether nothing that was picked is about the question's subject, and more of the case might be.
+fn falls_short(question: Question, has_subject: bool) -> bool
+    ensures { result ≡ (not has_subject && is_of_open_handles (interest_of question)) }
+{
+    !has_subject && is_of_open_handles(question)
 }
 
 /// The answer to a question about what was picked of a case up to a moment.

@@ -1,10 +1,12 @@
 -- The lines, the coverage, the subject and the finding that are answered of picks are those of one answer over the case.
-use Rattle.std.proofs.Common.{◌∙◌, inr, rules, refl}
+use Rattle.std.proofs.Common.{◌∙◌, inr, rules, refl, sym}
 use Rattle.std.proofs.lemmas.Result.{err_from_is_err_and}
 use Rattle.std.specs.Option.{option_copied}
 use Rattle.htl_main.proofs.Missing.{memory_cause, missing_cause}
+use Rattle.htl_main.specs.Picked.{interest_of}
+use Rattle.htl_main.specs.Picking.{is_of_open_handles}
 use Rattle.htl_main.specs.Subjects.{is_about}
-use Rattle.htl_main.proofs.PickedAnswers.{subject_until}
+use Rattle.htl_main.proofs.PickedAnswers.{falls_short, falls_not_short, subject_until, tells_of_no_handle}
 use Rattle.htl_main.proofs.UntilLaws.{found_in_lists}
 use Rattle.htl_main.proofs.picked.answered_of_picks.Goals as goal
 
@@ -40,7 +42,9 @@ returns-in_err-check_subject-clause-err c =
       c.in_ok-symbols.ensures.ok,
       rw (← refused.2) (subject_until c.args.job.now is.trace c.moment-until.result is.interest _ c.any_list_about-has_subject.result
           named is.about kept.events
-          (found_in_lists (is_about c.args.job.now.question) c.lists.result.now _ _ c.any_list_about-has_subject.ensures c.lists.ensures)),
+          (found_in_lists (is_about c.args.job.now.question) c.lists.result.now _ _ c.any_list_about-has_subject.ensures c.lists.ensures)
+          (falls_not_short c.any_list_about-has_subject.result (is_of_open_handles (interest_of c.args.job.now.question))
+          (sym c.falls_short.ensures ∙ c.if-falls_short.false))),
     ))
 
 pub returns-in_err-lines-clause-err : goal.returns-in_err-lines-clause-err
@@ -68,7 +72,9 @@ returns-clause-ok c = λ segments is.
       named = c.in_ok-symbols.ensures.ok;
       about = λ coded. rw (← c.in_ok-check_subject.ensures.ok coded) (subject_until c.args.job.now T until is.interest _ found
           named is.about kept.events
-          (found_in_lists (is_about c.args.job.now.question) c.lists.result.now _ _ c.any_list_about-has_subject.ensures c.lists.ensures));
+          (found_in_lists (is_about c.args.job.now.question) c.lists.result.now _ _ c.any_list_about-has_subject.ensures c.lists.ensures)
+          (falls_not_short c.any_list_about-has_subject.result (is_of_open_handles (interest_of c.args.job.now.question))
+          (sym c.falls_short.ensures ∙ c.if-falls_short.false)));
       is = (
         until,
         named,
@@ -95,7 +101,9 @@ returns-clause-reports c = λ segments is.
         T,
         is.case_of,
         subject_until c.args.job.now T until is.interest _ found named is.about kept.events
-            (found_in_lists (is_about c.args.job.now.question) c.lists.result.now _ _ c.any_list_about-has_subject.ensures c.lists.ensures),
+            (found_in_lists (is_about c.args.job.now.question) c.lists.result.now _ _ c.any_list_about-has_subject.ensures c.lists.ensures)
+            (falls_not_short c.any_list_about-has_subject.result (is_of_open_handles (interest_of c.args.job.now.question))
+            (sym c.falls_short.ensures ∙ c.if-falls_short.false)),
       );
       finding = (
         T,
@@ -110,3 +118,16 @@ returns-clause-reports c = λ segments is.
         ),
       );
     }
+
+pub returns-then-falls_short-clause-none : goal.returns-then-falls_short-clause-none
+returns-then-falls_short-clause-none c = λ segments is.
+    let T = is.trace in
+    let missed = c.in_ok-missed.ensures T
+    (is.case_of.is_case, c.processors.ensures ∙ is.picked.processors, c.outlines.ensures ∙ is.picked.outlines) in
+    let named = c.moment-until.ensures T (c.coverage-coverage.ensures T missed) in
+    let kept = c.keep_until.ensures.until is.interest T is.picked in
+    let short = falls_short c.any_list_about-has_subject.result (is_of_open_handles (interest_of c.args.job.now.question))
+    (sym c.falls_short.ensures ∙ c.if-falls_short.true) in
+    tells_of_no_handle c.args.job.now segments T c.moment-until.result is.interest _ is.case_of named is.about kept.events
+    (sym (found_in_lists (is_about c.args.job.now.question) c.lists.result.now _ _ c.any_list_about-has_subject.ensures c.lists.ensures)
+    ∙ short.0) short.1

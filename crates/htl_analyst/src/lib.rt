@@ -9,9 +9,9 @@
 //! above both, and analysts that took the same segments are the same once compacted.
 //!
 //! Files, in reading order: `analyst.rt` (the state and what it shows), `part.rt` and `folded.rt`
-//! (what is kept of one processor), `taking.rt`, `merging.rt` and `compacting.rt` (the steps),
-//! `fault.rt` (what they answer), `answers.rt` and `summary.rt` (the answers over the parts of all
-//! processors), `laws.rt`.
+//! (what is kept of one processor), `taking.rt`, `merging.rt` with `union.rt` (all that two have
+//! taken), and `compacting.rt` (the steps), `fault.rt` (what they answer), `answers.rt` and
+//! `summary.rt` (the answers over the parts of all processors), `laws.rt`.
 //!
 //! `specs/` is read in this order: `States`, `Keys` and `TakenEvents` (a state as a value),
 //! `Right` (when it is right about a trace), `Steps` and `Refusals` (what calls make of it, and
@@ -33,6 +33,7 @@ mod merging;
 mod part;
 mod summary;
 mod taking;
+mod union;
 
 pub use analyst::Analyst;
 pub use fault::{AnalystFault, MergeFault, TakeFault, Took};

@@ -7,7 +7,7 @@ use std::marker::Model;
 use std::mem;
 
 /// The segments that wait for others with lower numbers, and the fold of all segments below the front.
-/// `htl_answers` answers questions over several parts.
+/// It is a `htl_answers::Part`: questions are answered over the parts of all processors.
 #[derive(Drop)]
 pub struct Part<A: Allocator> {
     pub(crate) held: Vec<Segment, A>,

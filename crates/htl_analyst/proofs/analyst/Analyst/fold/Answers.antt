@@ -1,5 +1,5 @@
 -- The run of the processor is that of its part, and a processor without one is compacted as it is.
-use Rattle.std.proofs.Common.{◌≡◌, ◌-◌, ℕ, sym, subst, arith}
+use Rattle.std.proofs.Common.{◌≡◌, ℕ, sym, subst, arith}
 use Rattle.htl_taken.specs.Numbers.{numbers_at}
 use Rattle.htl_analyst.specs.States.{State}
 use Rattle.htl_analyst.specs.Right.{IsState}

@@ -17,15 +17,14 @@
 //! `origin.rt` (where these two came from), `coverage.rt` (what a case misses of its trace),
 //! `cut_inputs.rt` (which inputs end within a segment), `answering.rt` (the answer over a case),
 //! `unfolded.rt` (segments as they are, over which a run answers), `summarizing.rt` (the summary of
-//! a case), `completed.rt` (what a run reports beside its answer), `interest.rt` (what a question
+//! a case), `completed.rt` (what a run reports beside its answer), `interests.rt` (what a question
 //! asks about), `picked_run.rt`, `picking.rt` and `picked.rt` (the run that keeps only that),
-//! `folding.rt` and
-//! `taking.rt` (sources that are read and forgotten), `folder.rt` (how their segments are taken and
-//! folded), `folded_answers.rt` (answers over what was folded), `dumping.rt` and `encoding.rt` (the
-//! runs of `dump` and `encode`), `fault.rt` (the faults, their lines and statuses), `refused.rt` (a
-//! fault and the two segments it is about), `laws.rt` (a run has one outcome, inputs have one
-//! coverage, runs and analysts give the same answers and summaries, and there are analysts of every
-//! history).
+//! `folding.rt` and `taking.rt` (sources that are read and forgotten), `folder.rt` (how their
+//! segments are taken and folded), `folded_answers.rt` (answers over what was folded), `dumping.rt`
+//! and `encoding.rt` (the runs of `dump` and `encode`), `fault.rt` (the faults, their lines and
+//! statuses), `refused.rt` (a fault and the two segments it is about), `laws.rt` (a run has one
+//! outcome, inputs have one coverage, runs and analysts give the same answers and summaries, and
+//! there are analysts of every history).
 //!
 //! `specs/` is read in this order: `Inputs` (which segments the inputs encode, and which input is
 //! refused first), `CutInputs` (which of them end within a segment), `Summaries` (what a summary says
@@ -54,7 +53,7 @@ mod folded_answers;
 mod folder;
 mod folding;
 mod inputs;
-mod interest;
+mod interests;
 pub mod laws;
 mod loading;
 mod origin;
@@ -82,7 +81,7 @@ pub use folding::{Folded, fold, load_folded};
 pub use htl_command::{ParseFault, Question};
 pub use htl_device::{Reading, Sink, Source, Writing};
 pub use htl_event::Interest;
-pub use interest::interest;
+pub use interests::interest;
 pub use loading::{Loaded, load};
 pub use origin::{Between, Origin};
 pub use picked_run::pick_from;

@@ -17,7 +17,7 @@ use crate::completed::{Completed, any_list_about, has_finding};
 use crate::coverage::Missed;
 use crate::cut_inputs::CutInputs;
 use crate::fault::RunFault;
-use crate::interest::is_of_open_handles;
+use crate::interests::is_of_open_handles;
 use crate::printing::{check_gaps, check_subject, lines, read_symbols};
 use htl_answers::growth;
 use htl_case::PickedCase;

@@ -1,5 +1,5 @@
 -- The answer over the picked events is the answer over the trace.
-use Rattle.std.proofs.Common.{refl, ◌∙◌}
+use Rattle.std.proofs.Common.{refl}
 use Rattle.htl_event.specs.Moments.{counted_events}
 use Rattle.htl_segment.specs.Traces.{all_events}
 use Rattle.htl_report.specs.declared.answer.Answer.TheVariants.{Trace as Listing}

@@ -1,5 +1,5 @@
 -- The lines, the coverage, the subject and the finding that are answered of picks are those of one answer over the case.
-use Rattle.std.proofs.Common.{◌∙◌, inr, rules, refl, sym}
+use Rattle.std.proofs.Common.{◌∙◌, inr, refl, sym}
 use Rattle.std.proofs.lemmas.Result.{err_from_is_err_and}
 use Rattle.std.specs.Option.{option_copied}
 use Rattle.htl_main.proofs.Missing.{memory_cause, missing_cause}

@@ -7,21 +7,21 @@ pub returns-clause-ok : goal.returns-clause-ok
 returns-clause-ok g c = λ segments are.
     let for = picked_for c.args.job.now.question c.args.picks segments _ c.in-Some.ensures.some are in
     record {
-      lines = c.in_ok-lines.lines.items;
-      are = c.in_ok-lines.ensures.ok segments for;
+      lines = c.in-Some-2.lines.items;
+      are = (rw (c.in-Some-2.is) at c.in_ok-lines.ensures.ok) segments for;
       written = rw (← c.deref.ensures.value) (c.in_ok-write_lines.ensures.ok);
     }
 
 pub returns-clause-reports : goal.returns-clause-reports
 returns-clause-reports g c = λ segments are.
-    c.in_ok-lines.ensures.reports segments (picked_for c.args.job.now.question c.args.picks segments _ c.in-Some.ensures.some are)
+    (rw (c.in-Some-2.is) at c.in_ok-lines.ensures.reports) segments (picked_for c.args.job.now.question c.args.picks segments _ c.in-Some.ensures.some are)
 
 pub returns-in_err-write_lines-clause-write : goal.returns-in_err-write_lines-clause-write
 returns-in_err-write_lines-clause-write g c = λ segments are told.
     let for = picked_for c.args.job.now.question c.args.picks segments _ c.in-Some.ensures.some are in
     record {
-      lines = c.in_ok-lines.lines.items;
-      are = c.in_ok-lines.ensures.ok segments for;
+      lines = c.in-Some-2.lines.items;
+      are = (rw (c.in-Some-2.is) at c.in_ok-lines.ensures.ok) segments for;
       written = let reported = c.in_err-write_lines.ensures.err in rw (← c.deref.ensures.value) (reported.2);
     }
 

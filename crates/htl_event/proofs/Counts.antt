@@ -41,7 +41,8 @@ counts_add_up xs ys = record {
 
 -- ---- the same events at other places
 
-count_by-IsPermutation : {X : Type 0} (p : X → Bool) (xs ys : List X) → IsPermutation xs ys → count_by p xs ≡ count_by p ys
+-- as many elements pass a test in a list as in the same list in another order
+pub count_by-IsPermutation : {X : Type 0} (p : X → Bool) (xs ys : List X) → IsPermutation xs ys → count_by p xs ≡ count_by p ys
 count_by-IsPermutation p xs ys moved = sym (sum_by-IsPermutation (λ x. cond (p x) 1 0) xs ys moved)
 
 -- a slot has the same count over a list and over the same list in another order

@@ -15,3 +15,4 @@ pub mod Sums
 pub mod Summarized
 pub mod Wanted
 pub mod WantedLists
+pub mod WantedSummaries

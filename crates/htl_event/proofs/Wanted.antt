@@ -15,7 +15,7 @@ use Rattle.htl_event.specs.declared.slot.Sign.{Sign}
 use Rattle.htl_event.specs.declared.slot.Sign.TheVariants.{Plus, Minus}
 use Rattle.htl_event.specs.declared.slot.Count.{Count}
 use Rattle.htl_event.specs.Members.{Lists}
-use Rattle.htl_event.specs.Handles.{opens_or_closes, IsGreatestSequence, IsOf, IsLatest, IsOpen, IsOutstanding, IsDiff, IsOfHandle}
+use Rattle.htl_event.specs.Handles.{opens_or_closes, OpensOrCloses, IsGreatestSequence, IsOf, IsLatest, IsOpen, IsOutstanding, IsDiff, IsOfHandle}
 use Rattle.htl_event.specs.Tallies.{count_where, times, has_stack, tally, balance, IsPositive, AreOpenSince, IsLeaksSince}
 use Rattle.htl_event.specs.Growth.{IsPoint, IsGrowth}
 use Rattle.htl_event.specs.Moments.{events_until}
@@ -31,16 +31,24 @@ use Rattle.htl_event.specs.Interests.{HaveSameOpenHandles, ProcessNeedsItsOwn, O
 -- ---- sets of events that tell the same of a process's handles
 
 -- the events are the same, but for what no answer about open handles depends on
-record AreAlike (x y : Event) : Type 0 where
+pub record AreAlike (x y : Event) : Type 0 where
   pub sequence : x.sequence ≡ y.sequence
   pub kind : x.kind ≡ y.kind
   pub process : x.process ≡ y.process
   pub handle : x.handle ≡ y.handle
 
+if_alike : (whole : Bool) (e : Event) → AreAlike e (if whole then e else without_stack e)
+if_alike true e = record { sequence = refl; kind = refl; process = refl; handle = refl }
+if_alike false e = record { sequence = refl; kind = refl; process = refl; handle = refl }
+
+-- for each event of the process that tells which handles are open, the second set has one that is alike
+abbrev pub Shows : ℕ → (Event → Type 0) → (Event → Type 0) → Type 0
+Shows p A B = (x : Event) → x.process ≡ p → tracks_handles x.kind ≡ true → A x → (y : Event) × B y × AreAlike x y
+
 -- what the first set tells of the open handles of the process, the second tells too
 record Tells (p : ℕ) (A B : Event → Type 0) : Type 0 where
   pub opens : (x : Event) → x.process ≡ p → x.kind ≡ Opened → A x → B x
-  pub others : (x : Event) → x.process ≡ p → tracks_handles x.kind ≡ true → A x → (y : Event) × B y × AreAlike x y
+  pub others : Shows p A B
 
 abbrev Agree : ℕ → (Event → Type 0) → (Event → Type 0) → Type 0
 Agree p A B = Tells p A B × Tells p B A
@@ -57,40 +65,50 @@ tracked Ref is = absurd cc
 tracked Deref is = absurd cc
 tracked Exited is = refl
 
-greatest : (p : ℕ) (A B : Event → Type 0) (kind : Kind) (n : ℕ) → tracks_handles kind ≡ true → Agree p A B
+-- a greatest sequence is the same over sets that show each other's events
+pub greatest : (p : ℕ) (A B : Event → Type 0) (kind : Kind) (n : ℕ) → tracks_handles kind ≡ true → Shows p A B → Shows p B A
     → IsGreatestSequence (λ e. A e × IsOf kind p e) n → IsGreatestSequence (λ e. B e × IsOf kind p e) n
-greatest p A B kind n tracks same g = record {
+greatest p A B kind n tracks shown back g = record {
   bound = λ x h.
-      let (y, there, alike) = same.1.others x h.1.1 (ap tracks_handles h.1.0 ∙ tracks) h.0 in
+      let (y, there, alike) = back x h.1.1 (ap tracks_handles h.1.0 ∙ tracks) h.0 in
       rw (alike.sequence) (g.bound y (there, (sym alike.kind ∙ h.1.0, sym alike.process ∙ h.1.1)));
   reached = elim (g.reached) [
     | inl zero ↦ inl zero
     | inr found ↦
         let (x, (here, of), is) = found in
-        let (y, there, alike) = same.0.others x of.1 (ap tracks_handles of.0 ∙ tracks) here in
+        let (y, there, alike) = shown x of.1 (ap tracks_handles of.0 ∙ tracks) here in
         inr (y, (there, (sym alike.kind ∙ of.0, sym alike.process ∙ of.1)), sym alike.sequence ∙ is)
   ];
 }
 
-latest : (p base : ℕ) (A B : Event → Type 0) (e : Event) → e.kind ≡ Opened → Agree p A B → IsLatest A p base e → IsLatest B p base e
-latest p base A B e opens same l = record {
-  here = same.0.opens e l.of_handle.owner opens l.here;
-  of_handle = l.of_handle;
+same_handle : (p base : ℕ) (x y : Event) → AreAlike x y → OpensOrCloses p base x → OpensOrCloses p base y
+same_handle p base x y alike of = record {
+  kind = ap opens_or_closes (sym alike.kind) ∙ of.kind;
+  owner = sym alike.process ∙ of.owner;
+  handle = ap base_of (sym alike.handle) ∙ of.handle;
+}
+
+latest : (p base : ℕ) (A B : Event → Type 0) (e f : Event) → AreAlike e f → B f → Shows p B A → IsLatest A p base e → IsLatest B p base f
+latest p base A B e f alike there back l = record {
+  here = there;
+  of_handle = same_handle p base e f alike l.of_handle;
   greatest = λ x here of.
-      let (y, there, alike) = same.1.others x of.owner (tracked x.kind of.kind) here in
-      rw (alike.sequence) (l.greatest y there (record {
-        kind = ap opens_or_closes (sym alike.kind) ∙ of.kind;
-        owner = sym alike.process ∙ of.owner;
-        handle = ap base_of (sym alike.handle) ∙ of.handle;
-      }));
+      let (y, found, same) = back x of.owner (tracked x.kind of.kind) here in
+      rw (same.sequence, sym alike.sequence) (l.greatest y found (same_handle p base x y same of));
+}
+
+-- where an event opened a handle that is still open, so did one that is alike, in a set that shows the same
+pub open_alike : (p : ℕ) (A B : Event → Type 0) (e f : Event) → AreAlike e f → B f → Shows p A B → Shows p B A → IsOpen A p e
+    → IsOpen B p f
+open_alike p A B e f alike there shown back o = record {
+  opens = sym alike.kind ∙ o.opens;
+  latest = subst (λ h. IsLatest B p (base_of h) f) alike.handle (latest p (base_of e.handle) A B e f alike there back o.latest);
+  outlives = λ n last. subst (λ s. n < s) alike.sequence (o.outlives n (greatest p B A Exited n refl back shown last));
 }
 
 open_too : (p : ℕ) (A B : Event → Type 0) (e : Event) → Agree p A B → IsOpen A p e → IsOpen B p e
-open_too p A B e same o = record {
-  opens = o.opens;
-  latest = latest p (base_of e.handle) A B e o.opens same o.latest;
-  outlives = λ n last. o.outlives n (greatest p B A Exited n refl (turned p A B same) last);
-}
+open_too p A B e same o =
+    open_alike p A B e e (if_alike true e) (same.0.opens e o.latest.of_handle.owner o.opens o.latest.here) same.0.others same.1.others o
 
 open_same : (p : ℕ) (A B : Event → Type 0) (e : Event) → Agree p A B → IsOpen A p e ↔ IsOpen B p e
 open_same p A B e same = (open_too p A B e same, open_too p B A e (turned p A B same))
@@ -102,7 +120,8 @@ lists_too P Q rows same l = record {
   members = λ x. (λ h. (same x).0 ((l.members x).0 h), λ h. (l.members x).1 ((same x).1 h));
 }
 
-lists_same : {X : Type 0} {before : X → X → Type 0} (P Q : X → Type 0) (rows : List X) → ((x : X) → P x ↔ Q x)
+-- a list names the elements of one property where it names those of an equal one
+pub lists_same : {X : Type 0} {before : X → X → Type 0} (P Q : X → Type 0) (rows : List X) → ((x : X) → P x ↔ Q x)
     → Lists before P rows ↔ Lists before Q rows
 lists_same P Q rows same = (lists_too P Q rows same, lists_too Q P rows (λ x. ((same x).1, (same x).0)))
 
@@ -215,12 +234,16 @@ tagged_object Exited o t sign e is = absurd cc
 
 -- ---- what is wanted
 
-if_alike : (whole : Bool) (e : Event) → AreAlike e (if whole then e else without_stack e)
-if_alike true e = record { sequence = refl; kind = refl; process = refl; handle = refl }
-if_alike false e = record { sequence = refl; kind = refl; process = refl; handle = refl }
-
-alike_as_needed : (interest : Interest) (e : Event) → AreAlike e (as_needed interest e)
+-- an event is alike what is needed of it
+pub alike_as_needed : (interest : Interest) (e : Event) → AreAlike e (as_needed interest e)
 alike_as_needed interest e = if_alike (needs_stack interest e.kind) e
+
+-- and what is needed of it is alike the event
+pub as_needed_alike : (interest : Interest) (e x : Event) → as_needed interest e ≡ x → AreAlike x e
+as_needed_alike interest e x is =
+    let alike = alike_as_needed interest e in
+    subst (λ (y : Event). AreAlike y e) is
+    (record { sequence = sym alike.sequence; kind = sym alike.kind; process = sym alike.process; handle = sym alike.handle })
 
 -- an open is needed as it is
 open_as_needed : (p : ℕ) (e : Event) → e.kind ≡ Opened → as_needed (OpenHandles p) e ≡ e
@@ -259,46 +282,50 @@ agree_of_same p A B same = (
   },
 )
 
+module _ (interest : Interest) (es own : List Event) (moved : IsPermutation (wanted interest es) own) where
+  abbrev kept : List Event
+  kept = filter (wants interest) es
+
+  -- an event that is asked about is there, as it is needed
+  pub in_own : (x : Event) → wants interest x ≡ true → Contains es x → Contains own (as_needed interest x)
+  in_own x asked here =
+      Contains-permutation (map (as_needed interest) kept) own (as_needed interest x) moved
+      (Contains-map (as_needed interest) kept x (Contains-filter (wants interest) es x here asked))
+
+  -- and what is there is an event of the list, as it is needed
+  pub from_own : (x : Event) → Contains own x → (y : Event) × Contains es y × (as_needed interest y ≡ x)
+  from_own x here =
+      let (y, there, is) = Contains-from_map (as_needed interest) kept x
+      (Contains-permutation own (map (as_needed interest) kept) x (IsPermutation-sym (map (as_needed interest) kept) own moved) here) in
+      (y, (Contains-from_filter (wants interest) es y there).0, is)
+
 -- all events agree with those that are wanted of the open handles of the process
 module _ (p : ℕ) (es own : List Event) (moved : IsPermutation (wanted (OpenHandles p) es) own) where
   abbrev trim : Event → Event
   trim = as_needed (OpenHandles p)
 
-  abbrev kept : List Event
-  kept = filter (wants (OpenHandles p)) es
-
-  in_own : (x : Event) → x.process ≡ p → tracks_handles x.kind ≡ true → Contains es x → Contains own (trim x)
-  in_own x owner tracks here =
-      let wants_it : wants (OpenHandles p) x ≡ true = rw (tracks, eq-eqb x.process p owner) refl in
-      Contains-permutation (map trim kept) own (trim x) moved
-      (Contains-map trim kept x (Contains-filter (wants (OpenHandles p)) es x here wants_it))
-
-  from_own : (x : Event) → Contains own x → (y : Event) × Contains es y × (trim y ≡ x)
-  from_own x here =
-      let (y, there, is) = Contains-from_map trim kept x
-      (Contains-permutation own (map trim kept) x (IsPermutation-sym (map trim kept) own moved) here) in
-      (y, (Contains-from_filter (wants (OpenHandles p)) es y there).0, is)
+  asked : (x : Event) → x.process ≡ p → tracks_handles x.kind ≡ true → wants (OpenHandles p) x ≡ true
+  asked x owner tracks = rw (tracks, eq-eqb x.process p owner) refl
 
   agree_on_open : Agree p (Contains es) (Contains own)
   agree_on_open = (
     record {
-      opens = λ x owner opens here. subst (Contains own) (open_as_needed p x opens) (in_own x owner (ap tracks_handles opens) here);
-      others = λ x owner tracks here. (trim x, in_own x owner tracks here, alike_as_needed (OpenHandles p) x);
+      opens = λ x owner opens here. subst (Contains own) (open_as_needed p x opens)
+          (in_own (OpenHandles p) es own moved x (asked x owner (ap tracks_handles opens)) here);
+      others = λ x owner tracks here.
+          (trim x, in_own (OpenHandles p) es own moved x (asked x owner tracks) here, alike_as_needed (OpenHandles p) x);
     },
     record {
       opens = λ x owner opens here.
-          let (y, there, is) = from_own x here in
+          let (y, there, is) = from_own (OpenHandles p) es own moved x here in
           let same = alike_as_needed (OpenHandles p) y in
           let opened : y.kind ≡ Opened = same.kind ∙ ap (λ (e : Event). e.kind) is ∙ opens in
           subst (Contains es) (sym (open_as_needed p y opened) ∙ is) there;
       others = λ x owner tracks here.
-          let (y, there, is) = from_own x here in
-          (y, there, subst (λ (e : Event). AreAlike e y) is (alike_turned y (trim y) (alike_as_needed (OpenHandles p) y)));
+          let (y, there, is) = from_own (OpenHandles p) es own moved x here in
+          (y, there, as_needed_alike (OpenHandles p) y x is);
     },
   )
-    where
-      alike_turned : (x y : Event) → AreAlike x y → AreAlike y x
-      alike_turned x y a = record { sequence = sym a.sequence; kind = sym a.kind; process = sym a.process; handle = sym a.handle }
 
 -- sets that agree have the same answers about open handles
 same_open_handles : (p : ℕ) (es own : List Event) → Agree p (Contains es) (Contains own) → HaveSameOpenHandles p es own
@@ -308,7 +335,10 @@ same_open_handles p es own same =
     let back : Agree p B A = turned p A B same in
     record {
       outstanding = λ rows. (outstanding_too p A B rows same, outstanding_too p B A rows back);
-      mark = λ n. (greatest p A B Snapshot n refl same, greatest p B A Snapshot n refl back);
+      mark = λ n. (
+        greatest p A B Snapshot n refl same.0.others same.1.others,
+        greatest p B A Snapshot n refl same.1.others same.0.others,
+      );
       diff = λ since rows. (diff_too p since A B rows same, diff_too p since B A rows back);
       leaks = λ since least rows. (leaks_too p since least A B rows same, leaks_too p since least B A rows back);
       growth = λ span points rows. growth_same p span points es own rows same;

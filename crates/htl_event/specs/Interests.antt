@@ -1,16 +1,19 @@
 -- What a question asks about, and that its answer depends on the events of that alone.
-use Rattle.std.specs.Prelude.{ℕ, Bool, true, false, ◌&&◌, ◌==◌, if◌then◌else◌, List, [], Option, ◌↔◌, Contains, filter, map}
+use Rattle.std.specs.Prelude.{◌≡◌, ℕ, Bool, true, false, ◌&&◌, ◌==◌, if◌then◌else◌, List, [], length, Option, ◌↔◌, Contains, filter, map}
 use Rattle.htl_event.specs.Events.{Event}
 use Rattle.htl_event.specs.declared.interest.Interest.{Interest}
-use Rattle.htl_event.specs.declared.interest.Interest.TheVariants.{Process, OpenHandles, Object}
+use Rattle.htl_event.specs.declared.interest.Interest.TheVariants.{Process, OpenHandles, Object, AllEvents}
 use Rattle.htl_event.specs.declared.kind.Kind.{Kind}
 use Rattle.htl_event.specs.declared.kind.Kind.TheVariants.{Opened, Closed, Snapshot, Exited}
 use Rattle.htl_event.specs.declared.growth.Point.{Point}
 use Rattle.htl_event.specs.declared.growth.Span.{Span}
 use Rattle.htl_event.specs.declared.slot.Count.{Count}
-use Rattle.htl_event.specs.Handles.{IsOutstanding, IsMark, IsDiff, IsListing}
+use Rattle.htl_event.specs.declared.summary.ProcessRow.{ProcessRow}
+use Rattle.htl_event.specs.declared.summary.ObjectRow.{ObjectRow}
+use Rattle.htl_event.specs.Handles.{IsOutstanding, IsMark, IsDiff, IsListing, HaveOwnSequences}
 use Rattle.htl_event.specs.Growth.{IsGrowth}
 use Rattle.htl_event.specs.Tallies.{IsTags, IsStacks, IsBad, IsLeaksSince}
+use Rattle.htl_event.specs.Summaries.{IsProcesses, IsNumberOfObjects, IsUnbalanced}
 
 -- what tells which handles are open: opens and closes, exits, which close all handles of their process, and snapshots
 abbrev pub tracks_handles : Kind → Bool
@@ -25,11 +28,13 @@ abbrev pub wants : Interest → Event → Bool
 wants (Process process) e = e.process == process
 wants (OpenHandles process) e = e.process == process && tracks_handles e.kind
 wants (Object object) e = e.object == object
+wants AllEvents e = true
 
--- The question needs the stack of such an event. An answer about open handles has those of opens alone.
+-- The question needs the stack of such an event. An answer about open handles has those of opens alone, and a summary none.
 abbrev pub needs_stack : Interest → Kind → Bool
 needs_stack (OpenHandles process) Opened = true
 needs_stack (OpenHandles process) other = false
+needs_stack AllEvents kind = false
 needs_stack interest kind = true
 
 abbrev pub without_stack : Event → Event
@@ -76,3 +81,10 @@ pub record ProcessNeedsItsOwn (process : ℕ) (events own : List Event) : Type 0
 pub record ObjectNeedsItsOwn (object : ℕ) (events own : List Event) : Type 0 where
   pub tags : (rows : List (List ℕ × Count)) → IsTags events object rows ↔ IsTags own object rows
   pub stacks : (tag : List ℕ) (rows : List (List ℕ × Count)) → IsStacks events object tag rows ↔ IsStacks own object tag rows
+
+-- A summary over all events, each with its own sequence, is the one over the same events without their stacks, in whatever order.
+pub record SummaryNeedsNoStack (events own : List Event) : Type 0 where
+  pub number : length own ≡ length events
+  pub processes : HaveOwnSequences events → (rows : List ProcessRow) → IsProcesses events rows ↔ IsProcesses own rows
+  pub objects : (n : ℕ) → IsNumberOfObjects events n ↔ IsNumberOfObjects own n
+  pub unbalanced : (rows : List ObjectRow) → IsUnbalanced events rows ↔ IsUnbalanced own rows

@@ -13,6 +13,8 @@ pub enum Interest {
     OpenHandles(u32),
     /// An object: the events that name it.
     Object(u64),
+    /// All events. A summary asks about them, and needs no stacks.
+    AllEvents,
 }
 
 impl Interest {
@@ -26,6 +28,7 @@ impl Interest {
         match self {
             Interest::OpenHandles(_) => matches!(kind, Kind::Opened),
             Interest::Process(_) | Interest::Object(_) => true,
+            Interest::AllEvents => false,
         }
     }
 }

@@ -4,7 +4,7 @@ ghost use Rattle.std.specs.Prelude.{List, ℕ};
 ghost use Rattle.std.specs.List.Sorted.{IsPermutation};
 ghost use Rattle.htl_event.specs.Events.{Event};
 ghost use Rattle.htl_event.specs.Interests.{HaveSameOpenHandles, ProcessNeedsItsOwn};
-ghost use Rattle.htl_event.specs.Interests.{ObjectNeedsItsOwn, wanted};
+ghost use Rattle.htl_event.specs.Interests.{ObjectNeedsItsOwn, SummaryNeedsNoStack, wanted};
 ghost use Rattle.htl_event.specs.Laws.{HaveSame, HandlesAreDetermined};
 ghost use Rattle.htl_event.specs.Laws.{CountsAreDetermined, CountsAddUp, IsUnion};
 ghost use Rattle.htl_event.specs.Laws.{LaterOfBoth, PrefixTallyIsSum, BalanceIsSum};
@@ -54,7 +54,8 @@ pub fn balance_is_sum()
 
 /// An answer about a process or an object over all events is the one over its own events alone, in
 /// whatever order these are. An answer about a process's open handles needs its opens, closes,
-/// snapshots and exits alone, and the stacks of opens.
+/// snapshots and exits alone, and the stacks of opens. A summary needs all events, but none of
+/// their stacks.
 pub fn answers_need_what_is_wanted()
     ensures process { (process : ℕ) (events own : List Event)
         → IsPermutation (wanted (Interest.Process process) events) own
@@ -65,4 +66,7 @@ pub fn answers_need_what_is_wanted()
     ensures object { (object : ℕ) (events own : List Event)
         → IsPermutation (wanted (Interest.Object object) events) own
         → ObjectNeedsItsOwn object events own }
+    ensures summary { (events own : List Event)
+        → IsPermutation (wanted Interest.AllEvents events) own
+        → SummaryNeedsNoStack events own }
 {}

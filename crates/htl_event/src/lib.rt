@@ -13,9 +13,10 @@
 //! summary), `memory.rt` (the error for refused memory), `laws.rt` (the laws of the definitions).
 //!
 //! In `proofs/`, `Members`, `Orders` and `Ordered` are on lists of members in order, `EventTests`
-//! on tests of one event; `Determined`, `Unions`, `Counts`, `Sums` and `Summarized` show the laws.
-//! `ComputedHandles` and `ComputedCounts` have a function for each answer, with the lemma that its
-//! value is the answer, and `RowsHandles` and `RowsCounts` worked answers by it.
+//! on tests of one event; `Determined`, `Unions`, `Counts`, `Sums`, `Summarized`, `Wanted` and
+//! `WantedSummaries` show the laws. `ComputedHandles` and `ComputedCounts` have a function for each
+//! answer, with the lemma that its value is the answer, and `RowsHandles` and `RowsCounts` worked
+//! answers by it.
 #![tactic(auto)]
 
 mod event;

@@ -1,4 +1,4 @@
--- What is kept of segments for a question about a process or an object (this project's own).
+-- What is kept of segments for a question (this project's own).
 use Rattle.std.specs.Prelude.{◌≡◌, List, flat_map, map}
 use Rattle.std.specs.Global.{Vec}
 use Rattle.htl_event.specs.Events.{Event}

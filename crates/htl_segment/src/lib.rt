@@ -12,8 +12,7 @@
 //! segment in memory, from bytes, to bytes, from its parts), `rising.rt` (the greatest sequence of
 //! segments), `keeper.rt` (what takes segments as they are read), `bundle.rt`, `splitter.rt` and
 //! `feeding.rt` (segments one after another, whole and in pieces), `outline.rt`, `seen.rt`,
-//! `repeated.rt` and `picks.rt` (what a question about a process or an object needs of them),
-//! `hexadecimal.rt`, `laws.rt`.
+//! `repeated.rt` and `picks.rt` (what a question needs of them), `hexadecimal.rt`, `laws.rt`.
 //!
 //! `specs/Lib` names the definitions in the order in which they are read. In `proofs/`,
 //! `RecordLaws`, `HeaderLaws` and `SegmentLaws` show both directions between bytes and segments,

@@ -1,4 +1,4 @@
-//! Picks: what a question about a process or an object needs of segments.
+//! Picks: what a question needs of segments.
 
 ghost use Rattle.std.specs.Prelude.{◌≡◌, ◌++◌};
 ghost use Rattle.htl_segment.specs.Picks.{events_in};
@@ -11,8 +11,8 @@ use crate::stack_cache::StackCache;
 use htl_event::{Interest, NoMemory, SharedEvent};
 use std::alloc::Global;
 
-/// What a question about a process or an object needs of segments: their outlines, the events that it
-/// asks about, and the sequences of all events.
+/// What a question needs of segments: their outlines, the events that it asks about, and the
+/// sequences of all events.
 #[derive(Debug, Drop)]
 pub struct Picks {
     interest: Interest,

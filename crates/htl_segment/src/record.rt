@@ -99,6 +99,7 @@ impl Record<'_> {
                 self.process == process && self.kind.tracks_handles()
             }
             Interest::Object(object) => self.object == object,
+            Interest::AllEvents => true,
         }
     }
 

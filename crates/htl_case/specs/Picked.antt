@@ -1,4 +1,4 @@
--- Picked cases (this project's own word): of a case what a question about a process or an object needs.
+-- Picked cases (this project's own word): of a case what a question needs.
 use Rattle.std.specs.Prelude.{◌≡◌, ℕ, ◌<◌, ◌⊎◌, List, Option, Some, None, map, slice_get}
 use Rattle.std.specs.List.Sorted.{IsPermutation}
 use Rattle.htl_event.specs.Events.{Event}

@@ -3,8 +3,8 @@
 //!
 //! `Case::of` accepts a list of segments exactly where, equal repeats dropped, it is a trace whose
 //! sequences rise along each processor; of another list it reports the first rule that it breaks.
-//! `PickedCase::of` tells the same of what was picked of segments for a question about a process or
-//! an object, unless only whole segments tell. `answer_after` does a list of takes, merges and
+//! `PickedCase::of` tells the same of what was picked of segments for a question, unless only whole
+//! segments tell. `answer_after` does a list of takes, merges and
 //! compactions over a case, and asks one of the analysts: its answer is the definition's over
 //! exactly the segments that reached it. `play` hands out the analysts. `laws` has the headline,
 //! which says the same of every trace, the laws of merge, when an answer as of a moment is final,

@@ -10,8 +10,8 @@ use htl_event::SharedEvent;
 use htl_segment::{Outline, Picks};
 use std::marker::Model;
 
-/// A case, as far as a question about a process or an object needs it: an outline of each segment,
-/// and the lists of the events that are asked about.
+/// A case, as far as one question needs it: an outline of each segment, and the lists of the events
+/// that are asked about.
 #[derive(Debug, Drop)]
 pub struct PickedCase {
     processors: u16,

@@ -1,6 +1,6 @@
 -- A run of picks is one of the segments of all its inputs, and it ends for the same causes.
-use Rattle.std.proofs.Common.{◌≡◌, ◌≢◌, ℕ, Bool, true, false, List, [], ◌∷◌, All, Option, Some, None, Result, Ok, Err, refl}
-use Rattle.std.specs.Prelude.{IfErr, IfNone, IfOk, IfSome}
+use Rattle.std.proofs.Common.{◌≡◌, ◌≢◌, ℕ, Bool, List, [], ◌∷◌, All, Option, Result, Ok, Err, refl}
+use Rattle.std.specs.Prelude.{IfErr, IfOk}
 use Rattle.std.specs.Io.KnownBytes.{Appends}
 use Rattle.std.proofs.lemmas.List.Elements.{All-nil, All-append}
 use Rattle.htl_device.specs.Devices.{AppendsPrefix}
@@ -12,66 +12,51 @@ use Rattle.htl_segment.specs.declared.picks.Picks.{Picks}
 use Rattle.htl_case.specs.Cases.{IsCaseOf}
 use Rattle.htl_case.specs.Picked.{Picked, IsPickedOf}
 use Rattle.htl_command.specs.declared.question.InputForm.{InputForm}
-use Rattle.htl_command.specs.declared.question.Question.{Question}
 use Rattle.htl_command.specs.declared.question.Job.{Job}
 use Rattle.htl_main.specs.Causes.{IsCauseAfter, Prints, PrintsPart}
 use Rattle.htl_main.specs.CutInputs.{AreCut}
 use Rattle.htl_main.specs.Inputs.{DecodeAll}
-use Rattle.htl_main.specs.Picked.{NeverCase, Reports, asks_about, interest_of}
+use Rattle.htl_main.specs.Picked.{NeverCase, Reports}
 use Rattle.htl_main.specs.Picking.{ArePickedFor, ArePicksOfAll, EndsPrinting, IsPickedFor, PrintsOf, ReportsOf}
 use Rattle.htl_main.specs.Printed.{WorkersFit}
 use Rattle.htl_main.specs.Sources.{IsSourcesCause}
 use Rattle.htl_main.specs.declared.completed.Completed.{Completed}
 use Rattle.htl_main.specs.declared.cut_inputs.CutInputs.{CutInputs}
+use Rattle.htl_main.specs.declared.picked_run.Lacking.{Lacking}
 use Rattle.htl_main.specs.declared.fault.RunFault.{RunFault}
 use Rattle.htl_main.specs.declared.fault.RunFault.TheVariants.{Case, Incomplete, NoSubject, Symbols, Memory, Write}
 use Rattle.htl_main.proofs.AfterDecoding.{sources_cause_of}
 
 -- ---- what was picked
 
--- what is asked about is picked of bytes alone
-pub bytes_of : (hex : Bool) (question : Question) (interest : Interest) → asks_about hex question ≡ Some interest → hex ≡ false
-bytes_of true question interest is = absurd (cc is)
-bytes_of false question interest is = refl
-
-about_of : (hex : Bool) (question : Question) (interest : Interest) → asks_about hex question ≡ Some interest
-    → interest_of question ≡ Some interest
-about_of true question interest is = absurd (cc is)
-about_of false question interest is = is
-
 decoded_fit : (form : InputForm) (inputs : List (List ℕ)) (segments : List Content) → DecodeAll form inputs segments → All Fits segments
 decoded_fit form [] segments decoded = rw decoded (All-nil Fits)
 decoded_fit form (input ∷ inputs) segments decoded =
     rw decoded.4 (All-append Fits decoded.0 decoded.1 decoded.2.splits.fits (decoded_fit form inputs decoded.1 decoded.3))
 
--- the segments of all inputs, of which the picks are for the job's question
-pub record IsPickedRun (job : Job) (inputs : List (List ℕ)) (picks : Picks) : Type 0 where
+-- the segments of all inputs, of which the picks are
+pub record IsPickedRun (job : Job) (interest : Interest) (inputs : List (List ℕ)) (picks : Picks) : Type 0 where
   pub segments : List Content
   pub decoded : DecodeAll job.setting.form inputs segments
-  pub picked : ArePickedFor job.question picks segments
+  pub picked : ArePickedFor interest picks segments
 
--- what was picked of all inputs is what the job's question asks for
+-- what was picked of all inputs was picked of their segments
 pub picked_run : (job : Job) (inputs : List (List ℕ)) (interest : Interest) (picks : Picks)
-    → asks_about job.setting.form.hex job.question ≡ Some interest → ArePicksOfAll job.setting.form interest inputs picks → IsPickedRun job inputs picks
-picked_run job inputs interest picks about all = record {
+    → ArePicksOfAll job.setting.form interest inputs picks → IsPickedRun job interest inputs picks
+picked_run job inputs interest picks all = record {
   segments = all.segments;
   decoded = all.decoded;
-  picked = record {
-    interest = interest;
-    about = about_of job.setting.form.hex job.question interest about;
-    picks_of = all.picks_of;
-    fits = decoded_fit job.setting.form inputs all.segments all.decoded;
-  };
+  picked = record { picks_of = all.picks_of; fits = decoded_fit job.setting.form inputs all.segments all.decoded };
 }
 
--- the case that is made of picks is one of what was picked for the question
-pub picked_for : (question : Question) (picks : Picks) (segments : List Content) (case : Picked)
+-- the case that is made of picks is one of what was picked
+pub picked_for : (interest : Interest) (picks : Picks) (segments : List Content) (case : Picked)
     → ((interest : Interest) (all : List Content) → ArePicksOf interest picks all → All Fits all
     → (T : Trace) × IsCaseOf all T × IsPickedOf interest T case)
-    → ArePickedFor question picks segments → IsPickedFor question case segments
-picked_for question picks segments case made are =
-    let of = made are.interest segments are.picks_of are.fits in
-    record { trace = of.0; interest = are.interest; about = are.about; case_of = of.1; picked = of.2 }
+    → ArePickedFor interest picks segments → IsPickedFor interest case segments
+picked_for interest picks segments case made are =
+    let of = made interest segments are.picks_of are.fits in
+    record { trace = of.0; case_of = of.1; picked = of.2 }
 
 -- what is printed of decoded segments is printed of their inputs
 pub prints : (job : Job) (inputs : List (List ℕ)) (segments : List Content) (symbols old new : Option (List ℕ)) → WorkersFit job.setting.workers
@@ -97,22 +82,22 @@ reports job inputs segments cut completed decoded are of = record {
 -- ---- how the run ends
 
 -- where a run that is done has P, and P implies Q, it has Q
-pub if_done : {E : Type 0} (result : Result (Option Completed) E) (P Q : Completed → Type 0) → ((x : Completed) → P x → Q x)
-    → IfOk result (λ done. IfSome done P) → IfOk result (λ done. IfSome done Q)
-if_done (Ok None) P Q more is = tt
-if_done (Ok (Some x)) P Q more is = more x is
+pub if_done : {E : Type 0} (result : Result (Result Completed Lacking) E) (P Q : Completed → Type 0) → ((x : Completed) → P x → Q x)
+    → IfOk result (λ ended. IfOk ended P) → IfOk result (λ ended. IfOk ended Q)
+if_done (Ok (Ok x)) P Q more is = more x is
+if_done (Ok (Err lack)) P Q more is = tt
 if_done (Err e) P Q more is = tt
 
--- where a run that wasn't done has P, and P implies Q, it has Q
-pub if_whole : {E P Q : Type 0} (result : Result (Option Completed) E) → (P → Q) → IfOk result (λ done. IfNone done P)
-    → IfOk result (λ done. IfNone done Q)
-if_whole (Ok None) more is = more is
-if_whole (Ok (Some x)) more is = tt
-if_whole (Err e) more is = tt
+-- where a run that lacks something has P of it, and P implies Q, it has Q
+pub if_lacking : {E : Type 0} (result : Result (Result Completed Lacking) E) (P Q : Lacking → Type 0) → ((x : Lacking) → P x → Q x)
+    → IfOk result (λ ended. IfErr ended P) → IfOk result (λ ended. IfErr ended Q)
+if_lacking (Ok (Ok x)) P Q more is = tt
+if_lacking (Ok (Err lack)) P Q more is = more lack is
+if_lacking (Err e) P Q more is = tt
 
 -- a run of picks ends for a cause of the run over the sources
 pub ends_for : (job : Job) (inputs : List (List ℕ)) (lefts : List (Option (List ℕ))) (ends : List Bool) (symbols : Option (List ℕ))
-    (segments : List Content) (Written : List ℕ → Type 0) (result : Result (Option Completed) RunFault) → WorkersFit job.setting.workers
+    (segments : List Content) (Written : List ℕ → Type 0) (result : Result (Result Completed Lacking) RunFault) → WorkersFit job.setting.workers
     → DecodeAll job.setting.form inputs segments
     → IfErr result EndsPrinting → IfErr result (λ fault. fault ≢ Write → IsCauseAfter segments symbols job fault)
     → (result ≡ Err Write → PrintsOf segments symbols job Written)

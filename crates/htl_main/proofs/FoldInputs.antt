@@ -1,5 +1,5 @@
 -- A folder takes inputs one after another, and a reading that forgets ends for a fault of theirs or of what was taken.
-use Rattle.std.proofs.Common.{◌≡◌, ◌≢◌, ◌⊎◌, ◌+◌, ◌-◌, ◌<◌, ◌≤◌, ℕ, Bool, true, false, List, [], ◌∷◌, ◌++◌, length, take}
+use Rattle.std.proofs.Common.{◌≡◌, ◌≢◌, ◌⊎◌, ◌<◌, ◌≤◌, ℕ, Bool, true, false, List, [], ◌∷◌, ◌++◌, length, take}
 use Rattle.std.proofs.Common.{refl, sym, ap, ◌∙◌, subst, arith, inl, inr, append_assoc, append-nil, length-append}
 use Rattle.std.proofs.Common.{Option, Some, None, IfErr, IfOk, IfSome, Result, Ok, Err}
 use Rattle.std.specs.Prelude.{Contains, OnOk, slice_get}

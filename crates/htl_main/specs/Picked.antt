@@ -1,7 +1,7 @@
 -- A run that keeps of its inputs only what its question asks about (this project's own).
-use Rattle.std.specs.Prelude.{◌≡◌, ◌≢◌, ◌⊎◌, ℕ, Bool, true, false, List, [], Option, Some, None, Result, IfErr}
+use Rattle.std.specs.Prelude.{◌≡◌, ◌≢◌, ◌⊎◌, ℕ, List, [], Option, Result, IfErr}
 use Rattle.htl_event.specs.declared.interest.Interest.{Interest}
-use Rattle.htl_event.specs.declared.interest.Interest.TheVariants.{Process, OpenHandles, Object}
+use Rattle.htl_event.specs.declared.interest.Interest.TheVariants.{Process, OpenHandles, Object, AllEvents}
 use Rattle.htl_event.specs.Interests.{wanted}
 use Rattle.htl_event.specs.Moments.{counted_events}
 use Rattle.htl_segment.specs.Content.{Content}
@@ -19,25 +19,31 @@ use Rattle.htl_main.specs.Inputs.{DecodeAll}
 use Rattle.htl_main.specs.Moments.{IsMomentOf}
 use Rattle.htl_main.specs.Subjects.{ReportsSubject}
 use Rattle.htl_main.specs.declared.completed.Completed.{Completed}
+use Rattle.htl_main.specs.declared.picked_run.Lacking.{Lacking}
+use Rattle.htl_main.specs.declared.picked_run.Lacking.TheVariants as lacking
 use Rattle.htl_main.specs.declared.fault.RunFault.{RunFault}
 use Rattle.htl_main.specs.declared.fault.RunFault.TheVariants.{Case}
 
--- the process, its open handles or the object that a question is about
-abbrev pub interest_of : Question → Option Interest
-interest_of questions.Summary = None
-interest_of (questions.Outstanding process) = Some (OpenHandles process)
-interest_of (questions.Diff process since) = Some (OpenHandles process)
-interest_of (questions.Leaks process since at_least) = Some (OpenHandles process)
-interest_of (questions.Growth process points) = Some (OpenHandles process)
-interest_of (questions.Bad process) = Some (Process process)
-interest_of (questions.Trace process handle) = Some (Process process)
-interest_of (questions.Tags object) = Some (Object object)
-interest_of (questions.Stacks object tag) = Some (Object object)
+-- which events a question asks about
+abbrev pub interest_of : Question → Interest
+interest_of questions.Summary = AllEvents
+interest_of (questions.Outstanding process) = OpenHandles process
+interest_of (questions.Diff process since) = OpenHandles process
+interest_of (questions.Leaks process since at_least) = OpenHandles process
+interest_of (questions.Growth process points) = OpenHandles process
+interest_of (questions.Bad process) = Process process
+interest_of (questions.Trace process handle) = Process process
+interest_of (questions.Tags object) = Object object
+interest_of (questions.Stacks object tag) = Object object
 
--- what a job asks about, where its inputs are bytes
-abbrev pub asks_about : Bool → Question → Option Interest
-asks_about true question = None
-asks_about false question = interest_of question
+-- all events of the process in place of those that tell of its open handles
+abbrev pub widened : Interest → Interest
+widened (OpenHandles process) = Process process
+widened interest = interest
+
+-- The question can be answered from the events of this interest: from those that it asks about, or from all of their process.
+abbrev pub Serves : Question → Interest → Type 0
+Serves question interest = (interest ≡ interest_of question) ⊎ (interest ≡ widened (interest_of question))
 
 -- what is reported beside the answer holds of the inputs
 pub record Reports (job : Job) (inputs : List (List ℕ)) (completed : Completed) : Type 0 where
@@ -46,24 +52,26 @@ pub record Reports (job : Job) (inputs : List (List ℕ)) (completed : Completed
   pub subject : ReportsSubject inputs job completed.has_subject
   pub finding : Finds job inputs completed.has_finding
 
--- The question is about open handles, and no event of the case that counts tells of them: whether the process has an event of another
--- kind, only whole segments tell.
-pub record TellsOfNoHandle (segments : List Content) (job : Job) : Type 0 where
+-- Only the open handles of a process were asked about, and no event of the case that counts tells of them: whether the process has an
+-- event of another kind, the picks don't tell.
+pub record TellsOfNoHandle (interest : Interest) (segments : List Content) (job : Job) : Type 0 where
   pub trace : Trace
   pub case_of : IsCaseOf segments trace
   pub until : Option ℕ
   pub named : IsMomentOf trace job.until until
   pub process : ℕ
-  pub about : interest_of job.question ≡ Some (OpenHandles process)
-  pub none : wanted (OpenHandles process) (counted_events until (all_events trace.segments)) ≡ []
+  pub about : interest ≡ OpenHandles process
+  pub none : wanted interest (counted_events until (all_events trace.segments)) ≡ []
 
--- What was picked of these segments doesn't tell what the job comes to.
-abbrev pub PicksFallShort : List Content → Job → Type 0
-PicksFallShort segments job = NeedsWhole segments ⊎ TellsOfNoHandle segments job
+-- What was picked of these segments doesn't tell what the job comes to, for want of this.
+abbrev pub IsLackOf : Interest → List Content → Job → Lacking → Type 0
+IsLackOf interest segments job lacking.Process = TellsOfNoHandle interest segments job
+IsLackOf interest segments job lacking.Segments = NeedsWhole segments
 
--- whole segments tell what the job over these inputs comes to
-abbrev pub AskForWhole : Job → List (List ℕ) → Type 0
-AskForWhole job inputs = (segments : List Content) × DecodeAll job.setting.form inputs segments × PicksFallShort segments job
+-- what was picked of these inputs doesn't
+abbrev pub Lacks : Interest → Job → List (List ℕ) → Lacking → Type 0
+Lacks interest job inputs lack =
+    (segments : List Content) × DecodeAll job.setting.form inputs segments × IsLackOf interest segments job lack
 
 -- no rule of a case is reported as broken
 abbrev pub NeverCase : {S : Type 0} → Result S RunFault → Type 0

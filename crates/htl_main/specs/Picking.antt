@@ -1,5 +1,5 @@
 -- For the clauses of private functions: what is picked of one source more, and of all, and why no answer is made of it.
-use Rattle.std.specs.Prelude.{◌≡◌, ⊤, ℕ, Bool, true, false, List, ◌++◌, All, Option, Some}
+use Rattle.std.specs.Prelude.{◌≡◌, ⊤, ℕ, Bool, true, false, List, ◌++◌, All, Option}
 use Rattle.htl_event.specs.declared.interest.Interest.{Interest}
 use Rattle.htl_event.specs.declared.interest.Interest.TheVariants.{OpenHandles}
 use Rattle.htl_segment.specs.Content.{Content, Fits}
@@ -9,13 +9,11 @@ use Rattle.htl_segment.specs.Traces.{Trace}
 use Rattle.htl_case.specs.Cases.{IsCaseOf}
 use Rattle.htl_case.specs.Picked.{Picked, IsPickedOf, IsPickedUntil}
 use Rattle.htl_command.specs.declared.question.InputForm.{InputForm}
-use Rattle.htl_command.specs.declared.question.Question.{Question}
 use Rattle.htl_command.specs.declared.question.Job.{Job}
 use Rattle.htl_main.specs.Answers.{FindsIn}
 use Rattle.htl_main.specs.Coverages.{CoversSegments}
 use Rattle.htl_main.specs.Ends.{IsInput}
 use Rattle.htl_main.specs.Inputs.{DecodeAll}
-use Rattle.htl_main.specs.Picked.{interest_of}
 use Rattle.htl_main.specs.Printed.{AreAnswerLines}
 use Rattle.htl_main.specs.Subjects.{HasSubjectIn}
 use Rattle.htl_main.specs.declared.completed.Completed.{Completed}
@@ -23,9 +21,9 @@ use Rattle.htl_main.specs.declared.cut_inputs.CutInputs.{CutInputs}
 use Rattle.htl_main.specs.declared.fault.RunFault.{RunFault}
 use Rattle.htl_main.specs.declared.fault.RunFault.TheVariants.{Incomplete, NoSubject, Symbols, Memory, Write}
 
--- the question is about the open handles of a process
-abbrev pub is_of_open_handles : Option Interest → Bool
-is_of_open_handles (Some (OpenHandles process)) = true
+-- only the open handles of a process are asked about
+abbrev pub is_of_open_handles : Interest → Bool
+is_of_open_handles (OpenHandles process) = true
 is_of_open_handles other = false
 
 -- the picks are those of this input too, after whichever they were of before
@@ -41,26 +39,20 @@ pub record ArePicksOfAll (form : InputForm) (interest : Interest) (inputs : List
   pub decoded : DecodeAll form inputs segments
   pub picks_of : ArePicksOf interest picks segments
 
--- what a question is about was picked of the case of these segments
-pub record IsPickedFor (question : Question) (case : Picked) (segments : List Content) : Type 0 where
+-- what is asked about was picked of the case of these segments
+pub record IsPickedFor (interest : Interest) (case : Picked) (segments : List Content) : Type 0 where
   pub trace : Trace
-  pub interest : Interest
-  pub about : interest_of question ≡ Some interest
   pub case_of : IsCaseOf segments trace
   pub picked : IsPickedOf interest trace case
 
 -- that up to a moment
-pub record IsPickedAsOf (question : Question) (until : Option ℕ) (case : Picked) (segments : List Content) : Type 0 where
+pub record IsPickedAsOf (interest : Interest) (until : Option ℕ) (case : Picked) (segments : List Content) : Type 0 where
   pub trace : Trace
-  pub interest : Interest
-  pub about : interest_of question ≡ Some interest
   pub case_of : IsCaseOf segments trace
   pub picked : IsPickedUntil interest trace until case
 
--- these are picks of these segments, for the question
-pub record ArePickedFor (question : Question) (picks : Picks) (segments : List Content) : Type 0 where
-  pub interest : Interest
-  pub about : interest_of question ≡ Some interest
+-- these are picks of these segments
+pub record ArePickedFor (interest : Interest) (picks : Picks) (segments : List Content) : Type 0 where
   pub picks_of : ArePicksOf interest picks segments
   pub fits : All Fits segments
 

@@ -1,45 +1,41 @@
 //! What a question asks about.
 
 ghost use Rattle.std.specs.Prelude.{◌≡◌};
-ghost use Rattle.htl_main.specs.Picked.{asks_about, interest_of};
+ghost use Rattle.htl_main.specs.Picked.{interest_of, widened};
 ghost use Rattle.htl_main.specs.Picking.{is_of_open_handles};
 
-use htl_command::{Job, Question};
+use htl_command::Question;
 use htl_event::Interest;
 
-/// What the job asks about, where its inputs are bytes: a process, its open handles, or an object.
-pub fn interest(job: &Job) -> Option<Interest>
-    ensures { result ≡ asks_about job.now.setting.form.hex job.now.question }
-{
-    if job.setting.form.hex {
-        None
-    } else {
-        interest_of(job.question)
-    }
-}
-
-/// What the question asks about.
-fn interest_of(question: Question) -> Option<Interest>
+/// The events that the question asks about: those of a process, those that tell of its open handles,
+/// those of an object, or all.
+pub fn interest(question: Question) -> Interest
     ensures { result ≡ interest_of question }
 {
     match question {
-        Question::Summary => None,
+        Question::Summary => Interest::AllEvents,
         Question::Outstanding { process }
         | Question::Diff { process, .. }
         | Question::Leaks { process, .. }
-        | Question::Growth { process, .. } => Some(Interest::OpenHandles(process)),
-        Question::Bad { process } | Question::Trace { process, .. } => {
-            Some(Interest::Process(process))
-        }
-        Question::Tags { object } | Question::Stacks { object, .. } => {
-            Some(Interest::Object(object))
-        }
+        | Question::Growth { process, .. } => Interest::OpenHandles(process),
+        Question::Bad { process } | Question::Trace { process, .. } => Interest::Process(process),
+        Question::Tags { object } | Question::Stacks { object, .. } => Interest::Object(object),
     }
 }
 
-/// Whether the question is about the open handles of a process.
-pub(crate) fn is_of_open_handles(question: Question) -> bool
-    ensures { result ≡ is_of_open_handles (interest_of question) }
+/// All events of the process, in place of those that tell of its open handles.
+pub fn widened(interest: Interest) -> Interest
+    ensures { result ≡ widened interest }
 {
-    matches!(interest_of(question), Some(Interest::OpenHandles(_)))
+    match interest {
+        Interest::OpenHandles(process) => Interest::Process(process),
+        other => other,
+    }
+}
+
+/// Whether only the open handles of a process are asked about.
+pub(crate) fn is_of_open_handles(interest: Interest) -> bool
+    ensures { result ≡ is_of_open_handles interest }
+{
+    matches!(interest, Interest::OpenHandles(_))
 }

@@ -1,10 +1,10 @@
 //! The run: from the bytes of inputs to the printed answer.
 //!
-//! The program calls `pick_from` for a question about a process or an object: it reads sources and
-//! keeps only what the question asks about. It calls `run_from`, which keeps whole segments, for all
-//! other questions, and where only whole segments tell what comes of the sources. `run` does the same
-//! over bytes in memory. `dump_from` writes the segments of sources as text, and `encode_from` writes
-//! the segments of texts as bytes.
+//! The program calls `pick_from`, which reads the sources of a question and keeps only what the
+//! question asks about. Where only whole segments tell what comes of the sources, or where these can't
+//! be read again, it calls `run_from`, which keeps whole segments. `run` does the same over bytes in
+//! memory. `dump_from` writes the segments of sources as text, and `encode_from` writes the segments of
+//! texts as bytes.
 //!
 //! `run_from` loads its sources, answers and writes. Where many questions come, a caller does the
 //! same: `load` reads the sources once, and `answer_text` answers each question.
@@ -81,10 +81,10 @@ pub use folding::{Folded, fold, load_folded};
 pub use htl_command::{ParseFault, Question};
 pub use htl_device::{Reading, Sink, Source, Writing};
 pub use htl_event::Interest;
-pub use interests::interest;
+pub use interests::{interest, widened};
 pub use loading::{Loaded, load};
 pub use origin::{Between, Origin};
-pub use picked_run::pick_from;
+pub use picked_run::{Lacking, pick_from};
 pub use printing::{AnswerText, answer_text, run};
 pub use refused::Refused;
 pub use streaming::run_from;

@@ -1,13 +1,17 @@
 //! The answer over what was picked from a case.
 
-ghost use Rattle.std.specs.Prelude.{◌≡◌, ◌<◌, ◌^◌, List, IfErr, IfNone, IfOk, IfSome, OnOk};
-ghost use Rattle.std.specs.Prelude.{◌&&◌, is_some, length, not, true};
+ghost use Rattle.std.specs.Prelude.{◌≡◌, ◌<◌, ◌^◌, ℕ, List, Option, IfErr, IfNone, IfOk, IfSome, OnOk};
+ghost use Rattle.std.specs.Prelude.{◌&&◌, length, not};
 ghost use Rattle.std.specs.Option.{option_copied};
 ghost use Rattle.htl_segment.specs.Content.{Content};
 ghost use Rattle.htl_segment.specs.Picks.{events_in};
+ghost use Rattle.htl_segment.specs.Traces.{IsTrace, Trace};
+ghost use Rattle.htl_case.specs.Picked.{IsPickedUntil};
+ghost use Rattle.htl_command.specs.declared.question.Question.TheVariants as questions;
 ghost use Rattle.htl_main.specs.Answers.{IsAnswer};
+ghost use Rattle.htl_main.specs.CaseOutlines.{IsMissed};
 ghost use Rattle.htl_main.specs.Causes.{IsCauseAfter};
-ghost use Rattle.htl_main.specs.Picked.{TellsOfNoHandle, interest_of};
+ghost use Rattle.htl_main.specs.Picked.{Serves, TellsOfNoHandle};
 ghost use Rattle.htl_main.specs.Picking.{EndsAnswer, IsPickedAsOf, IsPickedFor, ReportsOf};
 ghost use Rattle.htl_main.specs.Picking.{is_of_open_handles};
 ghost use Rattle.htl_main.specs.Printed.{AreAnswerLines};
@@ -19,34 +23,39 @@ use crate::cut_inputs::CutInputs;
 use crate::fault::RunFault;
 use crate::interests::is_of_open_handles;
 use crate::printing::{check_gaps, check_subject, lines, read_symbols};
+use crate::summarizing::summary_of_lists;
 use htl_answers::growth;
 use htl_case::PickedCase;
 use htl_command::{Job, Question};
-use htl_event::{NoMemory, SharedEvent, number_of_events};
-use htl_report::Answer;
+use htl_event::{Interest, NoMemory, SharedEvent, number_of_events};
+use htl_report::{Answer, Totals};
+use htl_summary::{Objects, Summary};
 use std::alloc::Global;
+use std::thread::Threads;
 
 /// The lines of the answer to the job's question over what was picked of a case, and what is reported
 /// beside them. A case with a gap is refused where the job asks for a complete one. There is no answer
-/// if nothing tells of the open handles that are asked about.
+/// if only open handles are asked about, and nothing tells of them.
 pub(crate) fn answered_of_picks(
+    rt: &(impl Threads + Sync),
     alloc: Global,
     job: &Job,
+    interest: Interest,
     mut case: PickedCase,
     cut: Option<CutInputs>,
     symbols: Option<&[u8]>,
 ) -> Result<Option<(Vec<u8>, Completed)>, RunFault>
-    requires { is_some (interest_of job.now.question) ≡ true }
+    requires { Serves job.now.question interest }
     ensures ok { IfOk result (λ answered. IfSome answered (λ of. (segments : List Content)
-        → IsPickedFor job.now.question case segments
+        → IsPickedFor interest case segments
         → AreAnswerLines segments (option_copied symbols.entry) job.now of.0.items)) }
     ensures reports { IfOk result (λ answered. IfSome answered (λ of. (segments : List Content)
-        → IsPickedFor job.now.question case segments
+        → IsPickedFor interest case segments
         → ReportsOf segments job.now cut of.1)) }
     ensures none { IfOk result (λ answered. IfNone answered ((segments : List Content)
-        → IsPickedFor job.now.question case segments → TellsOfNoHandle segments job.now)) }
+        → IsPickedFor interest case segments → TellsOfNoHandle interest segments job.now)) }
     ensures err { IfErr result (λ fault. (segments : List Content)
-        → IsPickedFor job.now.question case segments
+        → IsPickedFor interest case segments
         → IsCauseAfter segments (option_copied symbols.entry) job.now fault) }
     ensures after { IfErr result EndsAnswer }
 {
@@ -57,11 +66,11 @@ pub(crate) fn answered_of_picks(
     let until = coverage.moment(job.until);
     case.keep_until(until);
     let has_subject = any_list_about(job.question, case.lists());
-    if falls_short(job.question, has_subject) {
+    if falls_short(interest, has_subject) {
         return Ok(None);
     }
     check_subject(job, has_subject)?;
-    let answer = answer_of_picks(alloc, job.question, until, &case)?;
+    let answer = answer_of_picks(rt, alloc, job, until, missed, &case)?;
     let lines = lines(alloc, job, until, &answer, &symbols)?;
     let completed = Completed {
         coverage,
@@ -73,26 +82,30 @@ pub(crate) fn answered_of_picks(
 }
 
 /// Whether nothing that was picked is about the question's subject, and more of the case might be.
-fn falls_short(question: Question, has_subject: bool) -> bool
-    ensures { result ≡ (not has_subject && is_of_open_handles (interest_of question)) }
+fn falls_short(interest: Interest, has_subject: bool) -> bool
+    ensures { result ≡ (not has_subject && is_of_open_handles interest) }
 {
-    !has_subject && is_of_open_handles(question)
+    !has_subject && is_of_open_handles(interest)
 }
 
-/// The answer to a question about what was picked of a case up to a moment.
+/// The answer to the job's question about what was picked of a case up to a moment. The case misses this
+/// of its trace.
 fn answer_of_picks(
+    rt: &(impl Threads + Sync),
     alloc: Global,
-    question: Question,
+    job: &Job,
     until: Option<u64>,
+    missed: Missed,
     case: &PickedCase,
 ) -> Result<Answer, NoMemory>
-    requires { is_some (interest_of question) ≡ true }
-    ensures { IfOk result (λ answer. (segments : List Content)
-        (is : IsPickedAsOf question until case.now segments)
-        → IsAnswer is.trace until question answer) }
+    ensures { IfOk result (λ answer. (interest : Interest) (segments : List Content)
+        (serves : Serves job.now.question interest)
+        (is : IsPickedAsOf interest until case.now segments) → IsMissed is.trace missed
+        → IsAnswer is.trace until job.now.question answer) }
 {
     let lists = case.lists();
-    match question {
+    match job.question {
+        Question::Summary => summary_of_picks(rt, alloc, job.setting.workers, missed, case),
         Question::Trace { process, handle } => Ok(Answer::Trace {
             process,
             handle,
@@ -106,18 +119,49 @@ fn answer_of_picks(
             })
         }
         question => {
-            check_number(lists)?;
+            count(lists)?;
             answer_of_lists(alloc, lists, question)
         }
     }
 }
 
-/// Refuses more events than a `u64` can count, which would fit in no memory.
-fn check_number(lists: &[Vec<SharedEvent>]) -> Result<(), NoMemory>
-    ensures { OnOk result (length (events_in lists.now) < 2 ^ 64) }
+/// The summary of what was picked of a case, which misses this of its trace.
+fn summary_of_picks(
+    rt: &(impl Threads + Sync),
+    alloc: Global,
+    workers: u32,
+    missed: Missed,
+    case: &PickedCase,
+) -> Result<Answer, NoMemory>
+    ensures { IfOk result (λ answer. (T : Trace) (until : Option ℕ) → IsTrace T
+        → IsMissed T missed → IsPickedUntil Interest.AllEvents T until case.now
+        → IsAnswer T until questions.Summary answer) }
+{
+    let events = count(case.lists())?;
+    let Missed { gaps, complete_to } = missed;
+    let Summary { objects, processes } = summary_of_lists(rt, alloc, workers, case.lists())?;
+    let Objects { number, unbalanced } = objects;
+    Ok(Answer::Summary {
+        totals: Totals {
+            processors: case.processors(),
+            segments: case.outlines().len() as u64,
+            events,
+            complete_to,
+            objects: number,
+        },
+        gaps,
+        processes,
+        objects: unbalanced,
+    })
+}
+
+/// The number of events in lists. More than a `u64` can count would fit in no memory.
+fn count(lists: &[Vec<SharedEvent>]) -> Result<u64, NoMemory>
+    ensures value { IfOk result (λ number. number ≡ length (events_in lists.now)) }
+    ensures few { OnOk result (length (events_in lists.now) < 2 ^ 64) }
 {
     match number_of_events(lists) {
-        Some(_) => Ok(()),
+        Some(number) => Ok(number as u64),
         None => Err(NoMemory),
     }
 }

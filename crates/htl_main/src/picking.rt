@@ -1,5 +1,4 @@
-//! Picks what a question about a process or an object asks about from sources, each of which is read
-//! to its end.
+//! Picks what a question asks about from sources, each of which is read to its end.
 
 ghost use Rattle.std.specs.Prelude.{◌≡◌, ℕ, List, All, Some, false, map};
 ghost use Rattle.std.specs.Prelude.{IfErr, IfOk, IfSome};

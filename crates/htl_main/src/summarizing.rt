@@ -42,7 +42,7 @@ pub(crate) fn summary(
 }
 
 /// The summary of the events of these lists, which one part holds unfolded.
-fn summary_of_lists<Rt: Threads + Sync, E: EventList + Sync>(
+pub(crate) fn summary_of_lists<Rt: Threads + Sync, E: EventList + Sync>(
     rt: &Rt,
     alloc: Global,
     workers: u32,

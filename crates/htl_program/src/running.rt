@@ -1,16 +1,16 @@
 //! The run of a question over opened inputs.
 
-ghost use Rattle.std.specs.Prelude.{◌≡◌, ℕ, All, IfNone, IfSome, List, Some, false};
+ghost use Rattle.std.specs.Prelude.{◌≡◌, ℕ, All, IfErr, IfNone, IfOk, IfSome, List, false};
 ghost use Rattle.std.specs.Option.{option_copied};
 ghost use Rattle.htl_case.specs.declared.fault.CaseFault.{CaseFault};
 ghost use Rattle.htl_command.specs.declared.question.InputForm.{InputForm};
 ghost use Rattle.htl_main.specs.Origins.{IsBetween};
-ghost use Rattle.htl_main.specs.Picked.{asks_about};
+ghost use Rattle.htl_main.specs.Picked.{Serves};
 ghost use Rattle.htl_program.specs.Runs.{IsRun};
 
 use htl_command::Job;
 use htl_device::{Parted, Sink};
-use htl_main::{Completed, Interest, Refused, RunFault, pick_from, run_from};
+use htl_main::{Completed, Interest, Lacking, Refused, RunFault, pick_from, run_from};
 use std::alloc::Global;
 use std::thread::Threads;
 
@@ -32,9 +32,9 @@ pub(crate) fn run_opened<Rt: Threads + Sync, R: Parted, O: Sink>(
     run_from(rt, alloc, job, inputs, symbols, out)
 }
 
-/// Runs the question over only the events that it asks about. Returns none, with nothing written,
-/// if the outcome depends on whole segments: so for a fault of all segments, whose two segments
-/// only they can name.
+/// Runs the question over only the events of this interest. With nothing written, returns what is
+/// lacking if these don't tell the outcome: so whole segments for a fault of all segments, whose two
+/// segments only they can name.
 pub(crate) fn pick_opened<Rt: Threads + Sync, R: Parted, O: Sink>(
     rt: &Rt,
     alloc: Global,
@@ -43,22 +43,23 @@ pub(crate) fn pick_opened<Rt: Threads + Sync, R: Parted, O: Sink>(
     inputs: &mut Vec<R>,
     symbols: Option<&[u8]>,
     out: &mut O,
-) -> Option<Result<Completed, Refused>>
+) -> Result<Result<Completed, Refused>, Lacking>
     requires fresh { All (λ input. R.has_failed input ≡ false) inputs.old.items }
     requires inside { All (λ input. R.has_ended input ≡ false) inputs.old.items }
     requires out { O.has_failed out.old ≡ false }
-    requires about { asks_about job.now.setting.form.hex job.now.question ≡ Some interest }
-    ensures ended { IfSome result (λ ended. IsRun job.now (option_copied symbols.entry) R.has_failed
+    requires bytes { job.now.setting.form.hex ≡ false }
+    requires serves { Serves job.now.question interest }
+    ensures ended { IfOk result (λ ended. IsRun job.now (option_copied symbols.entry) R.has_failed
         R.has_ended R.good_reads R.remaining O.contents O.has_failed inputs.old.items
         inputs.new.items out.old out.new ended) }
-    ensures unwritten { IfNone result (out.new ≡ out.old) }
+    ensures unwritten { IfErr result (λ _. out.new ≡ out.old) }
 {
     match pick_from(rt, alloc, job, interest, inputs, symbols, out) {
-        Ok(Some(completed)) => Some(Ok(completed)),
-        Ok(None) => None,
+        Ok(Ok(completed)) => Ok(Ok(completed)),
+        Ok(Err(lacking)) => Err(lacking),
         Err(fault) => match about_no_two(fault) {
-            Some(refused) => Some(Err(refused)),
-            None => None,
+            Some(refused) => Ok(Err(refused)),
+            None => Err(Lacking::Segments),
         },
     }
 }

@@ -1,5 +1,5 @@
 -- The gaps are those of the case of what was taken, and so is what it is complete to.
-use Rattle.std.proofs.Common.{◌≡◌, List, [], arith, subst, true}
+use Rattle.std.proofs.Common.{◌≡◌, List, [], arith, subst}
 use Rattle.std.proofs.lemmas.Grind.{common_steps}
 use Rattle.std.proofs.lemmas.Result.{err_from_is_err_and}
 use Rattle.htl_analyst.specs.Keys.{HasTaken}

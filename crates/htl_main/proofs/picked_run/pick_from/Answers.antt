@@ -5,9 +5,9 @@ use Rattle.std.specs.Io.KnownBytes.{Appends}
 use Rattle.std.proofs.lemmas.Result.{err_from_is_err_and}
 use Rattle.htl_device.specs.Devices.{AppendsPrefix}
 use Rattle.htl_main.specs.Causes.{Prints}
-use Rattle.htl_main.specs.Picked.{AskForWhole, PicksFallShort, Reports}
+use Rattle.htl_main.specs.Picked.{IsLackOf, Lacks, Reports}
 use Rattle.htl_main.specs.Picking.{PrintsOf, ReportsOf}
-use Rattle.htl_main.proofs.AfterPicking.{bytes_of, ends_for, ends_without_case, if_done, if_whole, picked_run, prints, prints_part, reports}
+use Rattle.htl_main.proofs.AfterPicking.{ends_for, ends_without_case, if_done, if_lacking, picked_run, prints, prints_part, reports}
 use Rattle.htl_main.proofs.ReadingLaws.{unread}
 use Rattle.htl_main.proofs.picked_run.pick_from.Goals as goal
 
@@ -29,7 +29,7 @@ pub returns-clause-ok : goal.returns-clause-ok
 returns-clause-ok g c = λ texts all.
     let job = c.args.job.now in
     let symbols = option_copied c.args.symbols in
-    let run = picked_run job texts c.args.interest c.in_ok-all.all.picks c.requires.about (c.in_ok-all.ensures.ok texts all) in
+    let run = picked_run job texts c.args.interest c.in_ok-all.all.picks (c.in_ok-all.ensures.ok texts all) in
     let old = g.W.Sink.contents c.args.out.now in
     let new = g.W.Sink.contents c.print_picks.new.out in
     if_done c.print_picks.result (λ x. PrintsOf run.segments symbols job (Appends old new)) (λ x. Prints job texts symbols old new)
@@ -39,23 +39,23 @@ returns-clause-ok g c = λ texts all.
 pub returns-clause-reports : goal.returns-clause-reports
 returns-clause-reports g c = λ texts all.
     let job = c.args.job.now in
-    let run = picked_run job texts c.args.interest c.in_ok-all.all.picks c.requires.about (c.in_ok-all.ensures.ok texts all) in
+    let run = picked_run job texts c.args.interest c.in_ok-all.all.picks (c.in_ok-all.ensures.ok texts all) in
     if_done c.print_picks.result (ReportsOf run.segments job c.in_ok-all.all.cut) (Reports job texts)
     (λ x of. reports job texts run.segments c.in_ok-all.all.cut x run.decoded (c.in_ok-all.ensures.cut texts all) of)
     (c.print_picks.ensures.reports run.segments run.picked)
 
-pub returns-clause-whole : goal.returns-clause-whole
-returns-clause-whole g c = λ texts all.
+pub returns-clause-lacking : goal.returns-clause-lacking
+returns-clause-lacking g c = λ texts all.
     let job = c.args.job.now in
-    let run = picked_run job texts c.args.interest c.in_ok-all.all.picks c.requires.about (c.in_ok-all.ensures.ok texts all) in
-    if_whole {P = PicksFallShort run.segments job} {Q = AskForWhole job texts} c.print_picks.result (λ needs. (run.segments, run.decoded, needs))
-    (c.print_picks.ensures.whole run.segments run.picked)
+    let run = picked_run job texts c.args.interest c.in_ok-all.all.picks (c.in_ok-all.ensures.ok texts all) in
+    if_lacking c.print_picks.result (IsLackOf c.args.interest run.segments job) (Lacks c.args.interest job texts)
+    (λ x lacks. (run.segments, run.decoded, lacks)) (c.print_picks.ensures.lacking run.segments run.picked)
 
 pub returns-clause-cause : goal.returns-clause-cause
 returns-clause-cause g c = λ texts all.
     let job = c.args.job.now in
     let symbols = option_copied c.args.symbols in
-    let run = picked_run job texts c.args.interest c.in_ok-all.all.picks c.requires.about (c.in_ok-all.ensures.ok texts all) in
+    let run = picked_run job texts c.args.interest c.in_ok-all.all.picks (c.in_ok-all.ensures.ok texts all) in
     ends_for job texts (map g.R.Source.remaining c.pick_all.new.sources) (map g.R.Source.has_ended c.pick_all.new.sources) symbols run.segments
     (AppendsPrefix (g.W.Sink.contents c.args.out.now) (g.W.Sink.contents c.print_picks.new.out)) c.print_picks.result
     c.in_ok-check_workers.ensures.ok run.decoded c.print_picks.ensures.after (c.print_picks.ensures.cause run.segments run.picked)
@@ -65,10 +65,6 @@ pub returns-clause-write : goal.returns-clause-write
 returns-clause-write g c = λ texts all told.
     let job = c.args.job.now in
     let symbols = option_copied c.args.symbols in
-    let run = picked_run job texts c.args.interest c.in_ok-all.all.picks c.requires.about (c.in_ok-all.ensures.ok texts all) in
+    let run = picked_run job texts c.args.interest c.in_ok-all.all.picks (c.in_ok-all.ensures.ok texts all) in
     prints_part job texts run.segments symbols (g.W.Sink.contents c.args.out.now) (g.W.Sink.contents c.print_picks.new.out)
     c.in_ok-check_workers.ensures.ok run.decoded (c.print_picks.ensures.write run.segments run.picked told)
-
-pub pick_all-requires-clause-bytes : goal.pick_all-requires-clause-bytes
-pick_all-requires-clause-bytes g c κs within =
-    bytes_of c.args.job.now.setting.form.hex c.args.job.now.question c.args.interest c.requires.about

@@ -5,28 +5,28 @@ use Rattle.htl_main.proofs.picked_run.print_picks.Goals as goal
 
 pub returns-clause-ok : goal.returns-clause-ok
 returns-clause-ok g c = λ segments are.
-    let for = picked_for c.args.job.now.question c.args.picks segments _ c.in-Some.ensures.some are in
+    let for = picked_for c.args.interest c.args.all.picks segments _ c.in-Some.ensures.some are in
     record {
-      lines = c.in-Some-2.lines.items;
-      are = (rw (c.in-Some-2.is) at c.in_ok-lines.ensures.ok) segments for;
+      lines = c.in-Some-answered.lines.items;
+      are = (rw (c.in-Some-answered.is) at c.in_ok-answered.ensures.ok) segments for;
       written = rw (← c.deref.ensures.value) (c.in_ok-write_lines.ensures.ok);
     }
 
 pub returns-clause-reports : goal.returns-clause-reports
 returns-clause-reports g c = λ segments are.
-    (rw (c.in-Some-2.is) at c.in_ok-lines.ensures.reports) segments (picked_for c.args.job.now.question c.args.picks segments _ c.in-Some.ensures.some are)
+    (rw (c.in-Some-answered.is) at c.in_ok-answered.ensures.reports) segments (picked_for c.args.interest c.args.all.picks segments _ c.in-Some.ensures.some are)
 
 pub returns-in_err-write_lines-clause-write : goal.returns-in_err-write_lines-clause-write
 returns-in_err-write_lines-clause-write g c = λ segments are told.
-    let for = picked_for c.args.job.now.question c.args.picks segments _ c.in-Some.ensures.some are in
+    let for = picked_for c.args.interest c.args.all.picks segments _ c.in-Some.ensures.some are in
     record {
-      lines = c.in-Some-2.lines.items;
-      are = (rw (c.in-Some-2.is) at c.in_ok-lines.ensures.ok) segments for;
+      lines = c.in-Some-answered.lines.items;
+      are = (rw (c.in-Some-answered.is) at c.in_ok-answered.ensures.ok) segments for;
       written = let reported = c.in_err-write_lines.ensures.err in rw (← c.deref.ensures.value) (reported.2);
     }
 
-pub returns-in_err-lines-clause-cause : goal.returns-in_err-lines-clause-cause
-returns-in_err-lines-clause-cause g c = λ segments are.
+pub returns-in_err-answered-clause-cause : goal.returns-in_err-answered-clause-cause
+returns-in_err-answered-clause-cause g c = λ segments are.
     let p = err_from_is_err_and c.from_residual.result c.from_residual.ensures.1 in
-    let for = picked_for c.args.job.now.question c.args.picks segments _ c.in-Some.ensures.some are in
-    rw (p.1, p.2) (λ told. c.in_err-lines.ensures.err segments for)
+    let for = picked_for c.args.interest c.args.all.picks segments _ c.in-Some.ensures.some are in
+    rw (p.1, p.2) (λ told. c.in_err-answered.ensures.err segments for)

@@ -1,7 +1,6 @@
 -- An answer over what was picked is that of the run, and so is a fault.
 use Rattle.std.proofs.Common.{◌≡◌, ◌∙◌, Err, ap, drop, [], false, length, refl, rules, sym}
 use Rattle.htl_lemmas.proofs.Lists.{take_front}
-use Rattle.htl_main.proofs.AfterPicking.{bytes_of}
 use Rattle.htl_program.proofs.PassedOn.{no_fault, same_fault}
 use Rattle.htl_program.proofs.SourcesRead.{as_answered, as_refused}
 use Rattle.htl_program.proofs.running.pick_opened.Goals as goal
@@ -17,24 +16,24 @@ returns-in-Some-clause-ended g c =
         between = rw (same) (c.in-Some.ensures.some c.args.job.now.setting.form texts).1;
         written = λ is. c.in-Err.ensures.write texts all (ap Err (sym same ∙ is));
       };
-      reading = rw (same, bytes_of _ _ _ c.requires.about) (as_refused false _ _ _ _ _ _ _ c.in-Err.ensures.reading);
+      reading = rw (same, c.requires.bytes) (as_refused false _ _ _ _ _ _ _ c.in-Err.ensures.reading);
       untouched = rw (same) c.in-Err.ensures.untouched;
       failed = λ is. c.in-Err.ensures.failed (ap Err (sym same ∙ same_fault _ _ _ refl is));
       fine = tt;
     }
 
-pub returns-in-Ok-Some-clause-ended : goal.returns-in-Ok-Some-clause-ended
-returns-in-Ok-Some-clause-ended g c =
+pub returns-in-Ok-Ok-clause-ended : goal.returns-in-Ok-Ok-clause-ended
+returns-in-Ok-Ok-clause-ended g c =
     let kept : length c.pick_from.new.inputs ≡ c.args.inputs.now.len = search rules in
     let back = take_front c.pick_from.new.inputs (drop (length c.pick_from.new.inputs) c.args.inputs.now.items) c.args.inputs.now.len kept in
     rw (back, ← c.deref_mut.ensures.value) record {
       ends = λ texts all. (
-        rw c.in-Ok-Some.field-0-is at (c.in-Ok-Some.ensures.ok texts all),
-        rw c.in-Ok-Some.field-0-is at (c.in-Ok-Some.ensures.reports texts all),
+        rw c.in-Ok-Ok.field-0-is at (c.in-Ok-Ok.ensures.ok texts all),
+        rw c.in-Ok-Ok.field-0-is at (c.in-Ok-Ok.ensures.reports texts all),
       );
-      reading = rw (bytes_of _ _ _ c.requires.about)
-          (as_answered false _ _ _ _ _ _ _ _ c.in-Ok-Some.ensures.reading);
+      reading = rw (c.requires.bytes)
+          (as_answered false _ _ _ _ _ _ _ _ c.in-Ok-Ok.ensures.reading);
       untouched = tt;
       failed = λ is. absurd (no_fault _ _ is);
-      fine = c.in-Ok-Some.ensures.fine;
+      fine = c.in-Ok-Ok.ensures.fine;
     }

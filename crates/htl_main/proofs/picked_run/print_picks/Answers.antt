@@ -14,7 +14,8 @@ returns-clause-ok g c = λ segments are.
 
 pub returns-clause-reports : goal.returns-clause-reports
 returns-clause-reports g c = λ segments are.
-    (rw (c.in-Some-answered.is) at c.in_ok-answered.ensures.reports) segments (picked_for c.args.interest c.args.all.picks segments _ c.in-Some.ensures.some are)
+    let for = picked_for c.args.interest c.args.all.picks segments _ c.in-Some.ensures.some are in
+    (rw (c.in-Some-answered.is) at c.in_ok-answered.ensures.reports) segments for
 
 pub returns-in_err-write_lines-clause-write : goal.returns-in_err-write_lines-clause-write
 returns-in_err-write_lines-clause-write g c = λ segments are told.

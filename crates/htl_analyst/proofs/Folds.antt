@@ -4,6 +4,7 @@ use Rattle.std.proofs.Common.{sym, ap, ◌∙◌, subst, arith, inl, inr}
 use Rattle.std.specs.Prelude.{Contains, ◌↔◌}
 use Rattle.std.specs.List.{AllByRecursion}
 use Rattle.std.proofs.lemmas.Bool.{cases_eq, cases_lt}
+use Rattle.std.proofs.lemmas.List.{drop-map}
 use Rattle.htl_event.specs.Events.{Event}
 use Rattle.htl_event.proofs.Members.{at_member, AllByRecursion-weaker}
 use Rattle.htl_segment.specs.Content.{Content}
@@ -19,7 +20,7 @@ use Rattle.htl_analyst.specs.States.{Folded, Part, part, part_at, held_at, folde
 use Rattle.htl_analyst.specs.Keys.{HasTaken}
 use Rattle.htl_analyst.specs.Right.{IsOwned, IsFolded, IsWithin, run_events, IsPart, IsState, IsRightAt, IsRight}
 use Rattle.htl_analyst.specs.StepParts.{run_length, run_of, settled_with, IsCompactedAt}
-use Rattle.htl_analyst.proofs.Lists.{all-drop, all-take, map-drop, length-take-le}
+use Rattle.htl_analyst.proofs.Lists.{all-drop, all-take, length-take-le}
 use Rattle.htl_analyst.proofs.Held.{number}
 use Rattle.htl_analyst.proofs.Runs.{IsRunFrom, events_of-run, run_taken, run_has}
 use Rattle.htl_analyst.proofs.Fresh.{run_events-0}
@@ -101,7 +102,7 @@ module _ (a : State) (p : ℕ) (is : IsState a) (lt : p < a.processors) (folded 
   pub settled_part : IsWithin (4096 * reach_of q) folded → IsPart a.trace_id a.processors p (settled q) (part (drop k hs) folded)
   settled_part bounded = record {
     proper = IsProper-settled q was.proper;
-    numbers = map-drop number k hs ∙ ap (drop k) was.numbers ∙ settled-drop q was.proper;
+    numbers = sym (drop-map number k hs) ∙ ap (drop k) was.numbers ∙ settled-drop q was.proper;
     owned = all-drop (IsOwned a.trace_id a.processors p) k hs was.owned;
     bounded = bounded;
   }

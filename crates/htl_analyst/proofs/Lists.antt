@@ -38,12 +38,6 @@ all-drop P k xs all = each_member P (drop k xs) (λ x h. at_member P xs x all (C
 pub all-take : {X : Type 0} (P : X → Type 0) (k : ℕ) (xs : List X) → AllByRecursion P xs → AllByRecursion P (take k xs)
 all-take P k xs all = each_member P (take k xs) (λ x h. at_member P xs x all (Contains-take k xs x h))
 
--- the image of a last part is a last part of the image
-pub map-drop : {X Y : Type 0} (f : X → Y) (k : ℕ) (xs : List X) → map f (drop k xs) ≡ drop k (map f xs)
-map-drop f zero xs = refl
-map-drop f (suc k) [] = refl
-map-drop f (suc k) (x ∷ xs) = map-drop f k xs
-
 -- a first part is no longer than the whole
 pub length-take-le : {X : Type 0} (k : ℕ) (xs : List X) → length (take k xs) ≤ length xs
 length-take-le zero xs = omega arith

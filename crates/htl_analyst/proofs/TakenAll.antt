@@ -1,9 +1,9 @@
 -- After each step a state has taken exactly the segments that reached it, and it answers about their events alone.
-use Rattle.std.proofs.Common.{◌≡◌, ℕ, Bool, true, List, [], ◌∷◌, ◌++◌, refl, sym, ap, ◌∙◌, subst, inl, inr, ◌⊎◌}
+use Rattle.std.proofs.Common.{◌≡◌, ℕ, Bool, true, List, [], ◌∷◌, ◌++◌, refl, sym, ap, ◌∙◌, inl, inr, ◌⊎◌}
 use Rattle.std.specs.Prelude.{Contains, ◌↔◌, filter}
-use Rattle.std.specs.List.{AllByRecursion}
 use Rattle.std.proofs.lemmas.List.Elements.{Contains-append_cases, Contains-append_left, Contains-append_right}
 use Rattle.htl_event.proofs.Members.{Contains-here, Contains-there, Contains-cases, Contains-nil, at_member, each_member, filter-pass}
+use Rattle.htl_event.proofs.Members.{all_left, all_right, all_append}
 use Rattle.htl_segment.specs.Content.{Content}
 use Rattle.htl_segment.specs.Traces.{Trace, key_is_in, all_events}
 use Rattle.htl_analyst.specs.States.{State}
@@ -52,28 +52,6 @@ key_more segments s p n = (
   ]),
 )
 
--- the segments before the last have what all have
-all_before : (P : Content → Type 0) (segments : List Content) (s : Content) → AllByRecursion P (segments ++ s ∷ [])
-    → AllByRecursion P segments
-all_before P segments s all =
-    each_member P segments (λ t h. at_member P (segments ++ s ∷ []) t all (Contains-append_left segments (s ∷ []) t h))
-
--- the last has it too
-last_of_all : (P : Content → Type 0) (segments : List Content) (s : Content) → AllByRecursion P (segments ++ s ∷ []) → P s
-last_of_all P segments s all =
-    at_member P (segments ++ s ∷ []) s all (Contains-append_right segments (s ∷ []) s (Contains-here s []))
-
-all_more : (P : Content → Type 0) (segments : List Content) (s : Content) → AllByRecursion P segments → P s
-    → AllByRecursion P (segments ++ s ∷ [])
-all_more P segments s all here =
-    each_member P (segments ++ s ∷ []) (λ t h. elim (Contains-append_cases segments (s ∷ []) t h) [
-      | inl before ↦ at_member P segments t all before
-      | inr last ↦ elim (Contains-cases s [] t last) [
-        | inl same ↦ subst P same here
-        | inr none ↦ absurd (Contains-nil t none)
-      ]
-    ])
-
 abbrev AreIdsOf : State → Content → Type 0
 AreIdsOf a s = (s.trace_id ≡ a.trace_id) × (s.processors ≡ a.processors)
 
@@ -87,10 +65,10 @@ take_has_taken_one_more segments s took a b old is accepted more right =
     let id : b.trace_id ≡ a.trace_id = ap (λ (x : State). x.trace_id) is ∙ same.0 in
     let count : b.processors ≡ a.processors = ap (λ (x : State). x.processors) is ∙ same.1 in
     record {
-      ids = all_more (AreIdsOf b) segments s
+      ids = all_append (AreIdsOf b) segments (s ∷ [])
           (each_member (AreIdsOf b) segments
           (λ t h. (let e = at_member (AreIdsOf a) segments t old.ids h in (e.0 ∙ sym id, e.1 ∙ sym count))))
-          (accepted.of_state.trace_id ∙ sym id, accepted.of_state.processors ∙ sym count);
+          ((accepted.of_state.trace_id ∙ sym id, accepted.of_state.processors ∙ sym count), tt);
       keys = λ p n.
           let now = more p n in
           let was = old.keys p n in
@@ -100,8 +78,8 @@ take_has_taken_one_more segments s took a b old is accepted more right =
           );
       right = λ T collection same_id same_count of.
           right T
-          (old.right T collection (same_id ∙ id) (same_count ∙ count) (all_before (Contains T.segments) segments s of))
-          (last_of_all (Contains T.segments) segments s of);
+          (old.right T collection (same_id ∙ id) (same_count ∙ count) (all_left (Contains T.segments) segments (s ∷ []) of))
+          ((all_right (Contains T.segments) segments (s ∷ []) of).0);
     }
 
 -- a compaction takes nothing and loses nothing, whether it is Ok or Err

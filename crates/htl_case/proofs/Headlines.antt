@@ -1,9 +1,9 @@
 -- The headline holds of the states that histories leave.
-use Rattle.std.proofs.Common.{◌≡◌, ℕ, ◌<◌, Bool, true, false, List, [], ◌∷◌, length, Some, refl, sym, ap, ◌∙◌, subst, inl, inr, arith}
+use Rattle.std.proofs.Common.{◌≡◌, ℕ, ◌<◌, Bool, List, [], ◌∷◌, length, Some, refl, sym, ap, ◌∙◌, subst, inl, inr, arith}
 use Rattle.std.proofs.Math.Path.{fun_ext}
 use Rattle.std.specs.Prelude.{◌||◌, slice_get, fold}
 use Rattle.std.specs.List.{AllByRecursion}
-use Rattle.std.proofs.lemmas.Bool.{cases_Bool}
+use Rattle.std.proofs.lemmas.Bool.{cases_Bool, both_ways}
 use Rattle.std.proofs.lemmas.Option.{slice_get_cases}
 use Rattle.htl_segment.specs.Content.{Content}
 use Rattle.htl_segment.specs.Traces.{Trace}
@@ -75,9 +75,6 @@ the_headline = record {
 
 -- ---- any segments can be taken
 
-not_both : (b : Bool) → b ≡ true → b ≡ false → ⊥
-not_both b t f = let e : true ≡ false = sym t ∙ f in cc
-
 not_new : Repeat ≡ New → ⊥
 not_new e = cc
 
@@ -111,7 +108,7 @@ taken_there T place old segment here =
           here = here;
           took = New;
           is_new =
-              (λ e has. not_both (keys old segment.processor segment.number) (taken_keys old segment.processor segment.number has) f, λ fresh. refl);
+              (λ e has. both_ways (keys old segment.processor segment.number) f (taken_keys old segment.processor segment.number has), λ fresh. refl);
           state = refl;
         },
       )

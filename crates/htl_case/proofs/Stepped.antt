@@ -1,10 +1,10 @@
 -- After one step each analyst's history goes on, and its keys are those that reached it.
-use Rattle.std.proofs.Common.{◌≡◌, ◌≢◌, ℕ, ◌<◌, Bool, true, false, ◌&&◌, List, length}
+use Rattle.std.proofs.Common.{◌≡◌, ◌≢◌, ℕ, ◌<◌, Bool, false, ◌&&◌, List, length}
 use Rattle.std.proofs.Common.{Option, Some, refl, sym, ap, ◌∙◌, subst, inl, inr, arith}
 use Rattle.std.specs.Prelude.{Contains, ◌↔◌, ◌||◌, ◌==◌, slice_get, slice_set}
 use Rattle.std.specs.Option.{option_map_or}
 use Rattle.std.proofs.Math.Bool.{or-false}
-use Rattle.std.proofs.lemmas.Bool.{cases_Bool, cases_eq, eq-eqb, ne_eqb}
+use Rattle.std.proofs.lemmas.Bool.{both_ways, cases_Bool, cases_eq, eq-eqb, ne_eqb}
 use Rattle.std.proofs.lemmas.List.{get_or-set_same, get_or-set_other, length-set}
 use Rattle.std.proofs.lemmas.Option.{slice_get_within, get_or_from_slice_get, slice_get-get_or}
 use Rattle.htl_segment.specs.Content.{Content}
@@ -73,11 +73,9 @@ module _ (T : Trace) (old : State) (s : Content) (right : IsRight old T) (in_tra
         | inl t ↦ keys_taken old s.processor s.number t
         | inr f ↦
             let absent : HasTaken old s.processor s.number → ⊥ =
-            λ h. not_both (keys old s.processor s.number) (taken_keys old s.processor s.number h) f in
+            λ h. both_ways (keys old s.processor s.number) f (taken_keys old s.processor s.number h) in
             let never = fresh.1 absent in cc
-      ] where
-        not_both : (b : Bool) → b ≡ true → b ≡ false → ⊥
-        not_both b t f = let e : true ≡ false = sym t ∙ f in cc
+      ]
 
   took_keys : (took : Took) → ((took ≡ New) ↔ (HasTaken old s.processor s.number → ⊥)) → (p n : ℕ)
       → keys (taken_as took old s) p n ≡ (keys old p n || ((p == s.processor) && (n == s.number)))

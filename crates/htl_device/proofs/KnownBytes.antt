@@ -1,18 +1,9 @@
 -- What two writes add to known bytes, one after the other, is the texts of both.
-use Rattle.std.proofs.Common.{◌≡◌, ◌+◌, ℕ, List, ◌++◌, length, take, drop, sym, append_assoc, Option, Some, None, arith}
+use Rattle.std.proofs.Common.{◌+◌, ℕ, List, ◌++◌, length, take, drop, take-add, append_assoc, Option, Some, None}
 use Rattle.std.specs.Io.KnownBytes.{Appends}
 use Rattle.std.proofs.KnownBytes.{Appends-trans}
 use Rattle.std.proofs.Math.Seq.{take-append-add}
-use Rattle.std.proofs.lemmas.List.{drop-take, take-append-drop}
 use Rattle.htl_device.specs.Devices.{AppendsPrefix}
-use Rattle.std.proofs.lemmas.Grind.{common_steps}
-
-take-add : (i n : ℕ) (text : List ℕ) → take (i + n) text ≡ take i text ++ take n (drop i text)
-take-add i n text =
-    rw (← drop-take i n text, ← take-of-take i n text) (sym (take-append-drop i (take (i + n) text)))
-  where
-    take-of-take : (i n : ℕ) (text : List ℕ) → take i (take (i + n) text) ≡ take i text
-    take-of-take i n text = grind (arith, common_steps)
 
 -- two parts of a text, one after the other
 pub appends-more : (old mid new : Option (List ℕ)) (text : List ℕ) (i n : ℕ) → Appends old mid (take i text)

@@ -5,7 +5,7 @@ use Rattle.htl_event.specs.Members.{IsRising, Lists, IsStrictOrder}
 pub use Rattle.htl_lemmas.proofs.Members.{Contains-here, Contains-there, Contains-nil, Contains-cases, Contains-cons, some_member}
 pub use Rattle.htl_lemmas.proofs.Members.{at_member, each_member, AllByRecursion-weaker, filter-pass, filter-skip}
 pub use Rattle.htl_lemmas.proofs.Members.{Contains-filter, Contains-from_filter, Contains-map, Contains-from_map}
-pub use Rattle.htl_lemmas.proofs.Members.{Contains-flat_map, Contains-from_flat_map}
+pub use Rattle.htl_lemmas.proofs.Members.{Contains-flat_map, Contains-from_flat_map, all_left, all_right, all_append}
 
 module _ {X : Type 0} (before : X → X → Type 0) (strict : IsStrictOrder before) where
   asymmetric : (x y : X) → before x y → before y x → ⊥

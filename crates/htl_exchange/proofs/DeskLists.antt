@@ -1,10 +1,12 @@
 -- Lists of desks have the parts, the pushes and the runs of their desks, wherever a desk stands in them.
 use Rattle.std.proofs.Common.{◌≡◌, ℕ, zero, suc, ◌+◌, ◌≤◌, ◌<◌, ◌||◌, List, [], ◌∷◌, ◌++◌, take, length, get_or, add-one, sym, ap, ◌∙◌, arith, inl, inr}
+use mathlib.Core.Bool.{or-false, or_assoc}
+use Rattle.std.proofs.lemmas.Bool.{or_cases, or_left, or_right}
 use Rattle.htl_exchange.specs.declared.pass.Known.{Known}
 use Rattle.htl_exchange.specs.Runs.{has}
 use Rattle.htl_exchange.specs.Moves.{joined}
 use Rattle.htl_exchange.specs.Desks.{ExchangeValue, DeskValue, IsDeskOf, AreDesksOf, IsFresh, AreFresh, parts_at, pushes_at, any_desk_got, KeepAll}
-use Rattle.htl_exchange.proofs.Sets.{or_false, or_assoc, or_cases, or_left, or_right, has-union}
+use Rattle.htl_exchange.proofs.Sets.{has-union}
 
 -- with a desk put last, the desks have its parts more
 pub parts_at-last : (ds : List DeskValue) (d : DeskValue) → parts_at (ds ++ d ∷ []) ≡ parts_at ds + d.known.parts
@@ -56,7 +58,7 @@ fresh-add (x ∷ ds) d a b = (a.0, fresh-add ds d a.1 b)
 -- ---- what desks have got
 
 pub got-last : (p : ℕ) (ds : List DeskValue) (d : DeskValue) → any_desk_got p (ds ++ d ∷ []) ≡ (any_desk_got p ds || has d.known.got p)
-got-last p [] d = or_false (has d.known.got p)
+got-last p [] d = or-false (has d.known.got p)
 got-last p (x ∷ ds) d = ap (λ b. has x.known.got p || b) (got-last p ds d) ∙ sym (or_assoc (has x.known.got p) (any_desk_got p ds) (has d.known.got p))
 
 -- the last desk may as well stand first

@@ -8,6 +8,7 @@ use Rattle.std.proofs.Math.Dec.{leb-zero}
 use Rattle.std.proofs.lemmas.Bool.Decides.{eqb_tells, nat_tests}
 use Rattle.std.proofs.lemmas.List.Sums.{sum_by-cons}
 use Rattle.std.proofs.lemmas.List.Sorted.{Contains-permutation, IsPermutation-sym}
+use mathlib.Core.Bool.{and-true}
 use Rattle.crossbeam_queue.specs.Fifo.{Pushes, Held}
 use Rattle.htl_event.proofs.Members.{at_member, Contains-filter, Contains-from_filter, Contains-nil, some_member}
 use Rattle.htl_segment.specs.Content.{Content, Fits}
@@ -20,7 +21,7 @@ use Rattle.htl_exchange.specs.Parcels.{trace_of, runs_in, HasSegment, IsParcelOf
 use Rattle.htl_exchange.specs.Rule.{blank, MakesUp}
 use Rattle.htl_exchange.specs.Moves.{left_of, Filled, CountsPushes}
 use Rattle.htl_exchange.specs.Filling.{FillsTo, IsIdle, runs_below}
-use Rattle.htl_exchange.proofs.Sets.{has-union, has-one, has-without, one-same, one-only, one_run, run_of_member, member_of_run, and_true}
+use Rattle.htl_exchange.proofs.Sets.{has-union, has-one, has-without, one-same, one-only, one_run, run_of_member, member_of_run}
 use Rattle.htl_exchange.proofs.Keeping.{fills, left_of-known}
 
 -- ---- a run as a parcel
@@ -82,7 +83,7 @@ next b p q = ⊎_elim
     (ap (λ t. (b p && leb p p) && not t) (one-same p) ∙ and_right (b p && leb p p) false refl
     ∙ sym (and_right (b p) false refl) ∙ ap (λ t. b p && t) (sym (next_same p))))
     (λ (x : (eqb p q ≡ false) × (p ≢ q)). ap (λ t. (b q && leb p q) && not t) (one-other p q x.1)
-    ∙ and_true (b q && leb p q) ∙ ap (λ t. b q && t) (next_other p q x.1))
+    ∙ and-true (b q && leb p q) ∙ ap (λ t. b q && t) (next_other p q x.1))
     (eqb_tells p q)
 
 -- a processor without a run
@@ -167,7 +168,7 @@ nothing_put T v is = subst (FillsTo T 0) (sym is)
       log = refl;
       trace = inl refl;
       pushes = refl;
-      left = λ q. sym (and_true (has (runs_of T.segments) q)) ∙ ap (λ t. has (runs_of T.segments) q && t) (sym (leb-zero q));
+      left = λ q. sym (and-true (has (runs_of T.segments) q)) ∙ ap (λ t. has (runs_of T.segments) q && t) (sym (leb-zero q));
     })
 
 -- where a processor's run is empty, filling goes on with the next processor

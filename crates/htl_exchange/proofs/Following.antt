@@ -2,6 +2,8 @@
 use Rattle.std.proofs.Common.{◌≡◌, ◌≢◌, ◌⊎◌, ℕ, ◌<◌, true, false, true≢false, Bool, List, []}
 use Rattle.std.proofs.Common.{Some, None, Option, Result, Ok, Err, sym, refl, ap, ◌∙◌, subst, inl, inr, arith}
 use Rattle.std.specs.Prelude.{◌↔◌}
+use Rattle.std.proofs.lemmas.Bool.{or_cases, or_left, or_right}
+use Rattle.std.specs.Cmp.{both_ways}
 use Rattle.crossbeam_queue.specs.Fifo.{Pushes}
 use Rattle.htl_event.specs.declared.memory.NoMemory.{NoMemory}
 use Rattle.htl_segment.specs.Traces.{Trace, HasKey}
@@ -19,7 +21,7 @@ use Rattle.htl_exchange.specs.Desks.{HandIsOf, HasGot, Follows, KeepsGot, IsWhol
 use Rattle.htl_exchange.specs.declared.desk.Collected.{Collected}
 use Rattle.htl_exchange.specs.declared.desk.Collected.TheVariants as collected
 use Rattle.htl_exchange.specs.Collects.{CollectsAs, HasRest}
-use Rattle.htl_exchange.proofs.Sets.{or_cases, or_left, or_right, same_truth, has-union, run_of_member, member_of_run, taken_of_run, run_of_taken}
+use Rattle.htl_exchange.proofs.Sets.{has-union, run_of_member, member_of_run, taken_of_run, run_of_taken}
 use Rattle.htl_exchange.proofs.Keeping.{pushes}
 
 -- ---- runs and keys
@@ -135,7 +137,7 @@ gets v a x was parcel = record {
 
 -- the desk's state is a parcel, whose runs are those that the pass has got
 own_runs : (v : Known) (a : State) → Follows v a None → (p : ℕ) → has (runs_taken a) p ≡ has v.got p
-own_runs v a was p = same_truth (has (runs_taken a) p) (has v.got p)
+own_runs v a was p = both_ways (has (runs_taken a) p) (has v.got p)
     (λ h. let t = taken_of_run a p h in ((was.keys p t.0).0 (inl t.1)).0)
     (λ h. let k = key_of_run v.trace p (was.runs p h) in run_of_taken a p k.0 (taken_only a p k.0 ((was.keys p k.0).1 (h, k.1))))
 

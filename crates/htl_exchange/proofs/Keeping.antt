@@ -3,6 +3,8 @@ use Rattle.std.proofs.Common.{◌≡◌, ◌≢◌, ◌⊎◌, ℕ, zero, suc, �
 use Rattle.std.proofs.Common.{Bool, true, false, true≢false, not, ◌&&◌, ◌||◌, List, [], ◌∷◌, ◌++◌, set, length}
 use Rattle.std.proofs.Common.{sym, refl, ap, ◌∙◌, subst, ⊎_elim, arith}
 use Rattle.std.proofs.lemmas.List.{length-append}
+use mathlib.Core.Bool.{or-false}
+use Rattle.std.proofs.lemmas.Bool.{or_parts}
 use mathlib.Core.Option.{some, some-injective, some-ne-none}
 use lib.ListN.{get_elem?}
 use Rattle.crossbeam_queue.specs.Fifo.{Pushes, Pops, Forks, Merges, Learns}
@@ -15,7 +17,7 @@ use Rattle.htl_exchange.specs.Runs.{has, without, runs_of}
 use Rattle.htl_exchange.specs.Parcels.{named, no_trace, trace_of, runs_in, IsParcelOf}
 use Rattle.htl_exchange.specs.Rule.{blank, parts_of, pushes_of, any_got, any_in, IsPassAbout, MakesUp}
 use Rattle.htl_exchange.specs.Moves.{left_of, Filled, pushed, Pushed, popped, Popped, split, part, joined, spent, KnowsRest, CountsPushes}
-use Rattle.htl_exchange.proofs.Sets.{or_false, has-union, has-without}
+use Rattle.htl_exchange.proofs.Sets.{has-union, has-without}
 use Rattle.htl_exchange.proofs.Passes.{others, any_got-set, any_got-at, any_got-last, any_in-last, any_got-join, others-none}
 use Rattle.htl_exchange.proofs.Passes.{total-set, total-last, total-alone, parts-two}
 
@@ -161,7 +163,7 @@ learns_rest i v items views h at whole p =
     let same : v.trace ≡ T = (h.about i v at).trace (omega (arith, whole)) in
     let alone : others p views i ≡ false = others-none p views i v at (omega (arith, all, whole)) (λ k u e z. (h.about k u e).spent z p) in
     ap (λ b. any_in p items || b)
-    (sym (or_false (has v.got p)) ∙ ap (λ b. has v.got p || b) (sym alone) ∙ sym (any_got-at p views i v at))
+    (sym (or-false (has v.got p)) ∙ ap (λ b. has v.got p || b) (sym alone) ∙ sym (any_got-at p views i v at))
     ∙ h.runs p ∙ ap (λ (t : Trace). has (runs_of t.segments) p) (sym same)
 
 -- and counts every push
@@ -197,7 +199,7 @@ splits i v has_two items views h at =
       about = about-last T vs (part v) (about-set T views i (split v) (has_part T (split v) left same) (λ k u _ e. h.about k u e))
           (has_part T (part v) (omega arith) same);
       runs = λ p. ap (λ b. any_in p items || b)
-          (any_got-last p vs (part v) ∙ or_false (any_got p vs) ∙ any_got-set p views i v (split v) at ∙ sym (any_got-at p views i v at)) ∙ h.runs p;
+          (any_got-last p vs (part v) ∙ or-false (any_got p vs) ∙ any_got-set p views i v (split v) at ∙ sym (any_got-at p views i v at)) ∙ h.runs p;
       few = omega (arith, few, count, last);
       begins = h.begins;
     }
@@ -242,10 +244,6 @@ fill_truth false false false r h = refl
 pub left_of-known : (T : Trace) (was : List Content) (got : List Bool) → was ≢ [] → left_of T was got ≡ got
 left_of-known T [] got n = absurd (n refl)
 left_of-known T (s ∷ was) got n = refl
-
-or_none : (a b : Bool) → (a || b) ≡ false → a ≡ false
-or_none true b h = absurd (true≢false h)
-or_none false b h = refl
 
 -- a filling push of a parcel whose runs are left, by the pass with every part, keeps the rule
 pub fills : (n i : ℕ) (v : Known) (x : Parcel) → v.parts ≡ 8 → (trace_of x).segments ≢ []
@@ -308,7 +306,8 @@ fills n i v x every some_segment blank_or_known parcel inside items views _ h at
     before p = ⊎_elim
         (λ (new : v.trace.segments ≡ []).
         let nothing : (any_in p items || any_got p views) ≡ false = h.runs p ∙ ap (λ l. has (runs_of l) p) (no_segment new) in
-        (λ k. or_none (any_in p items) (any_got p views) nothing k || (has (left_of N (new k) v.got) p || alone p k)) ∙ or_false (has (runs_of N.segments) p))
+        (λ k. (or_parts (any_in p items) (any_got p views) nothing).0 k || (has (left_of N (new k) v.got) p || alone p k))
+        ∙ or-false (has (runs_of N.segments) p))
         (λ (old : v.trace ≡ N).
         ap (λ (l : List Bool). any_in p items || (has l p || others p views i))
         (left_of-known N v.trace.segments v.got (λ z. some_segment (ap (λ (t : Trace). t.segments) (sym old) ∙ z)))

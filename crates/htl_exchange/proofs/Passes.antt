@@ -1,5 +1,7 @@
 -- One pass, and one parcel, add their runs, parts and pushes to what all have.
 use Rattle.std.proofs.Common.{◌≡◌, ◌≢◌, ℕ, zero, suc, ◌+◌, ◌≤◌, Bool, false, ◌||◌, List, [], ◌∷◌, ◌++◌, set, sym, refl, ap, ◌∙◌, arith}
+use mathlib.Core.Bool.{or-false, or_assoc}
+use Rattle.htl_lemmas.proofs.Tests.{or_swap}
 use mathlib.Core.Option.{some, some-injective, some-ne-none}
 use lib.ListN.{get_elem?}
 use Rattle.htl_exchange.specs.declared.pass.Known.{Known}
@@ -7,7 +9,6 @@ use Rattle.htl_exchange.specs.declared.parcel.Parcel.{Parcel}
 use Rattle.htl_exchange.specs.Runs.{has}
 use Rattle.htl_exchange.specs.Parcels.{runs_in}
 use Rattle.htl_exchange.specs.Rule.{total, parts_of, any_got, any_in}
-use Rattle.htl_exchange.proofs.Sets.{or_false, or_assoc, or_swap}
 
 -- what the passes but one have got
 abbrev pub others : ℕ → List Known → ℕ → Bool
@@ -29,12 +30,12 @@ any_got-at p (u ∷ vs) (suc i) v e = ap (λ b. has u.got p || b) (any_got-at p 
 
 -- with a pass put last, a run is got by those before or by this one
 pub any_got-last : (p : ℕ) (vs : List Known) (u : Known) → any_got p (vs ++ u ∷ []) ≡ (any_got p vs || has u.got p)
-any_got-last p [] u = or_false (has u.got p)
+any_got-last p [] u = or-false (has u.got p)
 any_got-last p (v ∷ vs) u = ap (λ b. has v.got p || b) (any_got-last p vs u) ∙ sym (or_assoc (has v.got p) (any_got p vs) (has u.got p))
 
 -- with a parcel put last, a run is in those before or in this one
 pub any_in-last : (p : ℕ) (xs : List Parcel) (x : Parcel) → any_in p (xs ++ x ∷ []) ≡ (any_in p xs || has (runs_in x) p)
-any_in-last p [] x = or_false (has (runs_in x) p)
+any_in-last p [] x = or-false (has (runs_in x) p)
 any_in-last p (y ∷ xs) x = ap (λ b. has (runs_in y) p || b) (any_in-last p xs x) ∙ sym (or_assoc (has (runs_in y) p) (any_in p xs) (has (runs_in x) p))
 
 -- where one pass is exchanged, the total loses the old one's number and gains the new one's

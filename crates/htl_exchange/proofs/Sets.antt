@@ -1,9 +1,10 @@
 -- Sets of runs are truth values, one for each processor, and segments and states have such sets.
-use Rattle.std.proofs.Common.{◌≡◌, ◌≢◌, ◌⊎◌, ℕ, zero, suc, ◌<◌, Bool, true, false, true≢false, not, ◌&&◌, ◌||◌, nat_lt, eqb}
+use Rattle.std.proofs.Common.{◌≡◌, ◌≢◌, ℕ, zero, suc, ◌<◌, Bool, true, false, true≢false, not, ◌&&◌, ◌||◌, nat_lt, eqb}
 use Rattle.std.proofs.Common.{List, [], ◌∷◌, map, sym, refl, ap, ◌∙◌, subst, inl, inr, arith}
 use Rattle.std.specs.Prelude.{Contains}
-use Rattle.std.proofs.lemmas.Bool.{eqb-true, eq-eqb}
+use Rattle.std.proofs.lemmas.Bool.{eqb-true, eq-eqb, or_cases, or_left, or_right}
 use Rattle.std.proofs.lemmas.Bool.Decides.{nat_tests}
+use mathlib.Core.Bool.{or-false, and-true}
 use lib.Dec.{eqb-zero-suc, eqb-suc-zero, eqb-suc-suc}
 use Rattle.htl_event.proofs.Members.{Contains-here, Contains-there, Contains-nil, Contains-cases}
 use Rattle.htl_segment.specs.Content.{Content}
@@ -12,62 +13,19 @@ use Rattle.htl_analyst.specs.States.{State}
 use Rattle.htl_analyst.specs.Keys.{HasTaken}
 use Rattle.htl_exchange.specs.Runs.{has, union, without, one, runs_of, some_number, runs_taken}
 
--- ---- truth values
-
--- a truth value or false is the truth value
-pub or_false : (b : Bool) → (b || false) ≡ b
-or_false true = refl
-or_false false = refl
-
--- three truth values can be put together by `or` in either grouping
-pub or_assoc : (a b c : Bool) → ((a || b) || c) ≡ (a || (b || c))
-or_assoc true b c = refl
-or_assoc false b c = refl
-
--- of three truth values put together by `or`, the first two may change places
-pub or_swap : (a b c : Bool) → (a || (b || c)) ≡ (b || (a || c))
-or_swap true true c = refl
-or_swap true false c = refl
-or_swap false b c = refl
-
--- where one or the other is true, the first is or the second is
-pub or_cases : (a b : Bool) → (a || b) ≡ true → (a ≡ true) ⊎ (b ≡ true)
-or_cases true b h = inl refl
-or_cases false b h = inr h
-
--- where the first is true, one or the other is
-pub or_left : (a b : Bool) → a ≡ true → (a || b) ≡ true
-or_left a b h = ap (λ x. x || b) h
-
--- where the second is true, one or the other is
-pub or_right : (a b : Bool) → b ≡ true → (a || b) ≡ true
-or_right true b h = refl
-or_right false b h = h
-
--- truth values that say the same are equal
-pub same_truth : (a b : Bool) → (a ≡ true → b ≡ true) → (b ≡ true → a ≡ true) → a ≡ b
-same_truth true b f g = sym (f refl)
-same_truth false true f g = g refl
-same_truth false false f g = refl
-
 -- ---- sets
 
 -- a run is in a union where it is in either set
 pub has-union : (xs ys : List Bool) (p : ℕ) → has (union xs ys) p ≡ (has xs p || has ys p)
 has-union [] ys p = refl
-has-union (x ∷ xs) [] p = sym (or_false (has (x ∷ xs) p))
+has-union (x ∷ xs) [] p = sym (or-false (has (x ∷ xs) p))
 has-union (x ∷ xs) (y ∷ ys) zero = refl
 has-union (x ∷ xs) (y ∷ ys) (suc p) = has-union xs ys p
-
--- a truth value and true is the truth value
-pub and_true : (b : Bool) → (b && true) ≡ b
-and_true true = refl
-and_true false = refl
 
 -- a run is in a set without another where it is in the first and not in the second
 pub has-without : (xs ys : List Bool) (p : ℕ) → has (without xs ys) p ≡ (has xs p && not (has ys p))
 has-without [] ys p = refl
-has-without (x ∷ xs) [] p = sym (and_true (has (x ∷ xs) p))
+has-without (x ∷ xs) [] p = sym (and-true (has (x ∷ xs) p))
 has-without (x ∷ xs) (y ∷ ys) zero = refl
 has-without (x ∷ xs) (y ∷ ys) (suc p) = has-without xs ys p
 

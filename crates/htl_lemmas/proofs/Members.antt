@@ -1,10 +1,10 @@
--- The members of a list with a new head, of a filtered, a mapped or a flattened list follow from those of the list.
-use Rattle.std.proofs.Common.{◌≡◌, zero, suc, Bool, true, false, List, [], ◌∷◌, refl, sym, ap, ◌∙◌, subst, arith, inl, inr, ◌⊎◌}
+-- The members of a list with a new head or end, of a filtered, a mapped or a flattened list follow from those of the list.
+use Rattle.std.proofs.Common.{◌≡◌, zero, suc, Bool, true, false, List, [], ◌∷◌, ◌++◌, refl, sym, ap, ◌∙◌, subst, arith, inl, inr, ◌⊎◌}
 use Rattle.std.specs.Prelude.{Contains, filter, map, ◌≢◌}
 use Rattle.std.specs.List.{AllByRecursion, flat_map}
 use Rattle.std.proofs.lemmas.Bool.{cases_Bool}
 use Rattle.std.proofs.lemmas.List.Elements.{Contains-append_cases, Contains-append_right, Contains-append_left}
-use Rattle.std.proofs.lemmas.List.Elements.{All-from_recursion, All-contains}
+use Rattle.std.proofs.lemmas.List.Elements.{All-from_recursion, All-contains, Contains-push}
 
 -- a list contains its head
 pub Contains-here : {X : Type 0} (x : X) (xs : List X) → Contains (x ∷ xs) x
@@ -42,6 +42,31 @@ pub AllByRecursion-weaker : {X : Type 0} (P Q : X → Type 0) (xs : List X) → 
     → AllByRecursion Q xs
 AllByRecursion-weaker P Q [] f all = tt
 AllByRecursion-weaker P Q (x ∷ xs) f all = (f x all.0, AllByRecursion-weaker P Q xs f all.1)
+
+-- ---- two lists together
+
+-- what holds of each element of two lists together holds of each of the first
+pub all_left : {X : Type 0} (P : X → Type 0) (xs ys : List X) → AllByRecursion P (xs ++ ys) → AllByRecursion P xs
+all_left P [] ys h = tt
+all_left P (x ∷ xs) ys h = (h.0, all_left P xs ys h.1)
+
+-- what holds of each element of two lists together holds of each of the second
+pub all_right : {X : Type 0} (P : X → Type 0) (xs ys : List X) → AllByRecursion P (xs ++ ys) → AllByRecursion P ys
+all_right P [] ys h = h
+all_right P (x ∷ xs) ys h = all_right P xs ys h.1
+
+-- what holds of each element of two lists holds of each of both together
+pub all_append : {X : Type 0} (P : X → Type 0) (xs ys : List X) → AllByRecursion P xs → AllByRecursion P ys → AllByRecursion P (xs ++ ys)
+all_append P [] ys g h = h
+all_append P (x ∷ xs) ys g h = (g.0, all_append P xs ys g.1 h)
+
+-- a list with a last element contains it
+pub last_member : {X : Type 0} (old new : List X) (x : X) → old ≡ new ++ x ∷ [] → Contains old x
+last_member old new x is = subst (λ l. Contains l x) (sym is) (Contains-push new x)
+
+-- what the list without its last element contains, the list contains
+pub front_member : {X : Type 0} (old new : List X) (x y : X) → old ≡ new ++ x ∷ [] → Contains new y → Contains old y
+front_member old new x y is h = subst (λ l. Contains l y) (sym is) (Contains-append_left new (x ∷ []) y h)
 
 -- ---- filter, map and flat_map
 

@@ -1,5 +1,6 @@
 -- Two tests are true together where each is, and a comparison that passed a test gave the answer that the test names.
-use Rattle.std.proofs.Common.{◌≡◌, ℕ, ◌<◌, Bool, true, false, ◌&&◌, T, refl, arith}
+use Rattle.std.proofs.Common.{◌≡◌, ℕ, ◌<◌, Bool, true, false, ◌&&◌, ◌||◌, T, refl, arith}
+use Rattle.std.specs.Prelude.{◌↔◌}
 use Rattle.std.specs.Ordering.{is_lt, is_eq, nat_cmp}
 use Rattle.std.proofs.lemmas.Bool.Decides.{nat_tests}
 use Rattle.std.specs.declared.cmp.Ordering.{Ordering}
@@ -19,6 +20,16 @@ both_left false b p = p
 pub both_right : (a b : Bool) → T (a && b) → T b
 both_right true b p = p
 both_right false b p = absurd p
+
+-- of three truth values put together by `or`, the first two may change places
+pub or_swap : (a b c : Bool) → (a || (b || c)) ≡ (b || (a || c))
+or_swap true true c = refl
+or_swap true false c = refl
+or_swap false b c = refl
+
+-- what holds exactly where a second fact does, and that exactly where a third, holds exactly where the third does
+pub through : {A B C : Type 0} → (A ↔ B) → (B ↔ C) → A ↔ C
+through f g = ((λ a. g.0 (f.0 a)), (λ c. f.1 (g.1 c)))
 
 -- a comparison that passes `is_lt` answered Less
 pub less : (o : Ordering) → T (is_lt o) → o ≡ Less

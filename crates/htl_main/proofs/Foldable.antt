@@ -6,6 +6,7 @@ use Rattle.std.specs.Cmp.{tied_itself, nat_cmp_total, Equal-is}
 use Rattle.std.specs.FinMap.{nat_cmp-IsAntisymmetric}
 use Rattle.std.specs.Ordering.{eq_by_cmp, nat_cmp, is_eq}
 use Rattle.std.proofs.lemmas.Bool.{cases_Bool, cases_eq, cases_lt, both_ways, lt-ltb, and_parts, eqb-true}
+use Rattle.std.proofs.lemmas.List.{length_push}
 use Rattle.std.proofs.lemmas.List.Sums.{sum_by-cons}
 use Rattle.htl_event.specs.Events.{Event}
 use Rattle.htl_event.specs.Handles.{later, opens_or_closes}
@@ -271,16 +272,12 @@ one_more old e =
             };
           };
           last = greatest_joined before (e ∷ []) (max old.last_sequence e.sequence) old.last_sequence e.sequence refl is.last (greatest_one e);
-          number = (let was = is.number in let more = length-push before e in omega (arith, was, more));
+          number = (let was = is.number in let more = length_push before e in omega (arith, was, more));
         };
         counts = tree.1.total;
         number = refl;
       },
     )
-  where
-    length-push : (xs : List Event) (x : Event) → length (xs ++ x ∷ []) ≡ length xs + 1
-    length-push [] x = refl
-    length-push (y ∷ ys) x = let rest = length-push ys x in omega (arith, rest)
 
 goes_on : (old : Folded) (events : List Event) → (new : Folded) × GoesOn old events new
 goes_on old [] = (

@@ -1,4 +1,5 @@
 pub mod Places
 pub mod Finds
+pub mod ChangedKeys
 pub mod SideBySide
 pub mod Rows

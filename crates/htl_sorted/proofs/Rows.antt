@@ -1,21 +1,18 @@
 -- Two lists of rows become one in one pass, in which each key has the values of both, joined.
 use Rattle.std.proofs.Common.{◌≡◌, ℕ, ◌+◌, ◌-◌, ◌<◌, ◌≤◌, List, [], ◌∷◌, ◌++◌, length, drop, take}
-use Rattle.std.proofs.Common.{get_or, set, map, Option, Some, None, arith, refl, sym, ◌∙◌, ap, subst, length-drop}
+use Rattle.std.proofs.Common.{get_or, set, map, Option, Some, None, arith, refl, sym, ◌∙◌, ap, subst}
 use Rattle.std.specs.declared.cmp.Ordering.{Ordering}
 use Rattle.std.specs.declared.cmp.Ordering.TheVariants.{Less, Equal, Greater}
 use Rattle.std.specs.Cmp.{IsTotalOrder, tied_itself}
 use Rattle.std.specs.List.{insert}
 use Rattle.std.specs.FinMap.Entries.{find, put}
-use Rattle.std.proofs.lemmas.List.{get_or-map, map_push, map-append, map-set, drop-map, take-map, length-map, take_all, get_or_default}
+use Rattle.std.proofs.lemmas.List.{get_or-map, map_push, map-append, map-set, drop-map, take-map, length-map, get_or_default}
+use Rattle.htl_lemmas.proofs.Lists.{rest_is}
 use Rattle.htl_sorted.specs.Entries.{IsSorted, IsPlace, IsGap, entries, joined_at}
 use Rattle.htl_sorted.specs.Made.{Made}
 use Rattle.htl_sorted.proofs.Places.{place}
 use Rattle.htl_sorted.proofs.SideBySide.{join, pair, MadeAt, find_made, sorted_made, sorted_join}
 use Rattle.htl_sorted.proofs.SideBySide.{find_join, Carries, carry_less, carry_greater, carry_equal, carries_end}
-
--- what is left of a list, as a slice to its end gives it
-pub rest_is : {X : Type 0} (xs : List X) (i : ℕ) → take (length xs - i) (drop i xs) ≡ drop i xs
-rest_is xs i = take_all (length xs - i) (drop i xs) (omega (arith, length-drop i xs))
 
 -- what is left of both lists, put after what is made
 pub rests_behind : {X : Type 0} (made left right one both : List X) (i j : ℕ) → one ≡ made ++ take (length left - i) (drop i left)

@@ -2,6 +2,7 @@
 use Rattle.std.proofs.Common.{◌≡◌, ◌+◌, ◌⊎◌, inl, inr, ℕ, Bool, true, false, List, [], ◌∷◌, length, take, drop, refl, sym, ◌∙◌, ap}
 use Rattle.std.specs.Prelude.{Result, Ok, Err, if◌then◌else◌, nat_lt, position, unwrap_or}
 use Rattle.std.specs.List.{slice_split}
+use Rattle.std.proofs.lemmas.List.{nil_from_length}
 use Rattle.std.specs.Str.Lines.{strip_carriage_return}
 use Rattle.std.proofs.lemmas.List.Recursion.{is_position_or_len}
 use Rattle.htl_text.specs.declared.fault.FormFault.{FormFault}
@@ -61,15 +62,11 @@ pub line_then_rest : (text front back : List ℕ) (len y : ℕ) (ys line : List 
 line_then_rest text front back len y ys line e f b is l =
     rw (l, f, e) (then_rest text y ys (is_cut text) (ap (λ k. drop k text) (sym e) ∙ (sym b ∙ is)))
 
-length_nil : (xs : List ℕ) → length xs ≡ 0 → xs ≡ []
-length_nil [] h = refl
-length_nil (x ∷ xs) h = cc
-
 -- and where none follows
 pub last_line : (text front back : List ℕ) (len : ℕ) (line : List ℕ) → len ≡ line_end text → front ≡ take len text
     → back ≡ drop len text → length back ≡ 0 → line ≡ strip_carriage_return front → StartsWithLine text line back
 last_line text front back len line e f b none l =
-    let empty = length_nil back none in
+    let empty = nil_from_length back none in
     rw (l, f, e, empty) (no_rest text (is_cut text) (ap (λ k. drop k text) (sym e) ∙ (sym b ∙ empty)))
 
 -- the lines that aren't skipped, where a rest follows the first line feed, and where none follows
@@ -96,7 +93,7 @@ kept_line_then_rest text front back len y ys line e f b is l =
 pub kept_last_line : (text front back : List ℕ) (len : ℕ) (line : List ℕ) → len ≡ line_end text → front ≡ take len text
     → back ≡ drop len text → length back ≡ 0 → line ≡ strip_carriage_return front → kept (lines_of_text text) ≡ kept (line ∷ lines_of_text back)
 kept_last_line text front back len line e f b none l =
-    let empty = length_nil back none in
+    let empty = nil_from_length back none in
     rw (l, f, e, empty) (kept_no_rest text (is_cut text) (ap (λ k. drop k text) (sym e) ∙ (sym b ∙ empty)))
 
 -- the lines of events, where a rest follows the first line feed, and where none follows
@@ -154,7 +151,7 @@ pub events_last_line : (text front back : List ℕ) (len : ℕ) (line : List ℕ
     → back ≡ drop len text → length back ≡ 0 → line ≡ strip_carriage_return front → (segment n : ℕ)
     → event_lines segment n (lines_of_text text) ≡ event_lines segment n (line ∷ lines_of_text back)
 events_last_line text front back len line e f b none l =
-    let empty = length_nil back none in
+    let empty = nil_from_length back none in
     rw (l, f, e, empty) (events_no_rest text (is_cut text) (ap (λ k. drop k text) (sym e) ∙ (sym b ∙ empty)))
 
 -- a text with no byte left is read

@@ -1,6 +1,6 @@
 -- The counts of some slots are listed by stack and by slot, and their sums by slot.
 use Rattle.std.proofs.Common.{◌≡◌, ℕ, ◌≤◌, List, [], ◌∷◌}
-use Rattle.std.proofs.Common.{map, Option, Some, None, Result, Ok, Err, IfOk, T, Bool, true}
+use Rattle.std.proofs.Common.{map, Option, Some, None, T, Bool, true}
 use Rattle.std.proofs.Common.{false, ◌&&◌, cond, unwrap_or, refl, sym, ◌∙◌, ap, subst, arith, inl, inr}
 use Rattle.std.specs.Prelude.{Contains}
 use Rattle.std.specs.List.{AllByRecursion}
@@ -18,7 +18,7 @@ use Rattle.htl_event.specs.Tallies.{zero_count, plus_count, total_of, IsPositive
 use Rattle.htl_event.proofs.Members.{Contains-here, Contains-there, Contains-cases, Contains-nil}
 use Rattle.htl_sorted.specs.Entries.{IsSorted, Each}
 use Rattle.htl_lemmas.proofs.Tests.{both_left, both_right, less}
-use Rattle.htl_sorted.proofs.Finds.{find_first, each_found}
+use Rattle.htl_sorted.proofs.Finds.{find_first, each_found, found_behind}
 use Rattle.htl_tree.specs.Trees.{Tree, key_cmp, count_at, count_under, sum_where, total_count}
 use Rattle.htl_tree.specs.Trees.{IsTree, ByStackAndSlot, ListsRowsOf, BySlot, ListsSums}
 use Rattle.htl_tree.specs.declared.slots.Slots.{Slots}
@@ -26,7 +26,6 @@ use Rattle.htl_tree.specs.declared.slots.Slots.TheVariants.{One}
 use Rattle.htl_tree.specs.HasSlot.{has_slot}
 use Rattle.htl_tree.specs.Nodes.{count_in, counts_at, picked, asked_of, counts_in, AreAddedUp}
 use Rattle.htl_tree.proofs.TreesAsLists.{key_total, key_same}
-use Rattle.htl_tree.proofs.ChangedKeys.{found_behind}
 use Rattle.htl_tree.proofs.SlotRows.{listed}
 use Rattle.htl_tree.proofs.Under.{same_slot_Decides, same_slot_tied, sum_where_le_total}
 
@@ -254,8 +253,3 @@ lists_sums t slots sums h = record { rising = sums_rise sums h.sorted; members =
 -- what an index beyond all counts would give
 abbrev pub no_count : Slot × Count
 no_count = (Tagged 0 [], zero_count)
-
--- where a result that is good has P, and P implies Q, it has Q
-pub if_ok : {X E : Type 0} {P Q : X → Type 0} (r : Result X E) → IfOk r P → ((x : X) → P x → Q x) → IfOk r Q
-if_ok (Ok x) h f = f x h
-if_ok (Err e) h f = tt

@@ -13,7 +13,7 @@ use Rattle.htl_event.specs.declared.slot.Count.{Count}
 use Rattle.htl_event.specs.Tallies.{zero_count, plus_count, total_of, IsPositive}
 use Rattle.htl_sorted.specs.Entries.{IsSorted, joined_at}
 use Rattle.htl_sorted.specs.Made.{Made}
-use Rattle.htl_sorted.proofs.Finds.{each_found}
+use Rattle.htl_sorted.proofs.Finds.{each_found, each_from_found}
 use Rattle.htl_sorted.proofs.SideBySide.{join, pair, MadeAt, find_made, sorted_made, sorted_join}
 use Rattle.htl_sorted.proofs.SideBySide.{find_join, Carries, carry_less, carry_greater, carry_equal, carries_end}
 use Rattle.htl_tree.specs.declared.cursor.Cursor.{Cursor}
@@ -23,7 +23,6 @@ use Rattle.htl_event.specs.OrderLaws.{slot_total}
 use Rattle.htl_tree.specs.Nodes.{Position, position_of, filters_at, top, tops, inside, tally, counts, filters, children, height, at_child, AtChild, NormalAt}
 use Rattle.htl_tree.specs.Nodes.{IsNormal, IsNonEmpty, IsKept, IsCopy, IsSum, AppendsCopies, FitsSum}
 use Rattle.htl_tree.proofs.Canonical.{inhabited}
-use Rattle.htl_tree.proofs.ChangedKeys.{each_from_found}
 use Rattle.htl_tree.proofs.CountAdded.{normal_here, normal_child, normal_inside, nonempty_from, kept_before}
 use Rattle.htl_tree.proofs.Children.{appends_more}
 use Rattle.htl_tree.proofs.FiltersOfPositions.{filters_same, filters_sum}

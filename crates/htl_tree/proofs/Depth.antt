@@ -3,12 +3,13 @@ use Rattle.std.proofs.Common.{◌≡◌, ℕ, ◌+◌, ◌<◌, ◌≤◌, List,
 use Rattle.htl_event.specs.declared.slot.Slot.{Slot}
 use Rattle.htl_event.specs.declared.slot.Count.{Count}
 use Rattle.htl_sorted.specs.Entries.{Each}
+use Rattle.htl_lemmas.proofs.Members.{all_left, all_right}
 use Rattle.htl_tree.specs.Nodes.{Position, counts, children, rows, height, heights, below, IsNormal, IsNonEmpty, IsShortFrom}
 use Rattle.htl_tree.proofs.CountAdded.{normal_here}
 use Rattle.htl_tree.proofs.Positions.{ind_position}
 use Rattle.htl_tree.proofs.NodeRows.{rows_here, child_rows, rows_is, children_normal}
 use Rattle.htl_tree.proofs.Children.{height_is}
-use Rattle.htl_tree.proofs.SlotRows.{all_left, all_right, short_here, short_below}
+use Rattle.htl_tree.proofs.SlotRows.{short_here, short_below}
 
 abbrev IsLow : {A : Type 0} → Position A → Type 0
 IsLow n = (depth : ℕ) → IsNormal n → IsNonEmpty n → IsShortFrom depth (rows n) → depth + height n ≤ 65

@@ -7,7 +7,7 @@ use Rattle.std.specs.List.{starts_with, filter_map}
 use Rattle.std.specs.Ordering.{eq_by_cmp, is_eq}
 use Rattle.std.specs.Cmp.{tied_itself, unsigned_Decides, Equal-is}
 use Rattle.std.specs.Cmp.Lexicographic.{pointwise, pointwise_decides}
-use Rattle.std.proofs.lemmas.Bool.Decides.{same_from_decides, Decides-like}
+use Rattle.std.proofs.lemmas.Bool.Decides.{same_from_decides, Decides-like, Decides-and}
 use Rattle.std.proofs.lemmas.List.Sums.{sum_by-cons}
 use Rattle.htl_event.specs.Events.{Event}
 use Rattle.htl_event.specs.declared.slot.Slot.{Slot}
@@ -51,10 +51,6 @@ rows_positive : (events : List Event) → Each IsPositive (event_rows events)
 rows_positive [] = tt
 rows_positive (e ∷ events) = more_positive e.stack (slot_of e) (event_rows events) (rows_positive events)
 
-and_Decides : (a b : Bool) (P Q : Type 0) → Decides a P → Decides b Q → Decides (a && b) (P × Q)
-and_Decides true b P Q f g = (λ e. (f.0 refl, g.0 e), λ h. g.1 h.1)
-and_Decides false b P Q f g = (λ e. let never : false ≡ true = e in absurd (cc), λ h. f.1 h.0)
-
 tie_Decides : (x y : List ℕ × Slot) → Decides (eq_by_cmp key_cmp x y) (x ≡ y)
 tie_Decides x y = (
   λ e. key_same x y ((Equal-is (key_cmp x y)).0 e),
@@ -68,7 +64,7 @@ here_is s t k stack =
     let x : List ℕ × Slot = (k, s) in
     let y : List ℕ × Slot = (stack, t) in
     let both : Decides (same_slot s t && pointwise nat_eq stack k) ((s ≡ t) × (stack ≡ k)) =
-    and_Decides _ _ _ _ (same_slot_Decides s t) (pointwise_decides unsigned_Decides stack k) in
+    Decides-and _ _ (same_slot_Decides s t) (pointwise_decides unsigned_Decides stack k) in
     let into : (s ≡ t) × (stack ≡ k) → x ≡ y = λ h i. (sym h.1 i, h.0 i) in
     let out : x ≡ y → (s ≡ t) × (stack ≡ k) = λ e. (ap (λ (z : List ℕ × Slot). z.1) e, sym (ap (λ (z : List ℕ × Slot). z.0) e)) in
     same_from_decides {P = x ≡ y} _ _ (tie_Decides x y) (Decides-like _ into out both)

@@ -17,10 +17,9 @@ use Rattle.htl_event.specs.declared.slot.Slot.{Slot}
 use Rattle.htl_event.specs.declared.slot.Sign.{Sign}
 use Rattle.htl_event.specs.declared.slot.Count.{Count}
 use Rattle.htl_sorted.specs.Entries.{IsSorted, Each}
-use Rattle.htl_sorted.proofs.Finds.{each_found}
+use Rattle.htl_sorted.proofs.Finds.{each_found, all_from_found}
 use Rattle.htl_tree.specs.Filters.{filter_of, HasFilter, HaveFilters}
 use Rattle.htl_tree.specs.Nodes.{count_in, counted}
-use Rattle.htl_tree.proofs.ChangedKeys.{all_from_found}
 
 -- bits that either number has are in both together
 pub or_left : (a b m : ℕ) → bit_and a m ≡ m → bit_and (bit_or a b) m ≡ m

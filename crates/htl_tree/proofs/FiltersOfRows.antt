@@ -6,13 +6,12 @@ use Rattle.htl_event.specs.declared.slot.Slot.{Slot}
 use Rattle.htl_event.specs.declared.slot.Count.{Count}
 use Rattle.htl_event.specs.Slots.{same_slot}
 use Rattle.htl_event.specs.Tallies.{zero_count, plus_count, IsPositive}
-use Rattle.htl_sorted.proofs.Finds.{each_found}
+use Rattle.htl_sorted.proofs.Finds.{each_found, all_from_found}
 use Rattle.htl_tree.specs.HasSlot.{has_slot}
 use Rattle.htl_tree.specs.Filters.{HasFilter}
 use Rattle.htl_tree.specs.Trees.{Tree, sum_where}
 use Rattle.htl_tree.specs.Nodes.{Position, filters, rows, rows_at, asked_of, counts_in, IsNormal}
 use Rattle.htl_tree.specs.declared.slots.Slots.{Slots}
-use Rattle.htl_tree.proofs.ChangedKeys.{all_from_found}
 use Rattle.htl_tree.proofs.CountAdded.{normal_here}
 use Rattle.htl_tree.proofs.NodeRows.{path_cmp, path_total, rows_sorted, rows_positive, tally_rows}
 use Rattle.htl_tree.proofs.Under.{same_slot_Decides}

@@ -2,7 +2,6 @@ pub mod FilterBits
 pub mod FiltersOfPositions
 pub mod CountAdded
 pub mod Entered
-pub mod ChangedKeys
 pub mod NodeRows
 pub mod Canonical
 pub mod EqualCounts

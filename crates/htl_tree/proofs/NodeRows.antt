@@ -14,7 +14,9 @@ use Rattle.htl_event.specs.declared.slot.Count.{Count}
 use Rattle.htl_event.specs.Tallies.{zero_count, IsPositive}
 use Rattle.htl_sorted.specs.Entries.{IsSorted, Each}
 use Rattle.htl_lemmas.proofs.Tests.{both_left, both_right, less}
-use Rattle.htl_sorted.proofs.Finds.{find_below, below_tied, each_found}
+use Rattle.htl_sorted.proofs.Finds.{find_below, below_tied, each_found, find-append_left}
+use Rattle.htl_sorted.proofs.Finds.{find-append_right, below_append, AllBelow, sorted_append, each_from_found}
+use Rattle.htl_sorted.proofs.ChangedKeys.{find-map_other, find-map_key, below-map, sorted-map_key}
 use Rattle.htl_tree.specs.declared.node.Node.{Node}
 use Rattle.htl_tree.specs.declared.node.Node.TheFolds.{fold_out-Node}
 use Rattle.htl_event.specs.SlotOrder.{slot_cmp}
@@ -22,8 +24,6 @@ use Rattle.htl_event.specs.OrderLaws.{slot_total}
 use Rattle.htl_tree.specs.Trees.{Tree}
 use Rattle.htl_tree.specs.Nodes.{Position, children_of, top, tops, tally, counts, children, at_child, below}
 use Rattle.htl_tree.specs.Nodes.{rows_of, rows, rows_step, IsNormal}
-use Rattle.htl_tree.proofs.ChangedKeys.{find-append_left, find-append_right, below_append, AllBelow, sorted_append}
-use Rattle.htl_tree.proofs.ChangedKeys.{each_from_found, find-map_other, find-map_key, below-map, sorted-map_key}
 use Rattle.htl_tree.proofs.CountAdded.{normal_here, normal_child}
 use Rattle.htl_tree.proofs.Positions.{ind_position}
 

@@ -9,13 +9,13 @@ use Rattle.htl_event.specs.declared.slot.Slot.{Slot}
 use Rattle.htl_event.specs.declared.slot.Sign.{Sign}
 use Rattle.htl_event.specs.declared.slot.Count.{Count}
 use Rattle.htl_event.specs.Tallies.{zero_count, plus_count, total_of, IsPositive}
+use Rattle.htl_sorted.proofs.ChangedKeys.{find-map_key, sorted-map_key, each-map_key}
 use Rattle.htl_tree.specs.declared.node.Node.{Node}
 use Rattle.htl_event.specs.SlotOrder.{slot_cmp}
 use Rattle.htl_tree.specs.Trees.{Tree, key_cmp, count_at, add_one, with_one}
 use Rattle.htl_tree.specs.Trees.{total_count, IsTree, AllShort, IsSumTally, IsSameTally as IsSameTree}
 use Rattle.htl_tree.specs.Nodes.{Position, top, tally, tally_of, rows, tree_at, tree_of, IsNormal, IsNonEmpty, IsNormalTop, IsNormalRoot}
 use Rattle.htl_tree.specs.Nodes.{IsAdded, IsKept, IsBranch, IsSameTally, IsCopy, IsSum, FitsSum}
-use Rattle.htl_tree.proofs.ChangedKeys.{find-map_key, sorted-map_key, each-map_key}
 use Rattle.htl_tree.proofs.NodeRows.{path_cmp, tally_rows, rows_sorted, rows_positive}
 use Rattle.htl_tree.proofs.CountAdded.{nonempty_from, add_one_positive}
 use Rattle.htl_tree.proofs.Canonical.{inhabited}

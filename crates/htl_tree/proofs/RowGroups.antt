@@ -1,7 +1,7 @@
 -- Rows are put in groups of one stack, whose order doesn't matter, and a tree can count a group more.
-use Rattle.std.proofs.Common.{◌≡◌, ℕ, ◌+◌, ◌-◌, ◌<◌, ◌≤◌, ◌≢◌, List, []}
+use Rattle.std.proofs.Common.{◌≡◌, ℕ, ◌+◌, ◌<◌, ◌≤◌, ◌≢◌, List, []}
 use Rattle.std.proofs.Common.{◌∷◌, ◌++◌, reverse, length, get_or, take, drop, Option, Some, None}
-use Rattle.std.proofs.Common.{true, false, cond, nat_eq, unwrap_or, append-nil, refl, sym, ◌∙◌, ap, subst, arith}
+use Rattle.std.proofs.Common.{true, false, cond, nat_eq, unwrap_or, append-nil, take-add, refl, sym, ◌∙◌, ap, subst, arith}
 use Rattle.std.specs.Prelude.{Contains}
 use Rattle.std.specs.Borrow.{Bor}
 use Rattle.std.specs.List.{sum_by, flat_map, AllByRecursion}
@@ -10,12 +10,12 @@ use Rattle.std.specs.Ordering.{is_eq, eq_by_cmp, ordering_then}
 use Rattle.std.specs.Cmp.{tied_itself, unsigned_Decides, Equal-is}
 use Rattle.std.specs.Cmp.Lexicographic.{pointwise, pointwise_decides}
 use Rattle.std.specs.FinMap.Entries.{find}
-use Rattle.std.proofs.lemmas.List.{map-append, take_more, take_all, length-drop, take-append-drop, take-append-le, drop-take, length-take}
+use Rattle.std.proofs.lemmas.List.{map-append, take_more, length-drop, take-append-drop}
 use Rattle.std.proofs.lemmas.Grind.{flat_map-append}
 use Rattle.std.proofs.lemmas.List.Sums.{sum_by-cons}
 use Rattle.std.proofs.lemmas.List.Sorted.{sum_by-IsPermutation, IsPermutation-sym, Contains-permutation}
 use Rattle.std.proofs.lemmas.List.{reverse-reverse}
-use Rattle.htl_event.proofs.Members.{Contains-flat_map, at_member, each_member, AllByRecursion-weaker}
+use Rattle.htl_event.proofs.Members.{Contains-flat_map, at_member, each_member, all_append, AllByRecursion-weaker}
 use Rattle.htl_event.specs.Stacks.{stack_cmp}
 use Rattle.htl_event.specs.SlotOrder.{slot_cmp}
 use Rattle.htl_event.specs.OrderLaws.{stack_total}
@@ -24,12 +24,11 @@ use Rattle.htl_event.specs.declared.slot.Sign.{Sign}
 use Rattle.htl_event.specs.declared.slot.Count.{Count}
 use Rattle.htl_event.specs.Tallies.{zero_count, plus_count, total_of, IsPositive}
 use Rattle.htl_sorted.specs.Entries.{Each}
-use Rattle.htl_sorted.proofs.Finds.{each_found}
+use Rattle.htl_sorted.proofs.Finds.{each_found, all_keys_from_found, key_found}
 use Rattle.htl_tree.specs.declared.row.Row.{Row}
 use Rattle.htl_tree.specs.Trees.{Tree, key_cmp, count_at, total_count, IsTree, AllShort}
 use Rattle.htl_tree.specs.Nodes.{Position, tally, rows, tree_at, IsNormal, IsNormalTop}
 use Rattle.htl_tree.specs.Rows.{entries_of, sum_at, slot_sum, AreShort, IsGroup, IsGained, IsChain, WithRows}
-use Rattle.htl_tree.proofs.ChangedKeys.{all_keys_from_found, key_found}
 use Rattle.htl_tree.proofs.CountAdded.{nonempty_from}
 use Rattle.htl_tree.proofs.TreesAsLists.{key_total, key_same, nothing_is_tree}
 use Rattle.htl_tree.proofs.RowsAdded.{some_slot}
@@ -259,17 +258,6 @@ pub first_short : (rows : List Row) → IsGroup rows → AreShort rows → lengt
 first_short [] h each = absurd (let some = h.some in omega arith)
 first_short (row ∷ rows) h each = each.short.0
 
-pub groups_append : (gs hs : List (Bor (List Row))) → AllByRecursion (λ (group : Bor (List Row)). IsGroup group.now) gs → AllByRecursion
-    (λ (group : Bor (List Row)). IsGroup group.now) hs → AllByRecursion (λ (group : Bor (List Row)). IsGroup group.now) (gs ++ hs)
-groups_append [] hs a b = b
-groups_append (g ∷ gs) hs a b = (a.0, groups_append gs hs a.1 b)
-
--- two lists of rows with one stack are one list of rows with that stack
-pub alike_append : (k : List ℕ) (xs ys : List Row) → AllByRecursion (λ (row : Row). row.stack.now ≡ k) xs
-    → AllByRecursion (λ (row : Row). row.stack.now ≡ k) ys → AllByRecursion (λ (row : Row). row.stack.now ≡ k) (xs ++ ys)
-alike_append k [] ys a b = b
-alike_append k (x ∷ xs) ys a b = (a.0, alike_append k xs ys a.1 b)
-
 -- ---- one group after the other
 
 -- the first groups and one more count what the first count, and what the one counts
@@ -297,15 +285,6 @@ sum-take_most gs i d lt slot stack =
     ∙ sum-rows_append (rows_of (take (i + 1) gs)) (rows_of (drop (i + 1) gs)) slot stack) in
     omega (arith, more, parts)
 
-pub take-plus : {X : Type 0} (n m : ℕ) (xs : List X) → n ≤ length xs → take (n + m) xs ≡ take n xs ++ take m (drop n xs)
-take-plus {X} n m xs within =
-    let front : List X = take (n + m) xs in
-    let long : n ≤ length front = omega (arith, length-take (n + m) xs) in
-    let first : take n front ≡ take n xs = sym (take-append-le n front (drop (n + m) xs) long)
-    ∙ ap (take n) (take-append-drop (n + m) xs) in
-    sym (take-append-drop n front) ∙ ap (λ (l : List X). l ++ drop n front) first
-    ∙ ap (λ (l : List X). take n xs ++ l) (drop-take n m xs)
-
 -- a group more, of rows that were left
 pub group_more : (gs new : List (Bor (List Row))) (one : Bor (List Row)) (n len : ℕ) (rows rest : List Row) → rest ≡ drop n rows
     → new ≡ gs ++ one ∷ [] → one.now ≡ take len rest → rows_of gs ≡ take n rows → n ≤ length rows
@@ -314,14 +293,10 @@ pub group_more : (gs new : List (Bor (List Row))) (one : Bor (List Row)) (n len 
 group_more gs new one n len rows rest left is its so_far within groups group = (
   ap rows_of is ∙ flat_map-append (λ (g : Bor (List Row)). g.now) gs (one ∷ [])
       ∙ ap (λ (l : List Row). rows_of gs ++ l) (append-nil one.now ∙ its ∙ ap (take len) left)
-      ∙ ap (λ (l : List Row). l ++ take len (drop n rows)) so_far ∙ sym (take-plus n len rows within),
+      ∙ ap (λ (l : List Row). l ++ take len (drop n rows)) so_far ∙ sym (take-add n len rows),
   subst (λ (l : List (Bor (List Row))). AllByRecursion (λ (g : Bor (List Row)). IsGroup g.now) l) (sym is)
-      (groups_append gs (one ∷ []) groups (subst (λ (l : List Row). IsGroup l) (sym its) group, tt)),
+      (all_append (λ (g : Bor (List Row)). IsGroup g.now) gs (one ∷ []) groups (subst (λ (l : List Row). IsGroup l) (sym its) group, tt)),
 )
-
--- the rows from a place on are as many as are left there
-pub rest_is : (n : ℕ) (rows : List Row) → take (length rows - n) (drop n rows) ≡ drop n rows
-rest_is n rows = take_all (length rows - n) (drop n rows) (omega (arith, length-drop n rows))
 
 -- a group at the front of the rows that are left ends within all rows
 pub rest_within : (n len : ℕ) (rows rest : List Row) → rest ≡ drop n rows → n ≤ length rows → len ≤ length rest → n + len ≤ length rows

@@ -17,10 +17,10 @@ use Rattle.htl_event.specs.Slots.{same_slot}
 use Rattle.htl_event.specs.Stacks.{stack_cmp}
 use Rattle.htl_event.specs.Members.{IsRising}
 use Rattle.htl_event.specs.Tallies.{zero_count, IsPositive, ByStack}
-use Rattle.htl_event.proofs.Members.{Contains-here, Contains-there, Contains-cases, Contains-nil}
+use Rattle.htl_event.proofs.Members.{Contains-here, Contains-there, Contains-cases, Contains-nil, all_left, all_right}
 use Rattle.htl_sorted.specs.Entries.{IsSorted}
 use Rattle.htl_lemmas.proofs.Tests.{both_left, both_right, less}
-use Rattle.htl_sorted.proofs.Finds.{find_first, each_found}
+use Rattle.htl_sorted.proofs.Finds.{find_first, each_found, found_behind}
 use Rattle.htl_event.specs.SlotOrder.{slot_cmp}
 use Rattle.htl_event.specs.OrderLaws.{slot_total}
 use Rattle.htl_tree.specs.Trees.{Tree, AllShort, key_cmp, count_at, IsTree, ListsRows, ListsSlots, BySlot}
@@ -29,7 +29,6 @@ use Rattle.htl_tree.specs.Nodes.{Position, frames, top, inside, counts, children
 use Rattle.htl_tree.specs.HasSlot.{has_slot}
 use Rattle.htl_tree.specs.declared.slots.Slots.{Slots}
 use Rattle.htl_tree.specs.Nodes.{rows_at, rows_of_counts, picked, asked_of, counts_in, IsShortFrom, slots_of}
-use Rattle.htl_tree.proofs.ChangedKeys.{found_behind}
 use Rattle.htl_tree.proofs.Children.{IsChildAt, from_child}
 use Rattle.htl_tree.proofs.NodeRows.{rows_here, child_rows, rows_is}
 use Rattle.htl_tree.proofs.TreesAsLists.{key_total, key_same, nothing_is_tree}
@@ -100,16 +99,6 @@ module _ (p : Slot → Bool) where
   rows_of_counts-drop path es i d lt = ap (rows_of_counts p path) (drop_more es i d lt)
 
 -- ---- no stack too long
-
--- what holds of each element of two lists together holds of each of the first
-pub all_left : (P : Row → Type 0) (xs ys : List Row) → AllByRecursion P (xs ++ ys) → AllByRecursion P xs
-all_left P [] ys h = tt
-all_left P (x ∷ xs) ys h = (h.0, all_left P xs ys h.1)
-
--- what holds of each element of two lists together holds of each of the second
-pub all_right : (P : Row → Type 0) (xs ys : List Row) → AllByRecursion P (xs ++ ys) → AllByRecursion P ys
-all_right P [] ys h = h
-all_right P (x ∷ xs) ys h = all_right P xs ys h.1
 
 short_counts : (depth : ℕ) (es : List (Slot × Count)) (i : ℕ) → IsShortFrom depth (rows_here es) → i < length es → depth ≤ 64
 short_counts depth [] i h lt = absurd (omega arith)

@@ -11,10 +11,9 @@ use Rattle.htl_event.specs.declared.slot.Count.{Count}
 use Rattle.htl_event.specs.Tallies.{zero_count, plus_count, total_of, IsPositive}
 use Rattle.htl_sorted.specs.Entries.{IsSorted, Each}
 use Rattle.htl_lemmas.proofs.Tests.{both_left, both_right}
-use Rattle.htl_sorted.proofs.Finds.{find_below, below_tied, each_put, each_found}
+use Rattle.htl_sorted.proofs.Finds.{find_below, below_tied, each_put, each_found, sum_by-put, all_keys_from_found, key_found}
 use Rattle.htl_tree.specs.Trees.{Tree, key_cmp, count_at, total_count, IsTree, AllShort, IsSumTally}
 use Rattle.htl_tree.specs.Rows.{sum_at}
-use Rattle.htl_tree.proofs.ChangedKeys.{sum_by-put, all_keys_from_found, key_found}
 use Rattle.htl_tree.proofs.CopiesAndSums.{zero_right, zero_left}
 use Rattle.htl_tree.proofs.TreesAsLists.{key_total, key_same, canonical_trees}
 

@@ -14,11 +14,10 @@ use Rattle.htl_event.specs.declared.slot.Count.{Count}
 use Rattle.htl_event.specs.Stacks.{stack_cmp}
 use Rattle.htl_event.specs.Tallies.{zero_count, total_of, IsPositive}
 use Rattle.htl_sorted.specs.Entries.{IsSorted, Each}
-use Rattle.htl_sorted.proofs.Finds.{find_put_same, find_put_other, each_put}
+use Rattle.htl_sorted.proofs.Finds.{find_put_same, find_put_other, each_put, sum_by-put, all_keys_put}
 use Rattle.htl_event.specs.SlotOrder.{slot_cmp}
 use Rattle.htl_event.specs.OrderLaws.{slot_total, slot_same, stack_total, stack_ties}
 use Rattle.htl_tree.specs.Trees.{Tree, key_cmp, count_at, add_one, with_one, total_count, IsTree, IsSameTally}
-use Rattle.htl_tree.proofs.ChangedKeys.{sum_by-put, all_keys_put}
 use Rattle.htl_tree.proofs.CountAdded.{add_one_positive}
 use Rattle.htl_tree.proofs.Canonical.{found_positive, same_option}
 

@@ -1,12 +1,14 @@
 -- A segment that is taken moves from the rest to the analyst; one that is refused goes back.
 use Rattle.std.proofs.Common.{rules, ◌≡◌, ◌⊎◌, List, [], ◌∷◌, ◌++◌, length, sym, ap, ◌∙◌, subst, inl, inr, arith}
 use Rattle.std.specs.Prelude.{◌↔◌}
+use Rattle.htl_lemmas.proofs.Members.{last_member, front_member}
+use Rattle.htl_lemmas.proofs.Tests.{through}
 use Rattle.htl_segment.specs.Content.{Content}
 use Rattle.htl_analyst.specs.States.{State}
 use Rattle.htl_analyst.specs.Keys.{HasTaken}
 use Rattle.htl_analyst.specs.Right.{IsRight}
 use Rattle.htl_exchange.specs.Parcels.{HasSegment}
-use Rattle.htl_exchange.proofs.Takings.{last_member, front_member, one_taken, through}
+use Rattle.htl_exchange.proofs.Takings.{one_taken}
 use Rattle.htl_exchange.proofs.taking.take_run.Goals as goal
 
 pub returns-in-Err-NoMemory-default-clause-left : goal.returns-in-Err-NoMemory-default-clause-left

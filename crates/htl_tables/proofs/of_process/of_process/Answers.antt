@@ -1,7 +1,7 @@
 -- What two searches by halves cut out are the rows of the process, and no other.
 use Rattle.std.proofs.Common.{◌≤◌, length, take, drop, rules, ap, ◌∙◌}
 use Rattle.std.proofs.lemmas.List.Sorted.{IsPartitionPoint-from_clause}
-use Rattle.htl_sorted.proofs.Rows.{rest_is}
+use Rattle.htl_lemmas.proofs.Lists.{rest_is}
 use Rattle.htl_tables.proofs.ProcessRows.{is_below, is_there, below_parted, there_parted, together}
 use Rattle.htl_tables.proofs.of_process.of_process.Goals as goal
 

@@ -2,10 +2,10 @@
 use Rattle.std.proofs.Common.{◌≡◌, ℕ, ◌<◌, ◌≤◌, List, [], ◌∷◌, length, take, get_or, sym, subst, arith}
 use Rattle.std.specs.List.{AllByRecursion}
 use Rattle.std.proofs.lemmas.List.{take_more, length-take}
+use Rattle.htl_lemmas.proofs.Members.{all_append}
 use Rattle.htl_tree.specs.declared.row.Row.{Row}
 use Rattle.htl_tree.specs.Rows.{IsGroup}
 use Rattle.htl_tree.proofs.RowsOneMore.{no_row}
-use Rattle.htl_tree.proofs.RowGroups.{alike_append}
 use Rattle.htl_tree.proofs.building.alike.Goals as goal
 
 pub loop-len-preserved : goal.loop-len-preserved
@@ -19,7 +19,7 @@ loop-len-preserved c =
       within = omega arith;
       alike = subst (λ (l : List Row). AllByRecursion (λ (row : Row). row.stack.now ≡ first) l)
           (sym (take_more rows n no_row c.loop-len-test.true))
-          (alike_append first (take n rows) (get_or rows n no_row ∷ []) c.loop-len.invariant.alike (next, tt));
+          (all_append (λ (row : Row). row.stack.now ≡ first) (take n rows) (get_or rows n no_row ∷ []) c.loop-len.invariant.alike (next, tt));
     }
 
 group : (rows : List Row) (n : ℕ) → 0 < n → n ≤ length rows

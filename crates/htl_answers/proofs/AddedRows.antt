@@ -1,142 +1,145 @@
--- One row more is joined to the last sum or put after it, and the sums are still those of the rows.
-use Rattle.std.proofs.Common.{◌≡◌, suc, ◌+◌, ◌-◌, ◌<◌, true, false, List, [], ◌∷◌, ◌++◌, length, get_or, take, set}
-use Rattle.std.proofs.Common.{refl, sym, ap, subst, ◌∙◌, arith, inl, inr}
+-- Rows in the order of their keys are added up from the first on: a row joins the sum before it, or begins the next sum.
+use Rattle.std.proofs.Common.{◌≡◌, ℕ, suc, ◌+◌, ◌^◌, ◌<◌, Bool, true, false, List, [], ◌∷◌, get_or}
+use Rattle.std.proofs.Common.{refl, sym, ap, subst, ◌∙◌, arith, inl, inr, ◌⊎◌}
 use Rattle.std.specs.Prelude.{Contains}
-use Rattle.std.specs.List.Sorted.{IsPermutation}
+use Rattle.std.specs.List.Retain.{DedupsFrom, IsDeduped}
+use Rattle.std.specs.List.Sorted.{IsPermutation, IsSortedByKey}
 use Rattle.std.specs.Cmp.{IsTotalOrder}
 use Rattle.std.specs.Ordering.{is_eq, is_lt, ordering_reverse}
 use Rattle.std.specs.declared.cmp.Ordering.{Ordering}
 use Rattle.std.specs.declared.cmp.Ordering.TheVariants.{Less, Equal, Greater}
 use Rattle.std.proofs.lemmas.Bool.{false≢true}
-use Rattle.std.proofs.lemmas.List.{take_more, take_all, drop_all, set_split}
-use Rattle.std.proofs.lemmas.List.Elements.{Contains-append_cases, Contains-append_left, Contains-append_right}
 use Rattle.std.proofs.lemmas.List.Sorted.{Contains-permutation, IsPermutation-sym, sum_by-IsPermutation}
-use Rattle.std.proofs.lemmas.List.Sums.{sum_by-append}
+use Rattle.std.proofs.lemmas.List.Sums.{sum_by-cons}
 use Rattle.htl_event.specs.declared.slot.Count.{Count}
-use Rattle.htl_event.specs.Members.{IsRising}
 use Rattle.htl_event.specs.Tallies.{plus_count, total_of}
-use Rattle.htl_event.proofs.Members.{Contains-here, Contains-there, Contains-cases, Contains-nil, at_member, each_member}
-use Rattle.htl_answers.specs.Rows.{count_of, ByKey, AreSums, CountAlike}
+use Rattle.htl_event.proofs.Members.{Contains-here, Contains-there, Contains-cases, Contains-nil, each_member}
+use Rattle.htl_answers.specs.Rows.{count_of, total_in, ByKey, AreSums, CountAlike, IsAdded}
 use Rattle.htl_answers.proofs.RowCounts.{count_of-append, count_of-moved}
-use Rattle.htl_answers.proofs.CountedAlike.{joined_alike, positive_both}
-
--- ---- a list and its last element
-
-module _ {X : Type 0} (xs : List X) (some : 0 < length xs) where
-  abbrev pub but_last : List X
-  but_last = take (length xs - 1) xs
-
-  pub with_last : (d : X) → xs ≡ but_last ++ get_or xs (length xs - 1) d ∷ []
-  with_last d =
-      let len : length xs - 1 + 1 ≡ length xs = omega (arith, some) in
-      sym (take_all (length xs) xs (omega arith)) ∙ ap (λ n. take n xs) (sym len)
-      ∙ take_more xs (length xs - 1) d (omega (arith, some))
-
-  pub set_last : (z : X) → set xs (length xs - 1) z ≡ but_last ++ z ∷ []
-  set_last z = set_split xs (length xs - 1) z (omega (arith, some))
-      ∙ ap (λ l. but_last ++ z ∷ l) (drop_all (suc (length xs - 1)) xs (omega (arith, some)))
+use Rattle.htl_answers.proofs.CountedAlike.{alike_itself, alike_more, joined_alike, positive_both}
+use Rattle.htl_lemmas.proofs.Tests.{equal}
 
 module _ {K : Type 0} {cmp : K → K → Ordering} (o : IsTotalOrder cmp) where
-  -- each row before the last comes before it
-  before_last : (xs : List (K × Count)) (x : K × Count) → IsRising (ByKey cmp) (xs ++ x ∷ []) → (r : K × Count) → Contains xs r → ByKey cmp r x
-  before_last [] x rising r h = absurd (Contains-nil r h)
-  before_last (y ∷ xs) x rising r h = elim (Contains-cases y xs r h) [
-    | inl is ↦ subst (λ z. ByKey cmp z x) is (at_member (ByKey cmp y) (xs ++ x ∷ []) x rising.0 (Contains-append_right xs (x ∷ []) x (Contains-here x [])))
-    | inr there ↦ before_last xs x rising.1 r there
-  ]
+  -- each key is that of the row before it, or comes after it
+  abbrev NeverFall : K × Count → List (K × Count) → Type 0
+  NeverFall first [] = Unit {0}
+  NeverFall first (row ∷ rows) = (is_lt (cmp row.0 first.0) ≡ false) × NeverFall row rows
 
-  but_last_rises : (xs ys : List (K × Count)) → IsRising (ByKey cmp) (xs ++ ys) → IsRising (ByKey cmp) xs
-  but_last_rises [] ys rising = tt
-  but_last_rises (x ∷ xs) ys rising = (
-    each_member (ByKey cmp x) xs (λ r h. at_member (ByKey cmp x) (xs ++ ys) r rising.0 (Contains-append_left xs ys r h)),
-    but_last_rises xs ys rising.1,
+  never_fall : (first : K × Count) (rows : List (K × Count)) → IsSortedByKey (λ (row : K × Count). row.0) cmp (first ∷ rows) → NeverFall first rows
+  never_fall first [] sorted = tt
+  never_fall first (row ∷ rows) sorted = (
+    sorted 0 first (omega arith) (omega arith),
+    never_fall row rows (λ i d low high.
+        let next : suc i + 1 ≡ suc (i + 1) = omega arith in
+        subst (λ n. is_lt (cmp (get_or (first ∷ row ∷ rows) n d).0 (get_or (row ∷ rows) i d).0) ≡ false) next
+        (sorted (suc i) d (omega arith) (omega (arith, high)))),
   )
 
-  one_after : (xs : List (K × Count)) (x : K × Count) → IsRising (ByKey cmp) xs → ((r : K × Count) → Contains xs r → ByKey cmp r x)
-      → IsRising (ByKey cmp) (xs ++ x ∷ [])
-  one_after [] x rising below = (tt, tt)
-  one_after (y ∷ xs) x rising below = (
-    each_member (ByKey cmp y) (xs ++ x ∷ []) (λ r h. (elim (Contains-append_cases xs (x ∷ []) r h) [
-      | inl before ↦ at_member (ByKey cmp y) xs r rising.0 before
-      | inr at ↦ elim (Contains-cases x [] r at) [
-        | inl is ↦ subst (λ z. ByKey cmp y z) is (below y (Contains-here y xs))
-        | inr none ↦ absurd (Contains-nil r none)
-      ]
-    ])),
-    one_after xs x rising.1 (λ r h. below r (Contains-there y xs r h)),
-  )
+  same_falls : (one other : K × Count) (rows : List (K × Count)) → one.0 ≡ other.0 → NeverFall one rows → NeverFall other rows
+  same_falls one other [] same never = tt
+  same_falls one other (row ∷ rows) same never = (ap (λ k. is_lt (cmp row.0 k)) (sym same) ∙ never.0, never.1)
 
-  module _ (rows : List (K × Count)) (rising : IsRising (ByKey cmp) rows) (row : K × Count) where
-    -- the row comes after the last one
-    pub put_after : (0 < length rows → (d : K × Count) → cmp (get_or rows (length rows - 1) d).0 row.0 ≡ Less)
-        → AreSums cmp (rows ++ row ∷ []) (rows ++ row ∷ [])
-    put_after last = record {
-      rising = one_after rows row rising below;
-      counts = λ k. refl;
-      total = refl;
-      positive = λ each. each;
-    }
-      where
-        below : (r : K × Count) → Contains rows r → ByKey cmp r row
-        below r h =
-            let some : 0 < length rows = nonempty rows h in
-            let x = get_or rows (length rows - 1) r in
-            let front = take (length rows - 1) rows in
-            let split : rows ≡ front ++ x ∷ [] = with_last rows some r in
-            elim (Contains-append_cases front (x ∷ []) r (subst (λ l. Contains l r) split h)) [
-              | inl in_front ↦ o.trans r.0 x.0 row.0 (before_last front x (subst (IsRising (ByKey cmp)) split rising) r in_front) (last some r)
-              | inr at_end ↦ elim (Contains-cases x [] r at_end) [
-                | inl is ↦ ap (λ z. cmp z.0 row.0) (sym is) ∙ last some r
-                | inr none ↦ absurd (Contains-nil r none)
-              ]
-            ]
-          where
-            nonempty : (xs : List (K × Count)) → Contains xs r → 0 < length xs
-            nonempty [] h = absurd (Contains-nil r h)
-            nonempty (x ∷ xs) h = omega arith
+  -- a key that doesn't come before another, nor ties with it, comes after it
+  comes_after : (x y : K) → is_lt (cmp y x) ≡ false → is_eq (cmp y x) ≡ false → cmp x y ≡ Less
+  comes_after x y not_less not_tied = go (cmp y x) refl
+    where
+      go : (r : Ordering) → cmp y x ≡ r → cmp x y ≡ Less
+      go Less e = absurd (false≢true (sym not_less ∙ ap is_lt e))
+      go Equal e = absurd (false≢true (sym not_tied ∙ ap is_eq e))
+      go Greater e = o.antisymm x y ∙ ap ordering_reverse e
 
-    module _ (some : 0 < length rows) (x : K × Count) (is_x : x ≡ get_or rows (length rows - 1) x) (same : x.0 ≡ row.0) where
-      abbrev sum : K × Count
-      sum = (x.0, plus_count x.1 row.1)
+  -- the sums of rows, none of which comes before the first row
+  record AreSumsFrom (first : K × Count) (rows sums : List (K × Count)) : Type 0 where
+    are : AreSums cmp (first ∷ rows) sums
+    from : (sum : K × Count) → Contains sums sum → (first.0 ≡ sum.0) ⊎ (cmp first.0 sum.0 ≡ Less)
 
-      abbrev front : List (K × Count)
-      front = take (length rows - 1) rows
-
-      split : rows ≡ front ++ x ∷ []
-      split = with_last rows some x ∙ ap (λ z. front ++ z ∷ []) (sym is_x)
-
-      -- the row joins the last one, which has its key
-      pub join_last : AreSums cmp (rows ++ row ∷ []) (set rows (length rows - 1) sum)
-      join_last = subst (λ l. AreSums cmp (rows ++ row ∷ []) l) (sym (set_last rows some sum)) joined
-        where
-          joined : AreSums cmp (rows ++ row ∷ []) (front ++ sum ∷ [])
-          joined =
-              let alike : CountAlike cmp (rows ++ row ∷ []) (front ++ sum ∷ []) =
-              subst (λ l. CountAlike cmp (l ++ row ∷ []) (front ++ sum ∷ [])) (sym split) (joined_alike cmp front [] x row same) in
-              let rises : IsRising (ByKey cmp) (front ++ x ∷ []) = subst (IsRising (ByKey cmp)) split rising in
-              record {
-                rising = one_after front sum (but_last_rises front (x ∷ []) rises) (λ r h. before_last front x rises r h);
-                counts = alike.counts;
-                total = alike.total;
-                positive = alike.positive;
-              }
-
-  -- sums of sums
-  pub sums_more : (rows sums : List (K × Count)) (row : K × Count) (new : List (K × Count)) → AreSums cmp rows sums
-      → AreSums cmp (sums ++ row ∷ []) new → AreSums cmp (rows ++ row ∷ []) new
-  sums_more rows sums row new before after = record {
-    rising = after.rising;
-    counts = λ k. after.counts k ∙ count_of-append cmp k sums (row ∷ []) ∙ ap (λ c. plus_count c (count_of cmp k (row ∷ []))) (before.counts k)
-        ∙ sym (count_of-append cmp k rows (row ∷ []));
-    total =
-        let left = sum_by-append (λ (r : K × Count). total_of r.1) sums (row ∷ []) in
-        let right = sum_by-append (λ (r : K × Count). total_of r.1) rows (row ∷ []) in
-        let so_far = before.total in
-        let then = after.total in
-        omega (arith, left, right, so_far, then);
-    positive = λ each. after.positive (positive_both sums (row ∷ []) (before.positive (λ r h. each r (Contains-append_left rows (row ∷ []) r h)))
-        (λ r h. each r (Contains-append_right rows (row ∷ []) r h)));
+  -- the sums of one row
+  sum_of_one : (first : K × Count) → AreSumsFrom first [] (first ∷ [])
+  sum_of_one first = record {
+    are = record { rising = (tt, tt); counts = λ k. refl; total = refl; positive = λ each. each };
+    from = λ sum h. (elim (Contains-cases first [] sum h) [
+      | inl is ↦ inl (ap (λ r. r.0) is)
+      | inr none ↦ absurd (Contains-nil sum none)
+    ]);
   }
+
+  -- the second row joins the first, which has its key
+  sums_joined : (first row : K × Count) (rows sums : List (K × Count)) → first.0 ≡ row.0
+      → AreSumsFrom (first.0, plus_count first.1 row.1) rows sums → AreSumsFrom first (row ∷ rows) sums
+  sums_joined first row rows sums same later =
+      let sum : K × Count = (first.0, plus_count first.1 row.1) in
+      let alike : CountAlike cmp (first ∷ row ∷ rows) (sum ∷ rows) =
+      alike_more cmp (first ∷ row ∷ []) (sum ∷ []) rows (sum ∷ rows) (joined_alike cmp [] [] first row same) (alike_itself cmp (sum ∷ rows)) in
+      record {
+        are = record {
+          rising = later.are.rising;
+          counts = λ k. later.are.counts k ∙ alike.counts k;
+          total = later.are.total ∙ alike.total;
+          positive = λ each. later.are.positive (alike.positive each);
+        };
+        from = later.from;
+      }
+
+  -- the second row, which comes after the first, begins the next sum
+  sums_after : (first row : K × Count) (rows sums : List (K × Count)) → cmp first.0 row.0 ≡ Less
+      → AreSumsFrom row rows sums → AreSumsFrom first (row ∷ rows) (first ∷ sums)
+  sums_after first row rows sums less later =
+      let after : (sum : K × Count) → Contains sums sum → cmp first.0 sum.0 ≡ Less = λ sum h. (elim (later.from sum h) [
+        | inl same ↦ subst (λ k. cmp first.0 k ≡ Less) same less
+        | inr more ↦ o.trans first.0 row.0 sum.0 less more
+      ]) in
+      record {
+        are = record {
+          rising = (each_member (ByKey cmp first) sums after, later.are.rising);
+          counts = λ k. count_of-append cmp k (first ∷ []) sums ∙ ap (plus_count (count_of cmp k (first ∷ []))) (later.are.counts k)
+              ∙ sym (count_of-append cmp k (first ∷ []) (row ∷ rows));
+          total =
+              let number = λ (r : K × Count). total_of r.1 in
+              sum_by-cons number first sums ∙ ap (λ n. number first + n) later.are.total ∙ sym (sum_by-cons number first (row ∷ rows));
+          positive = λ each. positive_both (first ∷ []) sums (λ r h. (elim (Contains-cases first [] r h) [
+            | inl is ↦ each r (subst (Contains (first ∷ row ∷ rows)) is (Contains-here first (row ∷ rows)))
+            | inr none ↦ absurd (Contains-nil r none)
+          ])) (later.are.positive (λ r h. each r (Contains-there first (row ∷ rows) r h)));
+        };
+        from = λ sum h. (elim (Contains-cases first sums sum h) [
+          | inl is ↦ inl (ap (λ r. r.0) is)
+          | inr there ↦ inr (after sum there)
+        ]);
+      }
+
+  -- `dedup_by` leaves the sums, where its test adds a row to the sum before it
+  module _ (proper : (x y : K) → cmp x y ≡ Equal → x ≡ y) {S : Type 0}
+      (R : S → K × Count → K × Count → Bool → S → K × Count → K × Count → Type 0)
+      (adds : (s : S) (row sum : K × Count) (b : Bool) (t : S) (same now : K × Count) → R s row sum b t same now
+      → (same ≡ row) × IsAdded cmp row sum b now) where
+    summed_from : (s : S) (first : K × Count) (rows sums : List (K × Count)) → NeverFall first rows → total_in (first ∷ rows) < 2 ^ 64
+        → DedupsFrom R s first rows sums → AreSumsFrom first rows sums
+    summed_from s first [] sums never fits is = subst (AreSumsFrom first []) (sym is) (sum_of_one first)
+    summed_from s first (row ∷ rows) sums never fits (true, t, row', sum', call, rest) =
+        let is = (adds s row first true t row' sum' call).1 in
+        let number = λ (r : K × Count). total_of r.1 in
+        let whole = sum_by-cons number first (row ∷ rows) in
+        let inner = sum_by-cons number row rows in
+        let same : row.0 ≡ first.0 = proper row.0 first.0 (equal (cmp row.0 first.0) is.same) in
+        let sum : K × Count = (first.0, plus_count first.1 row.1) in
+        let is_sum : sum' ≡ sum = is.added refl (omega (arith, whole, inner, fits)) in
+        let joined = sum_by-cons number sum rows in
+        sums_joined first row rows sums (sym same)
+        (summed_from t sum rows sums (same_falls row sum rows same never.1) (omega (arith, whole, inner, joined, fits))
+        (subst (λ z. DedupsFrom R t z rows sums) is_sum rest))
+    summed_from s first (row ∷ rows) sums never fits (false, t, row', sum', call, (others, rest, is_sums)) =
+        let is = adds s row first false t row' sum' call in
+        let whole = sum_by-cons (λ (r : K × Count). total_of r.1) first (row ∷ rows) in
+        subst (AreSumsFrom first (row ∷ rows)) (sym (is_sums ∙ ap (λ z. z ∷ others) (is.1.kept refl)))
+        (sums_after first row rows others (comes_after first.0 row.0 never.0 is.1.same)
+        (summed_from t row rows others never.1 (omega (arith, whole, fits)) (subst (λ z. DedupsFrom R t z rows others) is.0 rest)))
+
+    -- the sums of all rows
+    pub summed : (s : S) (rows sums : List (K × Count)) → IsSortedByKey (λ (row : K × Count). row.0) cmp rows → total_in rows < 2 ^ 64
+        → IsDeduped R s rows sums → AreSums cmp rows sums
+    summed s [] sums sorted fits is = subst (AreSums cmp []) (sym is.told)
+        (record { rising = tt; counts = λ k. refl; total = refl; positive = λ each. each })
+    summed s (first ∷ rows) sums sorted fits is = (summed_from s first rows sums (never_fall first rows sorted) fits is.told).are
 
   -- the sums don't depend on the order of the rows
   pub sums_moved : (rows moved sums : List (K × Count)) → IsPermutation rows moved → AreSums cmp moved sums → AreSums cmp rows sums
@@ -146,12 +149,3 @@ module _ {K : Type 0} {cmp : K → K → Ordering} (o : IsTotalOrder cmp) where
     total = of_moved.total ∙ sum_by-IsPermutation (λ (r : K × Count). total_of r.1) rows moved is;
     positive = λ each. of_moved.positive (λ r h. each r (Contains-permutation moved rows r (IsPermutation-sym rows moved is) h));
   }
-
-  -- a key that isn't less and doesn't tie is greater
-  pub greater : (x y : K) → is_lt (cmp y x) ≡ false → is_eq (cmp x y) ≡ false → cmp x y ≡ Less
-  greater x y not_less not_tied = go (cmp x y) refl
-    where
-      go : (r : Ordering) → cmp x y ≡ r → r ≡ Less
-      go Less e = refl
-      go Equal e = absurd (false≢true (sym not_tied ∙ ap is_eq e))
-      go Greater e = absurd (false≢true (sym not_less ∙ ap is_lt (o.antisymm y x ∙ ap ordering_reverse e)))

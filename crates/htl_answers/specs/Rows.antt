@@ -1,5 +1,5 @@
 -- Rows of a key and a count, several of which may have one key.
-use Rattle.std.specs.Prelude.{◌≡◌, ℕ, ◌<◌, ◌-◌, List, Contains, Option, Some, None, if◌then◌else◌, length, get_or}
+use Rattle.std.specs.Prelude.{◌≡◌, ℕ, ◌+◌, ◌<◌, ◌^◌, Bool, true, false, List, Contains, Option, Some, None, if◌then◌else◌}
 use Rattle.std.specs.List.{sum_by, filter_map}
 use Rattle.std.specs.Option.{option_map}
 use Rattle.std.specs.Ordering.{is_eq}
@@ -11,7 +11,7 @@ use Rattle.htl_event.specs.declared.slot.Sign.{Sign}
 use Rattle.htl_event.specs.declared.slot.Count.{Count}
 use Rattle.htl_event.specs.Slots.{slot_of}
 use Rattle.htl_event.specs.Members.{IsRising}
-use Rattle.htl_event.specs.Tallies.{total_of, IsPositive}
+use Rattle.htl_event.specs.Tallies.{plus_count, total_of, IsPositive}
 use Rattle.htl_tree.specs.declared.slots.Slots.{Slots}
 use Rattle.htl_tree.specs.HasSlot.{has_slot}
 use Rattle.htl_answers.specs.Counts.{one_count}
@@ -47,9 +47,11 @@ pub record CountAlike {K : Type 0} (cmp : K → K → Ordering) (others rows : L
   pub total : total_in rows ≡ total_in others
   pub positive : EachPositive others → EachPositive rows
 
--- the key of the last row
-abbrev pub HasLastKey : {K : Type 0} → K → List (K × Count) → Type 0
-HasLastKey {K} k rows = (0 < length rows) × ((d : K × Count) → (get_or rows (length rows - 1) d).0 ≡ k)
+-- whether the row has the sum's key, and then is added to it
+pub record IsAdded {K : Type 0} (cmp : K → K → Ordering) (row sum : K × Count) (is_added : Bool) (now : K × Count) : Type 0 where
+  pub same : is_eq (cmp row.0 sum.0) ≡ is_added
+  pub added : is_added ≡ true → total_of sum.1 + total_of row.1 < 2 ^ 64 → now ≡ (sum.0, plus_count sum.1 row.1)
+  pub kept : is_added ≡ false → now ≡ sum
 
 -- ---- rows of events
 

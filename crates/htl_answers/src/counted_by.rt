@@ -26,9 +26,6 @@ pub(crate) trait CountedBy {
     fn is_key(key: &Self::Key, slot: Slot, stack: &SharedStack) -> bool
         ensures { result ≡ true → key.now ≡ key_of slot stack.now };
 
-    fn copy(key: &Self::Key) -> Result<Self::Key, AllocError>
-        ensures { IfOk result (λ copy. copy ≡ key.now) };
-
     /// The tree's counts of these slots, one row for each key.
     fn counts_in<A: Allocator>(
         alloc: Global,
@@ -69,10 +66,6 @@ impl CountedBy for BySlot {
         *key == slot
     }
 
-    fn copy(key: &Slot) -> Result<Slot, AllocError> {
-        Ok(*key)
-    }
-
     fn counts_in<A: Allocator>(
         alloc: Global,
         tree: &StackTree<A>,
@@ -104,10 +97,6 @@ impl CountedBy for BySlotAndStack {
 
     fn is_key(key: &(Slot, SharedStack), slot: Slot, stack: &SharedStack) -> bool {
         key.0 == slot && key.1.fingerprint() == stack.fingerprint() && key.1 == *stack
-    }
-
-    fn copy(key: &(Slot, SharedStack)) -> Result<(Slot, SharedStack), AllocError> {
-        Ok((key.0, key.1.copy()?))
     }
 
     fn counts_in<A: Allocator>(

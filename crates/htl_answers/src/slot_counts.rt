@@ -38,7 +38,8 @@ pub(crate) fn counts_of_slots<L: CountedBy, P: Part>(
         total_in sums.items ≤ size_of_all (map P.contents parts.now)) }
 {
     let mut rows = rows_of_parts::<L, P>(alloc, parts, slots)?;
-    add_up::<L>(alloc, &mut rows)
+    add_up::<L>(&mut rows);
+    Ok(rows)
 }
 
 /// The rows of these slots, part by part. The events that a part holds are counted in as few rows as
@@ -88,7 +89,8 @@ pub(crate) fn counts_of_events<L: CountedBy>(
     let mut rows = Vec::new(alloc);
     let mut hints = RowHints::new(alloc, events.len())?;
     count_events::<L>(&mut rows, &mut hints, events, slots)?;
-    add_up::<L>(alloc, &mut rows)
+    add_up::<L>(&mut rows);
+    Ok(rows)
 }
 
 /// Counts the events of these lists whose slots are asked for.

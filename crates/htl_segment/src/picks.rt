@@ -1,6 +1,6 @@
 //! Picks: what a question needs of segments.
 
-ghost use Rattle.std.specs.Prelude.{◌≡◌, ◌++◌};
+ghost use Rattle.std.specs.Prelude.{◌≡◌, ◌++◌, IfOk};
 ghost use Rattle.htl_segment.specs.Picks.{events_in};
 
 use crate::keeper::{JoiningKeeper, Keeper};
@@ -11,6 +11,9 @@ use crate::stack_cache::StackCache;
 use htl_event::{Interest, NoMemory, SharedEvent};
 use std::alloc::Global;
 
+/// The most events of a list, which take less than a megabyte.
+const LIST_LEN: usize = 1 << 14;
+
 /// What a question needs of segments: their outlines, the events that it asks about, and the
 /// sequences of all events.
 #[derive(Debug, Drop)]
@@ -19,8 +22,9 @@ pub struct Picks {
     cache: StackCache,
     /// The outlines of the segments, in the order in which they were read.
     pub outlines: Vec<Outline>,
-    /// The events that the question asks about, in the order in which they were read. Each worker has
-    /// a list of its own, so that no event is moved where their picks are joined.
+    /// The events that the question asks about, in the order in which they were read. They are in lists
+    /// of less than a megabyte, so that none is moved for long while a list grows, nor where the picks
+    /// of several workers are joined.
     pub lists: Vec<Vec<SharedEvent>>,
     /// The sequences of all events.
     pub seen: Seen,
@@ -50,7 +54,7 @@ impl Keeper for Picks {
     ghost gathers = { λ kind now segments. ArePicksOf kind.interest now segments };
 
     fn take(&mut self, alloc: Global, found: &SegmentBytes<'_>) -> Result<(), NoMemory> {
-        let mut list = take_last(alloc, &mut self.lists);
+        let mut list = take_last(alloc, &mut self.lists, found.number_of_events())?;
         let last = found.pick_with(
             alloc,
             &mut self.cache,
@@ -77,12 +81,22 @@ impl JoiningKeeper for Picks {
     }
 }
 
-/// Takes off the last list, or gives an empty one where there is none.
-fn take_last(alloc: Global, lists: &mut Vec<Vec<SharedEvent>>) -> Vec<SharedEvent>
-    ensures { events_in lists.old.items ≡ events_in lists.new.items ++ result.items }
+/// Takes off the last list, or gives an empty one where there is none, or where the last has no room
+/// for this many events more.
+fn take_last(
+    alloc: Global,
+    lists: &mut Vec<Vec<SharedEvent>>,
+    more: usize,
+) -> Result<Vec<SharedEvent>, NoMemory>
+    ensures { IfOk result (λ last.
+        events_in lists.old.items ≡ events_in lists.new.items ++ last.items) }
 {
     match lists.pop() {
-        Some(list) => list,
-        None => Vec::new(alloc),
+        Some(list) if list.len().saturating_add(more) <= LIST_LEN => Ok(list),
+        Some(list) => {
+            lists.push(list)?;
+            Ok(Vec::with_capacity(alloc, LIST_LEN)?)
+        }
+        None => Ok(Vec::with_capacity(alloc, LIST_LEN)?),
     }
 }

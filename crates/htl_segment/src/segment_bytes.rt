@@ -126,7 +126,7 @@ impl<'a> SegmentBytes<'a> {
 }
 
 impl SegmentBytes<'_> {
-    ghost use Rattle.std.specs.Prelude.{◌≡◌, ◌++◌, ℕ, List, IfOk, OnOk};
+    ghost use Rattle.std.specs.Prelude.{◌≡◌, ◌++◌, ℕ, List, length, IfOk, OnOk};
     ghost use Rattle.htl_event.specs.Interests.{wanted};
     ghost use Rattle.htl_segment.specs.Outlines.{first_sequence, last_sequence, outline_of};
     ghost use Rattle.htl_segment.specs.Repeated.{sequences_of};
@@ -149,6 +149,12 @@ impl SegmentBytes<'_> {
         ensures last { IfOk result (λ last. last ≡ last_sequence 0 self.now.events) }
     {
         pick(alloc, cache, interest, seen, events, self.records())
+    }
+
+    pub(crate) fn number_of_events(&self) -> usize
+        ensures { result ≡ length self.now.events }
+    {
+        self.header.count as usize
     }
 
     /// The outline of the segment, whose last event has this sequence.

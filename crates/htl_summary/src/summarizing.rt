@@ -28,7 +28,7 @@ pub struct Summary {
 }
 
 /// The answers of `balances` and `processes`, in less time than both calls take, and for every number
-/// of workers.
+/// of workers. The tables are dropped before objects take memory.
 pub fn summarize<T: Threads + Sync, P: Part<Alloc = Global> + Sync>(
     rt: &T,
     alloc: Global,
@@ -49,8 +49,9 @@ where
         → HaveOwnSequences events → IsProcesses events summary.processes.items) }
 {
     let (sums, tables) = sums_and_tables(rt, alloc, workers, parts)?;
-    let objects = balances_of_slots(alloc, &sums)?;
     let processes = processes_of_slots(alloc, &tables, &sums)?;
+    drop(tables);
+    let objects = balances_of_slots(alloc, &sums)?;
     Ok(Summary { objects, processes })
 }
 

@@ -76,7 +76,8 @@ fn has_no_tables<P: Part>(part: &P) -> bool
         && part.exits().rows().is_empty()
 }
 
-/// The tables of the events of the lists.
+/// The tables of the events of the lists. The latest events, which take the most memory, are found
+/// last, so that they aren't there while the other tables are made.
 fn tables_of_lists<A: Allocator + Clone, E: EventList>(
     alloc: &A,
     lists: &[E],
@@ -85,9 +86,9 @@ fn tables_of_lists<A: Allocator + Clone, E: EventList>(
         tables.latest tables.marks tables.exits) }
 {
     Ok(Tables {
-        latest: Latest::of(alloc.clone()?, lists)?,
         marks: Marks::of(alloc.clone()?, lists)?,
         exits: Exits::of(alloc.clone()?, lists)?,
+        latest: Latest::of(alloc.clone()?, lists)?,
     })
 }
 

@@ -1,6 +1,5 @@
 -- The rows of the events are added up by their keys.
 use Rattle.std.proofs.Common.{rules, ◌∙◌, arith}
-use Rattle.std.proofs.lemmas.Result.{IfOk-weaker}
 use Rattle.htl_answers.specs.Rows.{CountAlike, rows_of}
 use Rattle.htl_answers.proofs.EventRows.{rows_few}
 use Rattle.htl_answers.proofs.slot_counts.counts_of_events.Goals as goal
@@ -18,9 +17,10 @@ pub returns : goal.returns
 returns g c =
     let rows = c.count_events.new.rows.items in
     let alike : CountAlike g.L.Key.Ord.cmp (rows_of g.L.CountedBy.key_of c.args.slots c.args.events.now) rows = search rules in
-    IfOk-weaker c.add_up.result _ _ (λ sums are. record {
+    let are = c.add_up.ensures in
+    record {
       rising = are.rising;
       counts = λ k. are.counts k ∙ alike.counts k;
       total = are.total ∙ alike.total;
       positive = λ each. are.positive (alike.positive each);
-    }) c.add_up.ensures
+    }

@@ -16,7 +16,7 @@ returns c = λ start segments so_far.
           c.outline.ensures c.in_ok-push-2.ensures.items;
       events = events_more start.interest old.interest (events_in old.lists.items) (events_in c.push.new.self.items) segments s
           so_far.about so_far.events
-          (last_more old.lists.items c.take_last-list.new.lists.items c.push.new.self.items c.take_last-list.result c.pick_with.new.events
-          (wanted old.interest s.events) c.take_last-list.ensures c.in_ok-last.ensures.events c.in_ok-push.ensures.items);
+          (last_more old.lists.items c.take_last.new.lists.items c.push.new.self.items c.in_ok-list.list c.pick_with.new.events
+          (wanted old.interest s.events) c.in_ok-list.ensures c.in_ok-last.ensures.events c.in_ok-push.ensures.items);
       saw = rw (sequences_more segments s) (c.in_ok-last.ensures.seen (sequences_of (all_events segments)) so_far.saw);
     }

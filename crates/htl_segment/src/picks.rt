@@ -11,8 +11,8 @@ use crate::stack_cache::StackCache;
 use htl_event::{Interest, NoMemory, SharedEvent};
 use std::alloc::Global;
 
-/// The most events of a list, which take less than a megabyte.
-const LIST_LEN: usize = 1 << 14;
+/// The most events of a list, which take 12 MiB.
+const LIST_LEN: usize = 1 << 18;
 
 /// What a question needs of segments: their outlines, the events that it asks about, and the
 /// sequences of all events.
@@ -22,8 +22,8 @@ pub struct Picks {
     cache: StackCache,
     /// The outlines of the segments, in the order in which they were read.
     pub outlines: Vec<Outline>,
-    /// The events that the question asks about, in the order in which they were read. They are in lists
-    /// of less than a megabyte, so that none is moved for long while a list grows, nor where the picks
+    /// The events that the question asks about, in the order in which they were read. They are in
+    /// lists of at most `LIST_LEN`, so that few are moved while a list grows, and none where the picks
     /// of several workers are joined.
     pub lists: Vec<Vec<SharedEvent>>,
     /// The sequences of all events.
@@ -81,8 +81,8 @@ impl JoiningKeeper for Picks {
     }
 }
 
-/// Takes off the last list, or gives an empty one where there is none, or where the last has no room
-/// for this many events more.
+/// Takes off the last list, or gives an empty one where there is none, or where the last would be too
+/// long with this many events more. Then the new one is likely to be as long, and has room for that.
 fn take_last(
     alloc: Global,
     lists: &mut Vec<Vec<SharedEvent>>,
@@ -97,6 +97,6 @@ fn take_last(
             lists.push(list)?;
             Ok(Vec::with_capacity(alloc, LIST_LEN)?)
         }
-        None => Ok(Vec::with_capacity(alloc, LIST_LEN)?),
+        None => Ok(Vec::new(alloc)),
     }
 }

@@ -23,12 +23,13 @@ use Rattle.htl_event.specs.Tallies.{IsPositive}
 use Rattle.htl_event.specs.Summaries.{is_open, is_close, is_bad, how_many, HasOutstanding, IsProcessRow, MostOutstandingFirst, IsProcesses}
 use Rattle.htl_event.proofs.Members.{Contains-here, Contains-there, Contains-cases, Contains-nil}
 use Rattle.htl_event.proofs.Determined.{outstanding_same, IsGreatestSequence-unique}
-use Rattle.htl_sorted.specs.Entries.{IsSorted, entries}
+use Rattle.htl_sorted.specs.Entries.{IsSorted}
 use Rattle.htl_answers.proofs.FilterMaps.{Contains-from_filter_map}
 use Rattle.htl_summary.specs.declared.usage.Usage.{Usage}
 use Rattle.htl_answers.specs.Sums.{times_of, ListsSlotSums}
 use Rattle.htl_summary.specs.Totals.{one_at, total_at}
 use Rattle.htl_summary.specs.Usages.{usage_of, both_usages}
+use Rattle.htl_summary.specs.Counted.{by_process}
 use Rattle.htl_summary.specs.Rows.{IsRowOf, AreRowsOf}
 use Rattle.htl_answers.proofs.NumberSums.{amount, sum_same, sum_zero, sum_filter_map, none_or_none}
 use Rattle.htl_summary.proofs.Totals.{found_row, row_there, total-amount, total-keeps}
@@ -97,10 +98,6 @@ key usage = usage.process
 
 abbrev whole : Usage → Usage
 whole usage = usage
-
--- usages as entries of a table by process
-abbrev by_process : List Usage → List (ℕ × Usage)
-by_process rows = entries key whole rows
 
 -- what the sums say of a process
 abbrev usage_at : ℕ → List Sum → Option Usage

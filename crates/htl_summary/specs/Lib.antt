@@ -1,5 +1,6 @@
 -- What only private contracts cite: the answers are those of htl_event's `Summaries`.
 pub mod Totals
+pub mod Counted
 pub mod Usages
 pub mod ObjectTags
 pub mod Rows

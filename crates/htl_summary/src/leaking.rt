@@ -3,6 +3,7 @@
 ghost use Rattle.std.specs.Prelude.{◌≡◌, ◌<◌, ◌^◌, ◌↔◌, List, Contains};
 ghost use Rattle.std.specs.Prelude.{filter, length, map, nat_eq, IfOk};
 ghost use Rattle.std.specs.List.{IsDistinct, sum_by};
+ghost use Rattle.std.specs.Ordering.{nat_cmp};
 ghost use Rattle.htl_event.specs.Events.{Event};
 ghost use Rattle.htl_event.specs.declared.slot.Slot.{Slot};
 ghost use Rattle.htl_event.specs.declared.slot.Count.{Count};
@@ -13,6 +14,8 @@ ghost use Rattle.htl_event.specs.Summaries.{IsProcesses, MostOutstandingFirst};
 ghost use Rattle.htl_answers.specs.Parts.{AreEventsOf, AreTablesOf, size_of_all};
 ghost use Rattle.htl_answers.specs.Open.{is_opened_after};
 ghost use Rattle.htl_answers.specs.Sums.{ListsSlotSums};
+ghost use Rattle.htl_sorted.specs.Entries.{IsSorted};
+ghost use Rattle.htl_summary.specs.Counted.{AreUsages, by_process};
 ghost use Rattle.htl_summary.specs.Rows.{IsRowOf, AreRowsOf};
 
 use crate::rows::rows_by_owner;
@@ -36,24 +39,32 @@ pub fn processes<P: Part>(
         → HaveOwnSequences events → IsProcesses events rows.items) }
 {
     let sums = slot_sums(alloc, parts)?;
+    let used = usages_of_slots(alloc, &sums)?;
     let tables = tables_of(tree_alloc, parts)?;
-    processes_of_slots(alloc, &tables, &sums)
+    processes_of(alloc, &used, &tables)
 }
 
-/// As `processes`, from the tables of the parts and the sums of their slots.
-pub(crate) fn processes_of_slots<A: Allocator>(
-    alloc: Global,
-    tables: &Tables<A>,
-    sums: &[(Slot, Count)],
-) -> Result<Vec<ProcessRow>, NoMemory>
+/// What each process did with handles, by process, from the sums of slots.
+pub(crate) fn usages_of_slots(alloc: Global, sums: &[(Slot, Count)]) -> Result<Vec<Usage>, NoMemory>
     requires { sum_by (λ sum. total_of sum.1) sums.now < 2 ^ 64 }
-    ensures { IfOk result (λ rows. (events : List Event)
+    ensures { IfOk result (λ used. AreUsages sums.now used.items) }
+{
+    rows_by_owner::<Usage>(alloc, sums)
+}
+
+/// As `processes`, from what each process did with handles, and from the tables of the parts.
+pub(crate) fn processes_of<A: Allocator>(
+    alloc: Global,
+    used: &[Usage],
+    tables: &Tables<A>,
+) -> Result<Vec<ProcessRow>, NoMemory>
+    requires { IsSorted nat_cmp (by_process used.now) }
+    ensures { IfOk result (λ rows. (events : List Event) (sums : List (Slot × Count))
+        → AreUsages sums used.now → ListsSlotSums events sums
         → AreTablesOf events tables.now.latest tables.now.marks tables.now.exits
-        → ListsSlotSums events sums.now
         → HaveOwnSequences events → IsProcesses events rows.items) }
 {
-    let used = rows_by_owner::<Usage>(alloc, sums)?;
-    let mut rows = process_rows(alloc, &used, tables)?;
+    let mut rows = process_rows(alloc, used, tables)?;
     put_in_order(&mut rows);
     Ok(rows)
 }

@@ -1,19 +1,16 @@
 //! The processes and the objects of a summary, from slots that are counted once for both.
 
-ghost use Rattle.std.specs.Prelude.{◌<◌, ◌^◌, List, Contains, map, IfOk};
-ghost use Rattle.std.specs.List.{sum_by};
+ghost use Rattle.std.specs.Prelude.{◌<◌, ◌^◌, List, map, IfOk};
 ghost use Rattle.htl_event.specs.Events.{Event};
 ghost use Rattle.htl_event.specs.Handles.{HaveOwnSequences};
 ghost use Rattle.htl_event.specs.Summaries.{IsNumberOfObjects, IsProcesses, IsUnbalanced};
-ghost use Rattle.htl_event.specs.Tallies.{total_of, IsPositive};
-ghost use Rattle.htl_event.specs.declared.slot.Count.{Count};
-ghost use Rattle.htl_event.specs.declared.slot.Slot.{Slot};
 ghost use Rattle.htl_answers.specs.Parts.{AreEventsOf, AreTablesOf, size_of_all};
-ghost use Rattle.htl_answers.specs.Sums.{ListsSlotSums};
+ghost use Rattle.htl_summary.specs.Counted.{AreCounted};
 
 use crate::balancing::{Objects, balances_of_slots};
-use crate::leaking::processes_of_slots;
+use crate::leaking::{processes_of, usages_of_slots};
 use crate::tables::{Tables, tables_of};
+use crate::usage::Usage;
 use htl_answers::{Part, slot_sums};
 use htl_event::{Count, NoMemory, ProcessRow, Slot};
 use std::alloc::Global;
@@ -48,37 +45,51 @@ where
         → AreEventsOf (map P.contents parts.now) events
         → HaveOwnSequences events → IsProcesses events summary.processes.items) }
 {
-    let (sums, tables) = sums_and_tables(rt, alloc, workers, parts)?;
-    let processes = processes_of_slots(alloc, &tables, &sums)?;
+    let (counted, tables) = counted_and_tables(rt, alloc, workers, parts)?;
+    let processes = processes_of(alloc, &counted.used, &tables)?;
     drop(tables);
-    let objects = balances_of_slots(alloc, &sums)?;
+    let objects = balances_of_slots(alloc, &counted.sums)?;
     Ok(Summary { objects, processes })
 }
 
-/// How often each slot came, and the tables of the parts. Where there are several workers, one counts
-/// while another makes the tables.
-fn sums_and_tables<T: Threads + Sync, P: Part<Alloc = Global> + Sync>(
+/// How often each slot came, and what each process did with handles.
+#[derive(Drop)]
+struct Counted {
+    sums: Vec<(Slot, Count)>,
+    used: Vec<Usage>,
+}
+
+/// What was counted, and the tables of the parts. Where there are several workers, one counts while
+/// another makes the tables.
+fn counted_and_tables<T: Threads + Sync, P: Part<Alloc = Global> + Sync>(
     rt: &T,
     alloc: Global,
     workers: u32,
     parts: &[P],
-) -> Result<(Vec<(Slot, Count)>, Tables<Global>), NoMemory>
+) -> Result<(Counted, Tables<Global>), NoMemory>
 where
     P::Held: Sync,
     requires { size_of_all (map P.contents parts.now) < 2 ^ 64 }
-    ensures sums { IfOk result (λ both. (events : List Event)
-        → AreEventsOf (map P.contents parts.now) events → ListsSlotSums events both.0.items) }
-    ensures positive { IfOk result (λ both. (sum : Slot × Count)
-        → Contains both.0.items sum → IsPositive sum.1) }
-    ensures fits { IfOk result (λ both.
-        sum_by (λ (sum : Slot × Count). total_of sum.1) both.0.items < 2 ^ 64) }
+    ensures counted { IfOk result (λ both.
+        AreCounted (map P.contents parts.now) both.0.sums.items both.0.used.items) }
     ensures tables { IfOk result (λ both. (events : List Event)
         → AreEventsOf (map P.contents parts.now) events
         → AreTablesOf events both.1.latest both.1.marks both.1.exits) }
 {
     if workers < 2 {
-        return Ok((slot_sums(alloc, parts)?, tables_of(&alloc, parts)?));
+        return Ok((count(alloc, parts)?, tables_of(&alloc, parts)?));
     }
-    let (sums, tables) = join(rt, || slot_sums(alloc, parts), || tables_of(&alloc, parts));
-    Ok((sums?, tables?))
+    let (counted, tables) = join(rt, || count(alloc, parts), || tables_of(&alloc, parts));
+    Ok((counted?, tables?))
+}
+
+/// Counts the slots of all parts.
+fn count<P: Part>(alloc: Global, parts: &[P]) -> Result<Counted, NoMemory>
+    requires { size_of_all (map P.contents parts.now) < 2 ^ 64 }
+    ensures { IfOk result (λ counted.
+        AreCounted (map P.contents parts.now) counted.sums.items counted.used.items) }
+{
+    let sums = slot_sums(alloc, parts)?;
+    let used = usages_of_slots(alloc, &sums)?;
+    Ok(Counted { sums, used })
 }

@@ -1,11 +1,11 @@
--- The sums of slots over all parts give the processes and the objects of the summary.
+-- What was counted over all parts gives the processes and the objects of the summary.
 use Rattle.htl_answers.specs.Sums.{ListsSlotSums}
 use Rattle.htl_summary.proofs.summarizing.summarize.Goals as goal
 
 pub balances_of_slots-requires-clause-positive : goal.balances_of_slots-requires-clause-positive
-balances_of_slots-requires-clause-positive g c = rw c.deref.ensures.value c.in_ok-sums.ensures.positive
+balances_of_slots-requires-clause-positive g c = rw c.deref-2.ensures.value c.in_ok-counted.ensures.counted.positive
 
 pub returns-clause-unbalanced : goal.returns-clause-unbalanced
 returns-clause-unbalanced g c = λ events are.
-    let listed : ListsSlotSums events c.deref.result.now = rw c.deref.ensures.value (c.in_ok-sums.ensures.sums events are) in
+    let listed : ListsSlotSums events c.deref-2.result.now = rw c.deref-2.ensures.value (c.in_ok-counted.ensures.counted.listed events are) in
     c.in_ok-objects.ensures.unbalanced events listed

@@ -22,7 +22,8 @@ by_process used = entries (λ (usage : Usage). usage.process) (λ usage. usage) 
 pub record AreUsages (sums : List (Slot × Count)) (used : List Usage) : Type 0 where
   pub sorted : IsSorted nat_cmp (by_process used)
   pub values : (process : ℕ) → find nat_cmp process (by_process used)
-      ≡ total_at nat_cmp (λ (usage : Usage). usage.process) (λ usage. usage) both_usages process (filter_map (λ (sum : Slot × Count). usage_of sum.0 sum.1) sums)
+      ≡ total_at nat_cmp (λ (usage : Usage). usage.process) (λ usage. usage) both_usages process
+      (filter_map (λ (sum : Slot × Count). usage_of sum.0 sum.1) sums)
 
 -- how often each slot of the parts' events came, and the usages of these sums
 pub record AreCounted (parts : List Contents) (sums : List (Slot × Count)) (used : List Usage) : Type 0 where

@@ -17,6 +17,7 @@ use Rattle.htl_event.proofs.WantedLists.{unseen}
 use Rattle.htl_segment.specs.Content.{Content}
 use Rattle.htl_segment.specs.Traces.{Trace, all_events}
 use Rattle.htl_case.specs.Cases.{IsCaseOf}
+use Rattle.htl_case.specs.Picked.{Picked, IsPickedUntil}
 use Rattle.htl_report.specs.declared.answer.Answer.{Answer}
 use Rattle.htl_report.specs.declared.answer.Answer.TheVariants.{Outstanding, Diff, Tags, Bad, Leaks, Stacks, Trace as Listing}
 use Rattle.htl_command.specs.declared.question.Job.{Job}
@@ -27,7 +28,7 @@ use Rattle.htl_command.specs.declared.question.Since.TheVariants.{Snapshot, Sequ
 use Rattle.htl_symbols.proofs.Searches.{list_any-true, list_any-false}
 use Rattle.htl_main.specs.Answers.{IsAnswerOver, IsSince, IsSinceIfGiven}
 use Rattle.htl_main.specs.Picked.{interest_of, widened, Serves, TellsOfNoHandle}
-use Rattle.htl_main.specs.Picking.{is_of_open_handles}
+use Rattle.htl_main.specs.Picking.{is_of_open_handles, IsPickedAsOf}
 use Rattle.htl_main.specs.Questions.{IsOfParts}
 use Rattle.htl_main.specs.Moments.{IsMomentOf}
 use Rattle.htl_main.specs.Subjects.{HasSubject, is_about, names_handle, names_object}
@@ -277,6 +278,11 @@ tells_of_no_handle job segments T until interest own case named serves moved non
       about = of.1;
       none = nothing_wanted job.question interest es own serves moved opens none;
     }
+
+-- what was picked of a case up to a moment was picked of the segments that it is of
+abbrev pub picked_as_of : {interest : Interest} {until : Option ℕ} {case : Picked} (segments : List Content) (T : Trace) → IsCaseOf segments T
+    → IsPickedUntil interest T until case → IsPickedAsOf interest until case segments
+picked_as_of segments T case_of picked = record { trace = T; case_of = case_of; picked = picked }
 
 -- ---- where picks fall short
 

@@ -7,7 +7,7 @@ ghost use Rattle.htl_taken.specs.Rising.{reach_from};
 ghost use Rattle.htl_main.specs.CaseOutlines.{greatest_from, numbers_of};
 ghost use Rattle.htl_main.specs.Moments.{is_above};
 
-use htl_case::Case;
+use htl_case::{Case, PickedCase};
 use htl_command::Moment;
 use htl_event::NoMemory;
 use htl_segment::Outline;
@@ -74,11 +74,14 @@ pub(crate) struct Missed {
 }
 
 impl Missed {
-    ghost use Rattle.std.specs.Prelude.{IfNone, IfOk, IfSome};
+    ghost use Rattle.std.specs.Prelude.{IfNone, IfOk, IfSome, List};
+    ghost use Rattle.htl_event.specs.declared.interest.Interest.{Interest};
+    ghost use Rattle.htl_segment.specs.Content.{Content};
     ghost use Rattle.htl_segment.specs.Traces.{Trace};
     ghost use Rattle.htl_main.specs.CaseOutlines.{AreOutlinesOf, IsMissed};
     ghost use Rattle.htl_main.specs.Completeness.{IsComplete, IsLeastMissing};
     ghost use Rattle.htl_main.specs.Coverages.{IsCoverage};
+    ghost use Rattle.htl_main.specs.Picking.{IsPickedFor};
 
     /// What the case misses, by the outlines of its segments.
     pub fn of_case(alloc: Global, case: &Case) -> Result<Missed, NoMemory>
@@ -89,8 +92,17 @@ impl Missed {
         Ok(missed)
     }
 
+    /// What a case misses, by what was picked of it.
+    pub fn of_picks(alloc: Global, case: &PickedCase) -> Result<Missed, NoMemory>
+        ensures { IfOk result (λ missed. (interest : Interest) (segments : List Content)
+            (is : IsPickedFor interest case.now segments) → IsMissed is.trace missed) }
+    {
+        let missed = Missed::of(alloc, case.processors(), case.outlines())?;
+        Ok(missed)
+    }
+
     /// What the case with these outlines misses.
-    pub fn of(alloc: Global, processors: u16, outlines: &[Outline]) -> Result<Missed, NoMemory>
+    fn of(alloc: Global, processors: u16, outlines: &[Outline]) -> Result<Missed, NoMemory>
         ensures { IfOk result (λ missed. (T : Trace) → AreOutlinesOf processors outlines.now T
             → IsMissed T missed) }
     {

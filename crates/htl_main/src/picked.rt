@@ -11,10 +11,12 @@ ghost use Rattle.htl_command.specs.declared.question.Question.TheVariants as que
 ghost use Rattle.htl_main.specs.Answers.{IsAnswer};
 ghost use Rattle.htl_main.specs.CaseOutlines.{IsMissed};
 ghost use Rattle.htl_main.specs.Causes.{IsCauseAfter};
+ghost use Rattle.htl_main.specs.Moments.{IsMomentOf};
 ghost use Rattle.htl_main.specs.Picked.{Serves, TellsOfNoHandle};
 ghost use Rattle.htl_main.specs.Picking.{EndsAnswer, IsPickedAsOf, IsPickedFor, ReportsOf};
 ghost use Rattle.htl_main.specs.Picking.{is_of_open_handles};
 ghost use Rattle.htl_main.specs.Printed.{AreAnswerLines};
+ghost use Rattle.htl_main.specs.Subjects.{HasSubject};
 
 use crate::answering::{answer_of_lists, span_until};
 use crate::completed::{Completed, any_list_about, has_finding};
@@ -59,16 +61,15 @@ pub(crate) fn answered_of_picks(
         → IsCauseAfter segments (option_copied symbols.entry) job.now fault) }
     ensures after { IfErr result EndsAnswer }
 {
-    let missed = Missed::of(alloc, case.processors(), case.outlines())?;
+    let missed = Missed::of_picks(alloc, &case)?;
     check_gaps(job.setting.complete, job.until, &missed)?;
     let symbols = read_symbols(alloc, symbols)?;
     let coverage = missed.coverage();
     let until = coverage.moment(job.until);
     case.keep_until(until);
-    let has_subject = any_list_about(job.question, case.lists());
-    if falls_short(interest, has_subject) {
+    let Some(has_subject) = subject_of_picks(job, interest, &case) else {
         return Ok(None);
-    }
+    };
     check_subject(job, has_subject)?;
     let answer = answer_of_picks(rt, alloc, job, until, missed, &case)?;
     let lines = lines(alloc, job, until, &answer, &symbols)?;
@@ -79,6 +80,24 @@ pub(crate) fn answered_of_picks(
         has_finding: has_finding(&answer),
     };
     Ok(Some((lines, completed)))
+}
+
+/// Whether something that was picked of a case, up to a moment, is about the question's subject. None
+/// tells that nothing is, and that more of the case might be.
+fn subject_of_picks(job: &Job, interest: Interest, case: &PickedCase) -> Option<bool>
+    requires { Serves job.now.question interest }
+    ensures some { IfSome result (λ has_subject. (until : Option ℕ) (segments : List Content)
+        (is : IsPickedAsOf interest until case.now segments) → IsMomentOf is.trace job.now.until until
+        → HasSubject is.trace job.now has_subject) }
+    ensures none { IfNone result ((until : Option ℕ) (segments : List Content)
+        (is : IsPickedAsOf interest until case.now segments) → IsMomentOf is.trace job.now.until until
+        → TellsOfNoHandle interest segments job.now) }
+{
+    let has_subject = any_list_about(job.question, case.lists());
+    if falls_short(interest, has_subject) {
+        return None;
+    }
+    Some(has_subject)
 }
 
 /// Whether nothing that was picked is about the question's subject, and more of the case might be.

@@ -5,6 +5,7 @@ ghost use Rattle.htl_program.specs.Opened.{known, opened};
 ghost use Rattle.htl_program.specs.Programs.{Does, Obeys, SpeaksIn, spoken, told, with_notes};
 
 use crate::console::Console;
+use crate::files::Files;
 use crate::inputs::Inputs;
 use crate::output::Output;
 use crate::performing::{do_answer, do_converse, do_dump, do_encode};
@@ -74,7 +75,14 @@ fn obey<Rt: Threads + Sync, W: World, O: Output, P: Person, S: Speaker>(
         }
         Command::Ask(of) => {
             speaker.takes_notes(line.notes);
-            do_converse(rt, alloc, world, line, of, inputs, console, speaker)
+            do_converse(
+                alloc,
+                &Files { rt, world, of },
+                line,
+                inputs,
+                console,
+                speaker,
+            )
         }
     }
 }

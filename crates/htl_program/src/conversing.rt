@@ -35,10 +35,8 @@ use std::thread::Threads;
 ///
 /// Afterwards `inputs` has what was opened, as far as it was read.
 pub fn converse<Rt: Threads + Sync, W: World, Q: Source, O: Sink, H: Speaker>(
-    rt: &Rt,
     alloc: Global,
-    world: &W,
-    of: &Dialogue,
+    files: &Files<Rt, W>,
     inputs: &mut Vec<W::Input>,
     questions: &mut Q,
     out: &mut O,
@@ -47,9 +45,9 @@ pub fn converse<Rt: Threads + Sync, W: World, Q: Source, O: Sink, H: Speaker>(
     requires questions { Q.has_failed questions.old ≡ false }
     requires open { Q.has_ended questions.old ≡ false }
     requires out { O.has_failed out.old ≡ false }
-    ensures conversed { IsConversed (known W.holds W.is_absent W.standard world.now)
+    ensures conversed { IsConversed (known W.holds W.is_absent W.standard files.now.world.now)
         (opened_files W.Input.remaining W.Input.has_ended W.Input.has_failed W.Input.good_reads
-        inputs.new.items) of.now
+        inputs.new.items) files.now.of.now
         (talk (Q.remaining questions.old) (Q.remaining questions.new) (Q.has_failed questions.new)
         (O.contents out.old) (O.contents out.new) (O.has_failed out.new) H.told
         (H.wants_absence speaker.old) speaker.old speaker.new) result }
@@ -57,23 +55,10 @@ pub fn converse<Rt: Threads + Sync, W: World, Q: Source, O: Sink, H: Speaker>(
         (λ _. (questions.new ≡ questions.old) × (out.new ≡ out.old)
         × (speaker.new ≡ speaker.old)) }
 {
-    match open_all(alloc, world, of, inputs) {
+    match open_all(alloc, files.world, files.of, inputs) {
         Ok(table) => {
-            let files = Files {
-                rt,
-                world,
-                setting: of.setting,
-            };
-            ask_opened(
-                alloc,
-                &files,
-                of.folds,
-                inputs,
-                as_bytes(&table),
-                questions,
-                out,
-                speaker,
-            )
+            let symbols = as_bytes(&table);
+            ask_opened(alloc, files, inputs, symbols, questions, out, speaker)
         }
         Err(fault) => Err(AskFault::Run(Refused {
             fault,
@@ -120,7 +105,6 @@ fn open_all<W: World>(
 fn ask_opened<Rt: Threads + Sync, W: World, Q: Source, O: Sink, H: Speaker>(
     alloc: Global,
     files: &Files<Rt, W>,
-    folds: bool,
     inputs: &mut Vec<W::Input>,
     symbols: Option<&[u8]>,
     questions: &mut Q,
@@ -136,35 +120,38 @@ fn ask_opened<Rt: Threads + Sync, W: World, Q: Source, O: Sink, H: Speaker>(
         → map W.Input.remaining inputs.old.items ≡ map Some texts
         → Q.remaining questions.old ≡ Some lines
         → IfOk result (λ conversed. (read : Taken) × (opening : Opening)
-        × Begins folds files.now.setting texts read opening
+        × Begins files.now.of.now.folds files.now.of.now.setting texts read opening
         × Converses (answers_over (known W.holds W.is_absent W.standard files.now.world.now)
         (ways W.Input.remaining W.Input.has_ended W.Input.has_failed W.Input.good_reads)
-        files.now.setting folds (option_copied symbols.entry)) (H.wants_absence speaker.old)
-        (Some read) lines
+        files.now.of.now.setting files.now.of.now.folds (option_copied symbols.entry))
+        (H.wants_absence speaker.old) (Some read) lines
         (BeginsAndGets (O.contents out.old) (O.contents out.new) H.told speaker.old speaker.new
         opening) conversed) }
     ensures stops { (texts : List (List ℕ)) → (lines : List ℕ) → (stopped : DialogueFault)
         → map W.Input.remaining inputs.old.items ≡ map Some texts
         → Q.remaining questions.old ≡ Some lines
         → result ≡ Err (AskFault.Dialogue stopped)
-        → (read : Taken) × (opening : Opening) × Begins folds files.now.setting texts read opening
+        → (read : Taken) × (opening : Opening)
+        × Begins files.now.of.now.folds files.now.of.now.setting texts read opening
         × DialogueStops (answers_over (known W.holds W.is_absent W.standard files.now.world.now)
         (ways W.Input.remaining W.Input.has_ended W.Input.has_failed W.Input.good_reads)
-        files.now.setting folds (option_copied symbols.entry)) (H.wants_absence speaker.old)
-        (Some read) lines
+        files.now.of.now.setting files.now.of.now.folds (option_copied symbols.entry))
+        (H.wants_absence speaker.old) (Some read) lines
         (Q.remaining questions.new) (Q.has_failed questions.new)
         (BeginsAndGets (O.contents out.old) (O.contents out.new) H.told speaker.old speaker.new
         opening) stopped }
     ensures devices { ReportsDevices (Q.has_failed questions.new) (Q.remaining questions.old)
         (O.has_failed out.new) result }
     ensures cause { (texts : List (List ℕ)) → map W.Input.remaining inputs.old.items ≡ map Some texts
-        → IfErr (by_fault (before_dialogue result)) (IsBeginsCause folds files.now.setting texts
+        → IfErr (by_fault (before_dialogue result))
+        (IsBeginsCause files.now.of.now.folds files.now.of.now.setting texts
         (map W.Input.remaining inputs.new.items) (map W.Input.has_ended inputs.new.items)
         (option_copied symbols.entry)) }
     ensures between { (texts : List (List ℕ)) → map W.Input.remaining inputs.old.items ≡ map Some texts
         → IfErr (before_dialogue result) (λ refused.
-        IsBeginsBetween folds files.now.setting texts refused.fault refused.between) }
-    ensures reading { AreRead files.now.setting.form.hex W.Input.has_failed W.Input.has_ended
+        IsBeginsBetween files.now.of.now.folds files.now.of.now.setting texts refused.fault
+        refused.between) }
+    ensures reading { AreRead files.now.of.now.setting.form.hex W.Input.has_failed W.Input.has_ended
         W.Input.good_reads W.Input.remaining inputs.old.items inputs.new.items
         (by_fault (before_dialogue result)) }
     ensures untouched { IfErr (before_dialogue result)
@@ -175,7 +162,14 @@ fn ask_opened<Rt: Threads + Sync, W: World, Q: Source, O: Sink, H: Speaker>(
         mut kept,
         coverage,
         cut,
-    } = begin(files.rt, alloc, folds, files.setting, inputs, symbols)?;
+    } = begin(
+        files.rt,
+        alloc,
+        files.of.folds,
+        files.of.setting,
+        inputs,
+        symbols,
+    )?;
     speaker.begins(coverage, cut);
     let conversed = converse_lines(alloc, files, &mut kept, questions, out, speaker)?;
     Ok(conversed)

@@ -8,24 +8,27 @@ ghost use Rattle.htl_program.specs.Openings.{AreOpened};
 use crate::kept::Kept;
 use crate::opening::open_files;
 use crate::world::World;
-use htl_command::Setting;
+use htl_command::Dialogue;
 use htl_event::NoMemory;
 use htl_main::{Added, Folded, Loaded, Refused, RunFault, add, fold};
 use std::alloc::Global;
 use std::thread::Threads;
 
-/// Where a dialogue's files come from, and how they are read.
+/// Where a dialogue's files come from, and which it begins with.
 #[derive(Clone, Copy)]
-pub(crate) struct Files<'a, Rt, W> {
+pub struct Files<'a, Rt, W> {
+    /// What starts the threads that read.
     pub rt: &'a Rt,
+    /// What opens files by their names.
     pub world: &'a W,
-    pub setting: Setting,
+    /// The files at the beginning, the table of symbols, and how all files are read.
+    pub of: &'a Dialogue,
 }
 
 impl<Rt: Threads + Sync, W: World> Files<'_, Rt, W> {
     /// Opens files and adds their segments to what is kept. If memory is refused while a state
     /// folds them, it isn't known which ones it took, and it can answer no more.
-    pub fn read(
+    pub(crate) fn read(
         &self,
         alloc: Global,
         kept: &mut Kept,
@@ -33,7 +36,7 @@ impl<Rt: Threads + Sync, W: World> Files<'_, Rt, W> {
     ) -> Result<Result<Added, Refused>, NoMemory>
         ensures { IfOk result (ReadsFiles (known W.holds W.is_absent W.standard self.now.world.now)
             (ways W.Input.remaining W.Input.has_ended W.Input.has_failed W.Input.good_reads)
-            self.now.setting kept.old (map string_bytes names.now) kept.new) }
+            self.now.of.now.setting kept.old (map string_bytes names.now) kept.new) }
     {
         match kept {
             Kept::Case(loaded) => Ok(self.add(alloc, loaded, names)),
@@ -63,19 +66,19 @@ impl<Rt: Threads + Sync, W: World> Files<'_, Rt, W> {
     fn add(&self, alloc: Global, loaded: &mut Loaded, names: &[String]) -> Result<Added, Refused>
         ensures { AddsFiles (known W.holds W.is_absent W.standard self.now.world.now)
             (ways W.Input.remaining W.Input.has_ended W.Input.has_failed W.Input.good_reads)
-            self.now.setting loaded.old (map string_bytes names.now) loaded.new result }
+            self.now.of.now.setting loaded.old (map string_bytes names.now) loaded.new result }
     {
         let mut inputs = self.opened(alloc, names)?;
-        add(self.rt, alloc, self.setting, loaded, &mut inputs)
+        add(self.rt, alloc, self.of.setting, loaded, &mut inputs)
     }
 
     /// Opens files and folds their segments behind what was folded.
     fn fold(&self, alloc: Global, folded: &mut Folded, names: &[String]) -> Result<Added, Refused>
         ensures { FoldsFiles (known W.holds W.is_absent W.standard self.now.world.now)
             (ways W.Input.remaining W.Input.has_ended W.Input.has_failed W.Input.good_reads)
-            self.now.setting folded.old (map string_bytes names.now) folded.new result }
+            self.now.of.now.setting folded.old (map string_bytes names.now) folded.new result }
     {
         let mut inputs = self.opened(alloc, names)?;
-        fold(self.rt, alloc, self.setting, folded, &mut inputs)
+        fold(self.rt, alloc, self.of.setting, folded, &mut inputs)
     }
 }

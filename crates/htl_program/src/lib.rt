@@ -49,6 +49,7 @@ pub use commands::program;
 pub use console::Console;
 pub use conversing::converse;
 pub use converting::{dump, encode};
+pub use files::Files;
 pub use inputs::Inputs;
 pub use named_part::NamedPart;
 pub use output::Output;

@@ -11,6 +11,7 @@ use crate::console::Console;
 use crate::conversing::converse;
 use crate::converting::{dump, encode};
 use crate::ending::{status_after, status_of_answer, status_of_conversion};
+use crate::files::Files;
 use crate::inputs::Inputs;
 use crate::output::Output;
 use crate::person::Person;
@@ -18,7 +19,7 @@ use crate::printing::refuse;
 use crate::saying::{say_answer, say_dialogue, say_dump, say_encoding};
 use crate::speaker::Speaker;
 use crate::world::World;
-use htl_command::{CommandLine, Dialogue, InputForm, ParseFault, Run};
+use htl_command::{CommandLine, InputForm, ParseFault, Run};
 use htl_device::Source;
 use std::alloc::Global;
 use std::thread::Threads;
@@ -161,11 +162,9 @@ fn encode_into<W: World, O: Output, P: Person>(
 
 /// Replies to the lines of standard input.
 pub(crate) fn do_converse<Rt: Threads + Sync, W: World, O: Output, P: Person, S: Speaker>(
-    rt: &Rt,
     alloc: Global,
-    world: &W,
+    files: &Files<Rt, W>,
     line: &CommandLine,
-    of: &Dialogue,
     inputs: &mut Inputs<W::Input>,
     console: &mut Console<O, P>,
     speaker: &mut S,
@@ -173,20 +172,18 @@ pub(crate) fn do_converse<Rt: Threads + Sync, W: World, O: Output, P: Person, S:
     requires { O.has_failed console.old.out ≡ false }
     ensures { DoesConverse (P.is_watching console.old.person || line.now.notes)
         (spoken S.told S.noted S.left S.wants_absence S.counts speaker.old speaker.new)
-        (known W.holds W.is_absent W.standard world.now)
+        (known W.holds W.is_absent W.standard files.now.world.now)
         (opened W.Input.remaining W.Input.has_ended W.Input.has_failed W.Input.good_reads
         inputs.new)
         (told O.contents O.has_failed P.heard console.old)
-        (told O.contents O.has_failed P.heard console.new) line.now.command of.now result }
+        (told O.contents O.has_failed P.heard console.new) line.now.command files.now.of.now result }
 {
     let in_words = console.says_words(line);
     console.person.begins(&line.command);
-    let mut questions = world.questions();
+    let mut questions = files.world.questions();
     let ended = converse(
-        rt,
         alloc,
-        world,
-        of,
+        files,
         &mut inputs.files,
         &mut questions,
         &mut console.out,

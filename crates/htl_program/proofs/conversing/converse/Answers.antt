@@ -9,14 +9,14 @@ use Rattle.htl_program.proofs.conversing.converse.Goals as goal
 pub returns-in-Ok-clause-conversed : goal.returns-in-Ok-clause-conversed
 returns-in-Ok-clause-conversed g c = record {
   replies = λ texts table lines all has known.
-      rw (c.in-Ok.ensures.table table has, ← c.as_bytes.ensures)
+      rw (c.in-Ok.ensures.table table has, ← c.as_bytes-symbols.ensures)
       (c.ask_opened.ensures.replies texts lines (c.in-Ok.ensures.bytes ∙ all) known);
   stops = λ texts table lines stopped all has known is.
-      rw (c.in-Ok.ensures.table table has, ← c.as_bytes.ensures)
+      rw (c.in-Ok.ensures.table table has, ← c.as_bytes-symbols.ensures)
       (c.ask_opened.ensures.stops texts lines stopped (c.in-Ok.ensures.bytes ∙ all) known is);
   devices = search rules;
   cause = λ texts table all has.
-      rw (c.in-Ok.ensures.table table has, ← c.as_bytes.ensures) (or_memory _ (by_fault (before_dialogue c.ask_opened.result))
+      rw (c.in-Ok.ensures.table table has, ← c.as_bytes-symbols.ensures) (or_memory _ (by_fault (before_dialogue c.ask_opened.result))
       (c.ask_opened.ensures.cause texts (c.in-Ok.ensures.bytes ∙ all)));
   between = search rules;
   absent = λ place absent. all_opened place c.in-Ok.table (c.in-Ok.ensures.absent place absent);

@@ -15,6 +15,7 @@ use crate::part::Part;
 use htl_event::{Count, EventList, SharedEvent, SharedStack, Sign, Slot};
 use std::cmp::Ordering;
 
+/// The count of a slot that never came.
 pub(crate) const ZERO: Count = Count { plus: 0, minus: 0 };
 
 /// How often the slot came with a stack that begins with the path, read from the outermost call.
@@ -32,6 +33,7 @@ pub fn under<P: Part>(parts: &[P], path: &[u64], slot: Slot) -> Count
     sum
 }
 
+/// Both counts added up, each sign on its own.
 pub(crate) fn sum_of(one: Count, other: Count) -> Count
     requires { total_of one + total_of other < 2 ^ 64 }
     ensures { result ≡ plus_count one other }

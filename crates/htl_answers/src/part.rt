@@ -12,8 +12,10 @@ use std::alloc::Allocator;
 pub trait Part {
     ghost use Rattle.htl_answers.specs.Parts.{Contents};
 
+    /// A list of events that were not folded yet.
     type Held: EventList;
 
+    /// What gives the tables and the tree their memory.
     type Alloc: Allocator + Clone;
 
     ghost contents: { Self → Contents };

@@ -53,7 +53,9 @@ pub enum AnalystAnswer {
     Mark(u64),
     Outstanding(Vec<SharedEvent>),
     Diff(Vec<SharedEvent>),
+    /// Each stack, and how many of the handles that it opened are still open.
     Leaks(Vec<(SharedStack, u64)>),
+    /// The handle as written, the stack, and how often it came.
     Bad(Vec<(u32, SharedStack, u64)>),
     Tags(Vec<([u8; 4], Count)>),
     Stacks(Vec<(SharedStack, Count)>),

@@ -15,15 +15,18 @@ use std::alloc::AllocError;
 /// events that have the same one. Both have one value, so every definition speaks of both.
 #[derive(Debug, PartialEq, Eq, Drop)]
 pub struct Event<S = Stack> {
+    /// Its number in the order of the whole machine, in a segment above 0.
     pub sequence: u64,
     pub kind: Kind,
     pub process: u32,
     pub thread: u32,
-    /// The handle as written.
+    /// The handle as written, in a segment 0 for a kind that names none.
     pub handle: u32,
+    /// The object's address, in a segment 0 for a kind that names none.
     pub object: u64,
-    /// The tag in display order.
+    /// The tag in display order, in a segment zeros for a kind that names none.
     pub tag: [u8; 4],
+    /// The calls that led to it, the innermost first.
     pub stack: S,
 }
 

@@ -13,6 +13,7 @@ pub trait EventList {
 
     ghost events_of: { Self → List Event };
 
+    /// The events in the list's order. None is copied.
     fn events(&self) -> &[SharedEvent]
         ensures { result.now ≡ events_of self.now };
 }

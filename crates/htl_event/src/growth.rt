@@ -1,4 +1,4 @@
-//! The rows of a growth.
+//! The span and the points of a growth.
 
 /// The moments from a first to a last sequence.
 #[derive(Clone, Copy, Debug, PartialEq, Eq)]

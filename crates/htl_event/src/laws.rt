@@ -13,8 +13,7 @@ ghost use Rattle.htl_event.specs.Summaries.{SummariesAreDetermined};
 use crate::interest::Interest;
 
 /// Each answer about handles is the only one, and depends on which events there are and not on
-/// their order. For the latest event this needs that no two events have one sequence, and for an
-/// outstanding handle that the event which opened it has its sequence alone.
+/// their order. Only for the latest event this needs that no two events have one sequence.
 pub fn handles_are_determined()
     ensures { (xs ys : List Event) → HaveSame xs ys → HandlesAreDetermined xs ys }
 {}

@@ -19,7 +19,8 @@ const SHORT_SEARCH_LEN: u64 = 2_097_152;
 /// The offsets at which the workers' parts end. They are sought at equal distances of at most `most`
 /// bytes, and each is the next offset at which a segment seems to begin, less than `MAX_SEARCH_LEN`
 /// bytes further on. The last may be the end of the source. Where no segment is found, there is one
-/// part fewer, and the one before goes on to the next offset.
+/// part fewer, and the one before goes on to the next offset. There are no ends for one worker, nor
+/// where the source is too short for two parts.
 pub fn ends<R: Parted>(
     alloc: Global,
     workers: u32,

@@ -51,7 +51,8 @@ pub struct Front<K> {
 
 /// Has a keeper take over the segments at the front of a source. Each of several workers reads a part
 /// of these bytes, and the source skips them. Where these bytes aren't whole segments, the keeper
-/// takes nothing and the source stays where it was.
+/// takes nothing and the source stays where it was. Gives the number of bytes that were skipped, 0
+/// where one worker has to read.
 pub fn take_parts<T: Threads + Sync, R: Parted, K: JoiningKeeper + Drop + Send>(
     rt: &T,
     alloc: Global,

@@ -73,8 +73,8 @@ pub fn read_bundle<T: Threads + Sync, R: Parted>(
 /// bytes, but for the first, of 4,096. The segments of each read are taken before the next. It tells
 /// where the source ends within one more.
 ///
-/// Several workers read the front of a source that has parts first, some hundred megabytes at a time,
-/// and one reads on behind it. For the keeper that makes no difference.
+/// Several workers read the front of a source that has parts first, in rounds, some 32 MB for each
+/// worker, and one reads on behind it. For the keeper that makes no difference.
 ///
 /// After a fault the keeper has the segments before it, unless memory was refused. A source without
 /// bytes needs no memory. Before each read but the first, and behind the parts of several workers,

@@ -1,4 +1,4 @@
-//! Rounds: several workers read the front of a source, some hundred megabytes at a time.
+//! Rounds: several workers read the front of a source, some 32 MB for each worker at a time.
 
 ghost use Rattle.std.specs.Prelude.{◌≡◌, ◌≤◌, ◌^◌, [], ℕ, List, IfOk, OnOk, false};
 ghost use Rattle.htl_segment.specs.Keepers.{Took};
@@ -54,6 +54,7 @@ pub fn take_rounds<
 {
     let mut spare = Vec::new(alloc);
     let mut offset = 0;
+    // The bound makes the loop end. No source has so many rounds: each reads some megabytes.
     for _ in 0..u32::MAX {
         let end = take_round(rt, alloc, workers, offset, source, keeper, &mut spare)?;
         if end == offset {

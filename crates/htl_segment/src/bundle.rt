@@ -44,8 +44,8 @@ pub fn cut_off(rest: &[u8]) -> Fault
 }
 
 /// Hands the keeper each whole segment at the front of `bytes`, and gives the bytes after them, which
-/// more bytes may make a segment of. A refusal reports the offset of the refused segment, and the
-/// keeper has the segments before it then, unless memory was refused.
+/// more bytes may complete to a segment. A refusal reports the offset of the refused segment, and
+/// the keeper has the segments before it then, unless memory was refused.
 pub fn split<'a, K: Keeper>(
     alloc: Global,
     keeper: &mut K,

@@ -31,7 +31,7 @@ pub fn decode(alloc: Global, bytes: &[u8]) -> Result<(Segment, usize), Fault>
     decode_with(alloc, &mut StackCache::new(alloc), bytes)
 }
 
-/// As `decode`, but equal stacks are shared by a cache.
+/// As `decode`, but equal stacks come from the cache.
 pub fn decode_with(
     alloc: Global,
     cache: &mut StackCache,

@@ -203,7 +203,8 @@ fn keep_tail(
     Ok(())
 }
 
-/// The length of the segment that begins with these bytes, or of a header where they have none.
+/// The length of the segment that begins with these bytes, that of a header where they have no
+/// whole one, and 0 where there are no bytes.
 fn room_of(rest: &[u8]) -> usize
     requires { IsRest rest.now }
     ensures room { (c : ℕ) → result ≤ c → HasRoom rest.now c }

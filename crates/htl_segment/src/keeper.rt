@@ -43,7 +43,9 @@ pub trait JoiningKeeper: Keeper {
 /// Whole segments, in the order in which they were read.
 #[derive(Debug, Drop)]
 pub struct Segments {
+    /// Stacks that were met lately, so that segments share equal ones.
     pub cache: StackCache,
+    /// The segments that it took.
     pub list: Vec<Segment>,
 }
 

@@ -29,6 +29,7 @@ impl<'a> Records<'a> {
     ghost use Rattle.htl_segment.specs.Reading.{events_in};
     ghost use Rattle.htl_segment.specs.InPlace.{HasRecords};
 
+    /// The first `count` records of these bytes.
     pub(crate) fn new(version: Version, count: u32, body: &'a [u8]) -> Records<'a>
         requires { HasRecords version count body.now }
         ensures { result ≡ events_in count body.now }

@@ -22,7 +22,9 @@ const MARKS_AT_FIRST: usize = 1 << 20;
 /// beyond the others is listed instead.
 #[derive(Debug, Drop)]
 pub struct Seen {
+    /// For each sequence, at its place, whether it has a mark.
     marks: Vec<bool>,
+    /// The sequences whose marks would have lain too far out when they came.
     apart: Vec<u64>,
     /// The number of sequences that were seen.
     count: usize,

@@ -37,6 +37,7 @@ impl Segment {
     ghost use Rattle.htl_segment.specs.Content.{content, Fits};
     ghost use Rattle.htl_segment.specs.Versions.{version_number};
 
+    /// The segment of these parts, which keep the rules of the format.
     pub(crate) fn new(
         version: Version,
         trace_id: u64,

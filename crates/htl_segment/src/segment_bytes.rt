@@ -104,7 +104,7 @@ impl<'a> SegmentBytes<'a> {
         self.to_segment_with(alloc, &mut StackCache::new(alloc))
     }
 
-    /// As `to_segment`, but equal stacks are shared by a cache.
+    /// As `to_segment`, but equal stacks come from the cache.
     pub fn to_segment_with(
         &self,
         alloc: Global,
@@ -151,6 +151,7 @@ impl SegmentBytes<'_> {
         pick(alloc, cache, interest, seen, events, self.records())
     }
 
+    /// The number of the segment's events, as its header says.
     pub(crate) fn number_of_events(&self) -> usize
         ensures { result ≡ length self.now.events }
     {

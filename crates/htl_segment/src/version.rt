@@ -2,6 +2,7 @@
 /// A version of the format.
 #[derive(Clone, Copy, Debug, PartialEq, Eq)]
 pub enum Version {
+    /// The first version: it has no process exits.
     V1,
     /// The second version: it adds process exits, more processors and deeper stacks.
     V2,
@@ -10,12 +11,13 @@ pub enum Version {
 /// The limits of a version.
 #[derive(Clone, Copy, Debug, PartialEq, Eq)]
 pub struct Limits {
+    /// The most processors of a trace.
     pub processors: u16,
     /// The most addresses of a stack.
     pub frames: u8,
     /// The greatest code of a kind.
     pub kinds: u8,
-    /// The most bytes of a segment, its header included.
+    /// The most bytes of a segment: its header and 4,096 records with the most addresses each.
     pub len: u32,
 }
 

@@ -29,6 +29,7 @@ impl SortKey {
     ghost use Rattle.htl_event.specs.Events.{Event};
     ghost use Rattle.htl_tables.specs.SortKeys.{StandsAt, sort_key_of};
 
+    /// The key of an event that stands at `index` in the list at the place `list`.
     pub fn of(event: &SharedEvent, list: u32, index: u32) -> SortKey
         ensures { result ≡ sort_key_of event.now list index }
     {
@@ -41,6 +42,7 @@ impl SortKey {
         }
     }
 
+    /// Whether both keys are of one process and one base handle.
     pub fn is_of_handle_of(&self, other: &SortKey) -> bool
         ensures { IsTrue result
             ↔ ((self.now.process ≡ other.now.process) × (self.now.base ≡ other.now.base)) }

@@ -49,6 +49,7 @@ impl<A: Allocator> NumberSet<A> {
         position_of(&self.loose, number)
     }
 
+    /// Whether the number is taken.
     pub fn has(&self, number: u32) -> bool
         ensures { IsTrue result ↔ Has (numbers_of self.now) number }
     {
@@ -109,6 +110,8 @@ impl<A: Allocator> NumberSet<A> {
         other.front <= self.reach() && is_within(skip_below(&other.loose, self.front), &self.loose)
     }
 
+    /// Whether both have one front and the same loose numbers. Where these differ, the sets may
+    /// still have the same numbers, unless both are settled.
     pub fn same(&self, other: &NumberSet<A>) -> bool
         ensures { IsTrue result ↔ (numbers_of self.now ≡ numbers_of other.now) }
     {
@@ -121,6 +124,7 @@ impl<A: Allocator + Clone> NumberSet<A> {
     ghost use Rattle.htl_taken.specs.Numbers.{IsUnion};
     ghost use Rattle.htl_taken.specs.NumberSets.{numbers_of};
 
+    /// An equal set, under a clone of this one's allocator.
     pub fn copy(&self) -> Result<NumberSet<A>, NoMemory>
         ensures { IfOk result (λ numbers. numbers_of numbers ≡ numbers_of self.now) }
     {

@@ -36,11 +36,13 @@ pub struct Node<A: Allocator> {
     pub filters: u64,
 }
 
+/// The count of a slot that never came.
 pub const ZERO: Count = Count { plus: 0, minus: 0 };
 
 /// While a node has fewer children than this, its list of them has no room to spare.
 const FEW_CHILDREN: usize = 8;
 
+/// The place of a slot among counts in slot order, or else the place where it would go.
 pub fn find_slot(counts: &[(Slot, Count)], slot: Slot) -> Result<usize, usize>
     requires { IsSorted slot_cmp counts.now }
     ensures found { IfOk result (IsPlace slot_cmp counts.now slot) }
@@ -49,6 +51,7 @@ pub fn find_slot(counts: &[(Slot, Count)], slot: Slot) -> Result<usize, usize>
     search::<BySlot>(counts, slot)
 }
 
+/// The place of the child under a frame, or else the place where it would go.
 pub fn find_frame<A: Allocator>(children: &[(u64, Node<A>)], frame: u64) -> Result<usize, usize>
     requires { IsSorted nat_cmp children.now }
     ensures found { IfOk result (IsPlace nat_cmp children.now frame) }
@@ -228,6 +231,7 @@ fn shared_len(frames: &[u64], stack: &[u64]) -> usize
     len
 }
 
+/// The slot's count among counts in slot order, zero where it has none.
 pub fn count_in(counts: &[(Slot, Count)], slot: Slot) -> Count
     requires { IsSorted slot_cmp counts.now }
     ensures { result ≡ count_in counts.now slot }
@@ -238,6 +242,7 @@ pub fn count_in(counts: &[(Slot, Count)], slot: Slot) -> Count
     }
 }
 
+/// Both counts added up, each sign on its own.
 pub fn sum_of(left: Count, right: Count) -> Count
     requires { total_of (plus_count left right) < 2 ^ 64 }
     ensures { result ≡ plus_count left right }
@@ -248,6 +253,7 @@ pub fn sum_of(left: Count, right: Count) -> Count
     }
 }
 
+/// The count with one more of the sign.
 pub fn add_one(count: Count, sign: Sign) -> Count
     requires { total_of count + 1 < 2 ^ 64 }
     ensures { result ≡ add_one sign count }

@@ -14,6 +14,7 @@ use crate::slots::Slots;
 use htl_event::{Count, MAX_FRAMES, NoMemory, SharedStack, Sign, Slot};
 use std::alloc::{Allocator, Global};
 
+/// Counts the slot with the stack once more. Where memory is refused, the counts stay the same.
 pub fn add_to_root<A: Allocator + Clone>(
     root: &mut Option<Node<A>>,
     alloc: &A,
@@ -37,6 +38,7 @@ pub fn add_to_root<A: Allocator + Clone>(
     Ok(())
 }
 
+/// How often the slot came with a stack that begins with the path, read from the outermost frame.
 pub fn under_root<A: Allocator>(root: &Option<Node<A>>, path: &[u64], slot: Slot) -> Count
     requires normal { IsNormalRoot root.now }
     requires fits { total_count (tree_of root.now) < 2 ^ 64 }
@@ -48,6 +50,7 @@ pub fn under_root<A: Allocator>(root: &Option<Node<A>>, path: &[u64], slot: Slot
     }
 }
 
+/// Whether both count each slot equally often with each stack.
 pub fn same_roots<A: Allocator>(left: &Option<Node<A>>, right: &Option<Node<A>>) -> bool
     requires left { IsNormalRoot left.now }
     requires right { IsNormalRoot right.now }
@@ -61,6 +64,7 @@ pub fn same_roots<A: Allocator>(left: &Option<Node<A>>, right: &Option<Node<A>>)
     }
 }
 
+/// A root that counts the same, in memory of its own.
 pub fn copy_root<A: Allocator + Clone>(
     root: &Option<Node<A>>,
     alloc: &A,
@@ -74,6 +78,7 @@ pub fn copy_root<A: Allocator + Clone>(
     }
 }
 
+/// A root that counts what both count together, in memory of its own.
 pub fn plus_roots<A: Allocator + Clone>(
     left: &Option<Node<A>>,
     right: &Option<Node<A>>,
@@ -92,6 +97,7 @@ pub fn plus_roots<A: Allocator + Clone>(
     }
 }
 
+/// The counts of these slots, by stack and then by slot.
 pub fn list_root_rows<A: Allocator>(
     root: &Option<Node<A>>,
     alloc: Global,
@@ -111,6 +117,8 @@ pub fn list_root_rows<A: Allocator>(
     }
 }
 
+/// The counts of these slots, by stack and then by slot, with the stacks left out. A slot is there
+/// once for each of its stacks.
 pub fn list_root_counts<A: Allocator>(
     root: &Option<Node<A>>,
     alloc: Global,
@@ -130,6 +138,7 @@ pub fn list_root_counts<A: Allocator>(
     }
 }
 
+/// Each slot that is counted, once, in slot order.
 pub fn list_root_slots<A: Allocator>(
     root: &Option<Node<A>>,
     alloc: Global,

@@ -10,6 +10,7 @@ use htl_event::Slot;
 pub enum Slots {
     /// Every slot.
     All,
+    /// This slot alone.
     One(Slot),
     /// References and dereferences of the object, under whatever tag.
     OfObject(u64),
@@ -18,6 +19,7 @@ pub enum Slots {
 }
 
 impl Slots {
+    /// Whether the question asks for the slot.
     pub fn contains(&self, slot: Slot) -> bool
         ensures { result ≡ has_slot self.now slot }
     {

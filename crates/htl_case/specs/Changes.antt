@@ -24,7 +24,7 @@ IsStep T (Take analyst segment) before after = Changes analyst (IsTake T segment
 IsStep T (Merge target source) before after = Changes target (IsMergeFrom before source) before after
 IsStep T (Compact analyst) before after = Changes analyst IsCompaction before after
 
--- the same, where a compaction may have been refused
+-- the step changed the state of one analyst; where it is a compaction, this may have been refused
 abbrev pub IsTriedStep : Trace → Step → List State → List State → Type 0
 IsTriedStep T (Compact analyst) before after = Changes analyst IsTriedCompaction before after
 IsTriedStep T step before after = IsStep T step before after

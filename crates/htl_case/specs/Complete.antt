@@ -9,12 +9,12 @@ pub record IsFirstMissing (T : Trace) (p n : ℕ) : Type 0 where
   pub below : (m : ℕ) → m < n → HasKey T p m
   pub missing : HasKey T p n → ⊥
 
--- the greatest sequence of the processor's segments before it, 0 where there is none
+-- the greatest sequence of the processor's segments before its first missing one, 0 where they have no event
 abbrev pub IsUnbrokenTo : Trace → ℕ → ℕ → Type 0
 IsUnbrokenTo T p n =
     (first : ℕ) × IsFirstMissing T p first × IsGreatestSequence (Contains (events_of (run_below p first) T.segments)) n
 
--- Complete to: the least of these over all processors.
+-- Complete to: the least sequence, over all processors, up to which a processor's segments are unbroken.
 pub record IsCompleteTo (T : Trace) (n : ℕ) : Type 0 where
   pub bound : (p m : ℕ) → p < T.processors → IsUnbrokenTo T p m → n ≤ m
   pub processor : ℕ

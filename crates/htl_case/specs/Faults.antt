@@ -68,7 +68,7 @@ pub record Falls (segments : List Content) (key : ℕ × ℕ) : Type 0 where
 abbrev pub HaveOneTrace : List Content → Type 0
 HaveOneTrace segments = (s t : Content) → Contains segments s → Contains segments t → s.trace_id ≡ t.trace_id
 
--- and one processor count
+-- all segments have one processor count
 abbrev pub HaveOneCount : List Content → Type 0
 HaveOneCount segments = (s t : Content) → Contains segments s → Contains segments t → s.processors ≡ t.processors
 

@@ -79,7 +79,7 @@ IsCompacted other = ⊥
 
 -- ---- lists of steps
 
--- of each analyst its history, and what the step makes of it
+-- the history of each analyst after the step
 abbrev pub history_after : (ℕ → History) → Step → ℕ → History
 history_after before (Take analyst segment) i = if i == analyst then took (before i) segment else before i
 history_after before (Merge target source) i = if i == target then merged (before i) (before source) else before i
@@ -92,10 +92,10 @@ history steps = fold history_after (λ i. begun) steps
 abbrev pub AreRight : Trace → List State → Type 0
 AreRight T states = (i : ℕ) (a : State) → slice_get states i ≡ Some a → IsRight a T
 
--- its keys are exactly those that reached it
+-- the keys of each analyst are exactly those that reached it
 abbrev pub HaveReached : Trace → List Step → List State → Type 0
 HaveReached T steps states = (i : ℕ) (a : State) → slice_get states i ≡ Some a → (p n : ℕ) → keys a p n ≡ reached T steps i p n
 
--- and it has the history that the steps give it
+-- each analyst has the history that the steps give it
 abbrev pub HaveHistories : Trace → List Step → List State → Type 0
 HaveHistories T steps states = (i : ℕ) (a : State) → slice_get states i ≡ Some a → Leaves T (history steps i) a

@@ -7,7 +7,7 @@ use Rattle.htl_event.specs.Members.{Lists}
 use Rattle.htl_event.specs.Moments.{events_until}
 use Rattle.htl_event.specs.Summaries.{HasOutstanding}
 
--- so many moments at even distances, of which the first is the span's first and the last one its last; one alone is the first
+-- moment i of `points` moments at even distances, rounded down: the first is the span's first, the last its last; a single one is the first
 abbrev pub moment_at : Span → ℕ → ℕ → ℕ
 moment_at span points i = span.first + i * (span.last - span.first) / max 1 (points - 1)
 

@@ -27,18 +27,18 @@ pub record IsLatest (among : Event → Type 0) (process base : ℕ) (e : Event) 
   pub of_handle : OpensOrCloses process base e
   pub greatest : (x : Event) → among x → OpensOrCloses process base x → x.sequence ≤ e.sequence
 
--- that event, or none where no event opens or closes the handle
+-- the latest event of the handle, or none where no event opens or closes it
 abbrev pub LatestIs : (Event → Type 0) → ℕ → ℕ → Option Event → Type 0
 LatestIs among process base o =
     MatchOption o ((x : Event) → among x → OpensOrCloses process base x → ⊥) (IsLatest among process base)
 
--- the later of two, the first where they came at once
+-- the later of two events, the first where both have one sequence
 abbrev pub later : Option Event → Option Event → Option Event
 later None b = b
 later (Some x) None = Some x
 later (Some x) (Some y) = if nat_lt x.sequence y.sequence then Some y else Some x
 
--- Greatest sequence: that of the events of the set, 0 where there are none.
+-- Greatest sequence: the greatest that an event of the set has, 0 where there are none.
 pub record IsGreatestSequence (among : Event → Type 0) (n : ℕ) : Type 0 where
   pub bound : (x : Event) → among x → x.sequence ≤ n
   pub reached : (n ≡ 0) ⊎ ((x : Event) × among x × (x.sequence ≡ n))

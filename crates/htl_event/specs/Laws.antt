@@ -25,7 +25,7 @@ HaveSame xs ys = (e : Event) → Contains xs e ↔ Contains ys e
 abbrev pub IsUnion : List Event → List Event → List Event → Type 0
 IsUnion xs ys zs = (e : Event) → Contains zs e ↔ (Contains xs e ⊎ Contains ys e)
 
--- of two lists with the same events, each answer about handles is one
+-- two lists with the same events have one answer to each question about handles
 pub record HandlesAreDetermined (xs ys : List Event) : Type 0 where
   pub latest : (process handle : ℕ) (a b : Option Event) → HaveOwnSequences xs
       → LatestIs (Contains xs) process handle a → LatestIs (Contains ys) process handle b → a ≡ b
@@ -41,7 +41,7 @@ pub record HandlesAreDetermined (xs ys : List Event) : Type 0 where
   pub growth : (process : ℕ) (span : Option Span) (points : ℕ) (a b : List Point)
       → IsGrowth span points xs process a → IsGrowth span points ys process b → a ≡ b
 
--- of two lists with the same events at other places, each count is one, and so is each answer about counts
+-- two lists with the same events at other places have the same counts, and one answer to each question about counts
 pub record CountsAreDetermined (xs ys : List Event) : Type 0 where
   pub counts : (passes : Event → Bool) (slot : Slot) → count_where passes xs slot ≡ count_where passes ys slot
   pub tags : (object : ℕ) (a b : List (List ℕ × Count)) → IsTags xs object a → IsTags ys object b → a ≡ b
@@ -83,7 +83,7 @@ abbrev pub PrefixTallyIsSum : Type 0
 PrefixTallyIsSum = (events : List Event) (slot : Slot) (stacks : List (List ℕ)) (path : List ℕ) → AreStacksOf events slot stacks
     → under events path slot ≡ sum_of_tallies events slot (stacks_under path stacks)
 
--- and a tag's balance is the sum over all stacks
+-- the balance of a tag is the sum of its tally over all stacks
 abbrev pub BalanceIsSum : Type 0
 BalanceIsSum = (events : List Event) (object : ℕ) (tag : List ℕ) (stacks : List (List ℕ)) → AreStacksOf events (Tagged object tag) stacks
     → balance events object tag ≡ sum_of_tallies events (Tagged object tag) stacks

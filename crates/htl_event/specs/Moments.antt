@@ -7,7 +7,7 @@ use Rattle.htl_event.specs.Events.{Event}
 abbrev pub events_until : ℕ → List Event → List Event
 events_until moment events = filter (λ e. nat_le e.sequence moment) events
 
--- Counted events: those until a moment where one is given, and else all.
+-- Counted events: the events until a moment where one is given, and else all events.
 abbrev pub counted_events : Option ℕ → List Event → List Event
 counted_events None events = events
 counted_events (Some moment) events = events_until moment events

@@ -89,7 +89,7 @@ IsUnbalanced events rows = Lists MostUnbalancedFirst (λ row. IsObjectRow events
 
 -- ---- laws
 
--- of two lists with the same events at other places, each answer is one
+-- two lists with the same events at other places have one answer to each question about processes and objects
 pub record SummariesAreDetermined (xs ys : List Event) : Type 0 where
   pub processes : (a b : List ProcessRow) → IsProcesses xs a → IsProcesses ys b → a ≡ b
   pub unbalanced : (a b : List ObjectRow) → IsUnbalanced xs a → IsUnbalanced ys b → a ≡ b

@@ -28,7 +28,7 @@ total_of c = c.plus + c.minus
 abbrev pub times : (Event → Bool) → List Event → Slot → Sign → ℕ
 times passes events slot sign = count_by (λ e. is_counted slot sign e && passes e) events
 
--- how often it came on each side
+-- how often the slot came on each side, among the events that pass
 abbrev pub count_where : (Event → Bool) → List Event → Slot → Count
 count_where passes events slot =
     record { plus = times passes events slot Plus; minus = times passes events slot Minus }
@@ -40,7 +40,7 @@ has_stack stack e = pointwise nat_eq e.stack stack
 abbrev pub tally : List Event → Slot → List ℕ → Count
 tally events slot stack = count_where (has_stack stack) events slot
 
--- Prefix tally: how often it came with a stack that begins with the path, read from the outermost call.
+-- Prefix tally: how often the slot came with a stack that begins with the path, read from the outermost call.
 abbrev pub under : List Event → List ℕ → Slot → Count
 under events path slot = count_where (λ e. starts_with nat_eq (outer e.stack) path) events slot
 
@@ -85,14 +85,14 @@ abbrev pub AreOpenSince : (Event → Type 0) → ℕ → Option ℕ → List Eve
 AreOpenSince among process None rows = IsOutstanding among process rows
 AreOpenSince among process (Some moment) rows = IsDiff among process moment rows
 
--- Leaking stacks (this project's own): each stack that opened so many of these handles at least, with their number, the greatest
--- number first and then in stack order.
+-- Leaking stacks (this project's own): each stack that opened some of the handles that `AreOpenSince` names, and at least `at_least` of
+-- them, with their number, the greatest number first and then in stack order.
 pub record IsLeaksSince (among : Event → Type 0) (process : ℕ) (since : Option ℕ) (at_least : ℕ) (rows : List (List ℕ × ℕ)) : Type 0 where
   pub handles : List Event
   pub are : AreOpenSince among process since handles
   pub stacks :
       Lists MostFirst (λ row. (row.1 ≡ count_by (has_stack row.0) handles) × ((0 < row.1) × (at_least ≤ row.1))) rows
 
--- the stacks of all outstanding handles
+-- the leaking stacks of all outstanding handles
 abbrev pub IsLeaks : (Event → Type 0) → ℕ → List (List ℕ × ℕ) → Type 0
 IsLeaks among process rows = IsLeaksSince among process None 1 rows

@@ -3,7 +3,7 @@ use Rattle.std.specs.Prelude.{ℕ, List, codes}
 use Rattle.htl_event.specs.declared.kind.Kind.{Kind}
 use Rattle.htl_event.specs.declared.kind.Kind.TheVariants.{Opened, Closed, BadRef, Snapshot, Ref, Deref, Exited}
 
--- as bytes
+-- the word of a kind, as bytes
 abbrev pub word_of : Kind → List ℕ
 word_of Opened = codes "OPEN"
 word_of Closed = codes "CLOSE"

@@ -31,7 +31,7 @@ pub record IsTakenOf {S K : Type 0} (gathers : S → K → List Content → Type
   pub each : reads ≤ length (taken segments rest)
   pub took : Took gathers old new segments
 
--- the same where the bytes of the source are known
+-- where the bytes of the source are known, it took the segments that reads gave of them, as `IsTakenOf` says
 pub record IsTakenTo {S K : Type 0} (gathers : S → K → List Content → Type 0) (old new : K) (given left : Option (List ℕ)) (rest : List ℕ)
     (offset reads : ℕ) : Type 0 where
   pub known : IfSome given (λ bytes. IsTakenOf gathers old new bytes left rest offset reads)

@@ -13,7 +13,7 @@ use Rattle.htl_reading.specs.declared.parts.SourcePart.{SourcePart}
 abbrev pub IsAnother : {K : Type 0} → (K → K → List Content → Type 0) → K → K → List Content → Type 0
 IsAnother {K} gathers keeper new segments = (kind : K) (before : List Content) → gathers kind keeper before → gathers kind new segments
 
--- Keepers of this one's kind took the segments of the bytes: each of them those of a piece, one piece after the other.
+-- Keepers of this one's kind took the segments of the bytes in order: each keeper took the segments of one piece of the bytes.
 abbrev pub TookInOrder : {K : Type 0} → (K → K → List Content → Type 0) → K → List K → List ℕ → Type 0
 TookInOrder gathers keeper [] bytes = bytes ≡ []
 TookInOrder gathers keeper (new ∷ more) bytes =

@@ -17,8 +17,8 @@ TookToEnd gathers old new early_end bytes =
     (segments : List Content) × (rest : List ℕ) × Splits bytes segments rest × IsLeft segments rest early_end
     × Took gathers old new segments
 
--- It took the whole segments of those of these bytes that were read: others are left, and what was read behind the segments
--- begins no whole one.
+-- Some of these bytes were read, and the others are left. It took the whole segments at the front of what was read, and what stands
+-- behind them begins no whole one.
 pub record TookRead {S K : Type 0} (gathers : S → K → List Content → Type 0) (old new : K) (left : Option (List ℕ)) (bytes : List ℕ)
     : Type 0 where
   pub segments : List Content

@@ -1,5 +1,5 @@
--- The first rule of the format HLS1 that the parts of a segment break: those of the header first, then
--- those of one event after the other.
+-- The first rule of the format HLS1 that the parts of a segment break: the header's rules first, then
+-- the rules of each event in turn.
 use Rattle.std.specs.Prelude.{◌≡◌, MatchOption, MatchResult, Result}
 use Rattle.std.specs.Prelude.{ℕ, ◌+◌, List, [], ◌∷◌, length, not, ◌||◌, ◌==◌, nat_lt, nat_le, if◌then◌else◌, Option, Some, None}
 use Rattle.htl_event.specs.Events.{Event}
@@ -10,7 +10,7 @@ use Rattle.htl_segment.specs.Versions.{limits_of}
 use Rattle.htl_segment.specs.Content.{Content, kind_code, fields_fit, Fits}
 use Rattle.htl_segment.specs.Faults.{or_else}
 
--- of the event at place i, after one with the last sequence
+-- the first fault of an event: its place is i, and the event before it has the sequence `last`, which is 0 for the first
 unfoldable pub event_fault : Version → ℕ → ℕ → Event → Option Fault
 event_fault v i last e =
     if nat_le e.sequence last then Some (faults.Sequence i)
@@ -19,7 +19,7 @@ event_fault v i last e =
     else if not (fields_fit e.kind e.handle e.object e.tag) then Some (faults.Field i)
     else None
 
--- of the events from place i on
+-- the first fault of the events from place i on
 unfoldable pub events_fault : Version → ℕ → ℕ → List Event → Option Fault
 events_fault v i last [] = None
 events_fault v i last (e ∷ es) = or_else (event_fault v i last e) (events_fault v (i + 1) e.sequence es)

@@ -45,11 +45,11 @@ pub record SegmentAt (bytes : List ℕ) (offset : ℕ) : Type 0 where
 abbrev pub cut_off : List ℕ → Fault
 cut_off rest = if nat_lt (length rest) 32 then faults.Short else faults.Cut
 
--- No header yet, or one without a fault that states a greater length: more bytes may make a segment of it.
+-- No header yet, or one without a fault that states a greater length: more bytes may complete it to a segment.
 pub record IsRest (rest : List ℕ) : Type 0 where
   pub cut_off : (length rest < 32) ⊎ ((header_fault rest ≡ None) × (length rest < length_in rest))
 
--- some segments, and then at this offset the last bytes, which more bytes may make a segment of
+-- some segments, and then at this offset the last bytes, which more bytes may complete to a segment
 pub record RestAt (bytes : List ℕ) (offset : ℕ) : Type 0 where
   pub before : List Content
   pub rest : List ℕ
@@ -58,18 +58,18 @@ pub record RestAt (bytes : List ℕ) (offset : ℕ) : Type 0 where
   pub some : 0 < length rest
   pub is_rest : IsRest rest
 
--- more bytes may make a segment of those that have this fault
+-- bytes with this fault only end too early: more bytes may complete them to a segment
 abbrev pub is_early_end : Fault → Bool
 is_early_end faults.Short = true
 is_early_end faults.Cut = true
 is_early_end fault = false
 
--- Why nothing is split off at the offset: no more bytes make a segment of those that begin there, or a
+-- Why nothing is split off at the offset: no more bytes complete those that begin there to a segment, or a
 -- segment begins there, for which memory was refused.
 abbrev pub IsRefused : List ℕ → ℕ → Fault → Type 0
 IsRefused bytes offset fault =
     (BundleFault bytes offset fault × (is_early_end fault ≡ false)) ⊎ ((fault ≡ faults.NoMemory) × SegmentAt bytes offset)
 
--- the same of a piece, of which the last bytes are kept
+-- Why a piece is refused: nothing is split off at the offset, or the last bytes begin there, and memory to keep them was refused.
 abbrev pub IsPieceRefused : List ℕ → ℕ → Fault → Type 0
 IsPieceRefused bytes offset fault = IsRefused bytes offset fault ⊎ ((fault ≡ faults.NoMemory) × RestAt bytes offset)

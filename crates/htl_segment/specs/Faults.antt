@@ -1,5 +1,5 @@
--- The first rule of the format HLS1 that bytes break: the header's rules from left to right, then those of
--- one record after the other.
+-- The first rule of the format HLS1 that bytes break: the header's rules from left to right, then the
+-- rules of each record in turn.
 use Rattle.std.specs.Prelude.{ℕ, zero, suc, ◌+◌, ◌*◌, ◌-◌, List, length, take, drop, slice_index, not, ◌||◌, ◌==◌, nat_eq, nat_lt, nat_le}
 use Rattle.std.specs.Prelude.{is_none, if◌then◌else◌, Option, Some, None, codes}
 use Rattle.std.specs.List.{starts_with}
@@ -29,7 +29,7 @@ header_fault b =
     else if nat_lt (length_in b) 32 || nat_lt (limits_of (version_in b)).len (length_in b) then Some faults.Length
     else None
 
--- of the record at the front, at place i and after one with the last sequence
+-- the first fault of the record at the front: its place is i, and the record before it has the sequence `last`, which is 0 for the first
 unfoldable pub record_fault : Version → ℕ → ℕ → List ℕ → Option Fault
 record_fault v i last b =
     if nat_lt (length b) 36 then Some (faults.RecordShort i)
@@ -40,7 +40,7 @@ record_fault v i last b =
     then Some (faults.Field i)
     else None
 
--- of this many records from place i on, which have to fill the bytes
+-- the first fault of this many records from place i on, which have to fill the bytes
 unfoldable pub records_fault : Version → ℕ → ℕ → ℕ → List ℕ → Option Fault
 records_fault v zero i last b = if length b == 0 then None else Some faults.Excess
 records_fault v (suc n) i last b =

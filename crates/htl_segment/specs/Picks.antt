@@ -15,7 +15,7 @@ use Rattle.htl_segment.specs.declared.picks.Picks.{Picks}
 abbrev pub events_in : List (Vec Event) → List Event
 events_in lists = flat_map (λ list. list.items) lists
 
--- They are those of these segments: an outline of each, the events that are asked about, and the sequences of all.
+-- They are the picks of these segments: an outline of each, the events that are asked about, and the sequences of all.
 pub record ArePicksOf (interest : Interest) (picks : Picks) (segments : List Content) : Type 0 where
   pub about : picks.interest ≡ interest
   pub outlines : picks.outlines.items ≡ map outline_of segments

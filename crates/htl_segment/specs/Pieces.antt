@@ -44,8 +44,8 @@ finish_of s = ended s.fault (start_of s) s.rest
 abbrev pub joined : List (Bor (List ℕ)) → List ℕ
 joined pieces = flat_map (λ piece. piece.now) pieces
 
--- Memory was refused for what begins at this offset of the first pieces: a segment, or the last bytes, of
--- which more may make one.
+-- Memory was refused for what begins at this offset of the first pieces: a segment, or the last bytes, which
+-- more bytes may complete to one.
 pub record AsksMemory (pieces : List (Bor (List ℕ))) (offset : ℕ) : Type 0 where
   pub taken : ℕ
   pub asked : SegmentAt (joined (take taken pieces)) offset ⊎ RestAt (joined (take taken pieces)) offset

@@ -28,11 +28,11 @@ first_of (Absent p) = 0
 abbrev pub IsGapBefore : Gap → Gap → Type 0
 IsGapBefore a b = (processor_of a < processor_of b) ⊎ ((processor_of a ≡ processor_of b) × (first_of a < first_of b))
 
--- Gaps: all of them, by processor and then by number.
+-- Gaps: all gaps, by processor and then by number.
 abbrev pub IsGaps : (ℕ → ℕ → Type 0) → ℕ → List Gap → Type 0
 IsGaps has processors gaps = Lists IsGapBefore (IsGap has processors) gaps
 
--- the gaps of a key set are one list, and sets with the same keys have the same
+-- a key set has one list of gaps, and sets with the same keys have equal lists
 abbrev pub GapsAreDetermined : Type 0
 GapsAreDetermined = (S R : ℕ → ℕ → Bool) (processors : ℕ) (a b : List Gap) → ((p n : ℕ) → p < processors → S p n ≡ R p n)
     → IsGaps (λ p n. S p n ≡ true) processors a → IsGaps (λ p n. R p n ≡ true) processors b → a ≡ b

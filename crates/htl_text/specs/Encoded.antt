@@ -121,7 +121,7 @@ abbrev pub ends_before : List (List (List ℕ)) → Bool
 ends_before [] = true
 ends_before (ws ∷ more) = begins_segment (item_in ws)
 
--- Lines of segments, and then those of one that the format can't encode, up to its end.
+-- Lines of segments, and then the lines of one that the format can't encode, up to its end.
 pub record IsSegmentFault (lines : List (List ℕ)) (line : ℕ) (fault : Fault) : Type 0 where
   pub before : List (List ℕ)
   pub first : List ℕ

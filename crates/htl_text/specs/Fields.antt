@@ -27,7 +27,7 @@ field_name Frame = codes "frame"
 abbrev pub address_value : List ℕ → Option ℕ
 address_value = hexadecimal_number (2 ^ 64 - 1)
 
--- a handle: the same, at most 0xffffffff
+-- a handle: 1 to 16 hexadecimal digits of either case, after an optional `0x`, whose number is at most 0xffffffff
 abbrev pub handle_value : List ℕ → Option ℕ
 handle_value = hexadecimal_number (2 ^ 32 - 1)
 

@@ -161,7 +161,7 @@ node_rows counts below_it = map (λ e. (([], e.0), e.1)) counts ++ flat_map (λ 
 abbrev pub rows_step : {A : Type 0} → Node-F A Tree → Tree
 rows_step x = along x.frames.items (node_rows x.counts.items x.children.items)
 
--- the same, by path from where all of the node's frames are left
+-- the rows of a node and of those below it, by path that begins with the node's frames
 abbrev pub rows_of : {A : Type 0} → Node A → Tree
 rows_of {A} = fold-Node A Tree rows_step
 
@@ -169,7 +169,7 @@ rows_of {A} = fold-Node A Tree rows_step
 abbrev pub rows : {A : Type 0} → Position A → Tree
 rows c = along c.0 (node_rows (counts_of c.1) (map (λ k. (k.0, rows_of k.1)) (children_of c.1)))
 
--- the same, by stack
+-- the counts of a position and of all further in, by stack
 abbrev pub tree_at : {A : Type 0} → Position A → Tree
 tree_at c = map (λ row. ((reverse row.0.0, row.0.1), row.1)) (rows c)
 

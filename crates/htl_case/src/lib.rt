@@ -19,19 +19,19 @@
 //!
 //! `specs/` is read in this order: `Cases` (what a case is), `Faults` (the rules that a list of
 //! segments may break), `Picked` (what is picked of a case), `Spans` (the first and the last
-//! sequence), `Complete` (up to which moment no segment is missing); `Reached` (which keys a list
-//! of steps brings to an analyst), `Answers` (the answers to its questions) and `Plays` (why steps
-//! aren't played), which are all that `answer_after` says; `Questions`, `Histories` and `Headline`,
-//! which speak of states; `Final` (when an answer is final) and `TakenCases` (what an analyst answers
-//! that took the segments of a case). `Ordered`, `Outlined`, `Listed` and `Changes` serve private
-//! clauses alone. In `proofs/`, `KeyOrder` shows what a sort by key leaves,
-//! `Repeats` what is left without equal repeats, `Twice` which sequences come twice, `Scanned`
-//! where they fall, `Outcomes` that a list is one case or breaks one rule first, `Outlined` which
-//! keys come twice, `Moved` what stays where elements change places, `Counted` which events there
-//! are until a moment, `SpanLaws` what their span is, `Pickings` what was picked of segments,
-//! `Stepped` what a step leaves of each analyst, `Histories` what a history does, `Determined` that
-//! a question has one answer, `Headlines` the headline, `Mergeable` that any two analysts have a
-//! merge, `FinalAnswers` which answers are final, and `TakenCases` which are those over a case.
+//! sequence), `Complete` (up to which moment no segment is missing); `Plays` (why steps aren't
+//! played), `Reached` (which keys a list of steps brings to an analyst) and `Answers` (the answers
+//! to its questions), which are all that `answer_after` says; `Questions`, `Histories` and
+//! `Headline`, which speak of states; `Final` (when an answer is final) and `TakenCases` (what an
+//! analyst answers that took the segments of a case). `Ordered`, `Outlined`, `Listed` and `Changes`
+//! serve private clauses alone. In `proofs/`, `KeyOrder` shows what a sort by key leaves, `Repeats`
+//! what is left without equal repeats, `Twice` which sequences come twice, `Scanned` where they
+//! fall, `Outcomes` that a list is one case or breaks one rule first, `Outlined` which keys come
+//! twice, `Moved` what stays where elements change places, `Counted` which events there are until a
+//! moment, `SpanLaws` what their span is, `Pickings` what was picked of segments, `Stepped` what a
+//! step leaves of each analyst, `Histories` what a history does, `Determined` that a question has
+//! one answer, `Headlines` the headline, `Mergeable` that any two analysts have a merge,
+//! `FinalAnswers` which answers are final, and `TakenCases` which are those over a case.
 #![tactic(auto)]
 
 mod asking;

@@ -1,22 +1,28 @@
 //! Events of handle and reference traces, and what is asked of a list of them.
 //!
 //! `specs/` has the definitions, which everything above cites; `specs/Lib` names them in reading
-//! order: what an event counts (`Slots`), which handles are outstanding and what a handle's
-//! listing is (`Handles`), how often a slot came (`Tallies`), the rows of a summary (`Summaries`),
-//! each over events as a set or as a flat list, the events that a question asks about
-//! (`Interests`), and what follows from them (`Laws`). The code has little more than the types: only
-//! the making of a shared stack takes memory.
+//! order: events as values (`Events`), what an event counts (`Slots`), the orders of slots and of
+//! stacks (`SlotOrder`, `Stacks`), the ranges of an event's numbers (`Ranges`), lists of the
+//! members of a set (`Members`), which handles are outstanding and what a handle's listing is
+//! (`Handles`), how often a slot came (`Tallies`), the rows of a summary (`Summaries`), each over
+//! events as a set or as a flat list, the events as of a moment (`Moments`), how many handles were
+//! open as of several (`Growth`), the events that a question asks about (`Interests`), the words of
+//! kinds (`Words`), and what follows from all these (`Laws`). The code has little more than the
+//! types: only the making of a shared stack takes memory.
 //!
 //! Files, in reading order: `kind.rt` and `event.rt` (an event), `stack.rt` and `shared_stack.rt`
 //! (its stack, of its own or shared), `slot.rt` (what it is counted under), `event_list.rt` (lists
 //! of events), `interest.rt` (the events that a question asks about), `summary.rt` (rows of a
-//! summary), `memory.rt` (the error for refused memory), `laws.rt` (the laws of the definitions).
+//! summary), `growth.rt` (the span and the points of a growth), `until.rt` (the events of a list up
+//! to a moment), `memory.rt` (the error for refused memory), `laws.rt` (the laws of the
+//! definitions).
 //!
 //! In `proofs/`, `Members`, `Orders` and `Ordered` are on lists of members in order, `EventTests`
-//! on tests of one event; `Determined`, `Unions`, `Counts`, `Sums`, `Summarized`, `Wanted` and
-//! `WantedSummaries` show the laws. `ComputedHandles` and `ComputedCounts` have a function for each
-//! answer, with the lemma that its value is the answer, and `RowsHandles` and `RowsCounts` worked
-//! answers by it.
+//! and `EventsEqual` on tests of one event and of two, `Untils` on the events until a moment,
+//! `WantedLists` on those that are asked about; `Determined`, `Unions`, `Counts`, `Sums`,
+//! `Summarized`, `Wanted` and `WantedSummaries` show the laws. `ComputedHandles` and
+//! `ComputedCounts` have a function for each answer, with the lemma that its value is the answer,
+//! and `RowsHandles` and `RowsCounts` worked answers by it.
 #![tactic(auto)]
 
 mod event;

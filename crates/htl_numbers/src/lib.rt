@@ -2,7 +2,8 @@
 //! and those of the text form of segments.
 //!
 //! `specs/Numbers` defines the texts that are numbers, and the number of each. They have digits and
-//! nothing else: no sign, no blank and no separator. A text is its bytes.
+//! nothing else: no sign, no blank and no separator. `specs/Written` defines how the crates above
+//! write numbers in hexadecimal digits. A text is its bytes.
 #![tactic(auto)]
 
 ghost use Rattle.std.specs.Prelude.{◌≡◌, ◌≤◌, ◌⊎◌, IfSome};

@@ -12,6 +12,6 @@ opens_many at_least row = nat_le at_least row.1.plus
 abbrev pub counted_first : (Slot × List ℕ) × Count → Reverse ℕ × List ℕ
 counted_first row = (record { 0 = row.1.plus }, row.0.1)
 
--- and with the stack first again
+-- a stack and its number, the stack first
 abbrev pub stack_before_number : Reverse ℕ × List ℕ → List ℕ × ℕ
 stack_before_number row = (row.1, row.0.0)

@@ -41,7 +41,7 @@ exits_of process events = filter_map (exit_of process) events
 abbrev pub number_to : List ℕ → ℕ → ℕ
 number_to sequences moment = count_by (λ sequence. nat_le sequence moment) sequences
 
--- so many lives had begun up to the moment, less those that had ended
+-- how many lives had begun up to the moment, less how many had ended
 abbrev pub number_at : List ℕ → List ℕ → ℕ → ℕ
 number_at starts ends moment = number_to starts moment - number_to ends moment
 

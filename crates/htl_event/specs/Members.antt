@@ -17,7 +17,7 @@ pub record IsStrictOrder {X : Type 0} (before : X → X → Type 0) : Type 0 whe
   pub irreflexive : (x : X) → before x x → ⊥
   pub transitive : (x y z : X) → before x y → before y z → before x z
 
--- it has the property, and nothing before it has
+-- the element has the property, and nothing that comes before it has the property
 pub record IsLeastSuch {X : Type 0} (Before : X → X → Type 0) (P : X → Type 0) (x : X) : Type 0 where
   pub holds : P x
   pub least : (y : X) → Before y x → P y → ⊥

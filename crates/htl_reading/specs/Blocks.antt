@@ -15,7 +15,7 @@ abbrev pub of_segment : ℕ → Fault → SourceFault
 of_segment offset faults.NoMemory = NoMemory
 of_segment offset fault = Segment offset fault
 
--- it is out of memory
+-- the fault is that memory was refused
 abbrev pub IsNoMemory : SourceFault → Type 0
 IsNoMemory fault = fault ≡ NoMemory
 

@@ -9,7 +9,7 @@ use Rattle.htl_reading.specs.Keepers.{IsTakenTo}
 use Rattle.htl_reading.specs.Sources.{AsksMemory, IsReadToFault}
 use Rattle.htl_reading.specs.declared.parts.SourcePart.{SourcePart}
 
--- it is of another keeper's kind, and took these segments
+-- the new keeper is of this keeper's kind, and took these segments
 abbrev pub IsAnother : {K : Type 0} → (K → K → List Content → Type 0) → K → K → List Content → Type 0
 IsAnother {K} gathers keeper new segments = (kind : K) (before : List Content) → gathers kind keeper before → gathers kind new segments
 

@@ -11,14 +11,14 @@ use Rattle.htl_reading.specs.declared.fault.SourceFault.TheVariants.{Segment, Re
 use Rattle.htl_reading.specs.declared.outcome.Bundle.{Bundle}
 use Rattle.htl_reading.specs.declared.outcome.EarlyEnd.{EarlyEnd}
 
--- it took the segments that these bytes begin with, and what is left behind them is told
+-- the keeper took the segments that these bytes begin with, and what is left behind them is told
 abbrev pub TookToEnd : {S K : Type 0} → (S → K → List Content → Type 0) → K → K → Option EarlyEnd → List ℕ → Type 0
 TookToEnd gathers old new early_end bytes =
     (segments : List Content) × (rest : List ℕ) × Splits bytes segments rest × IsLeft segments rest early_end
     × Took gathers old new segments
 
--- Some of these bytes were read, and the others are left. It took the whole segments at the front of what was read, and what stands
--- behind them begins no whole one.
+-- Some of these bytes were read, and the others are left. The keeper took the whole segments at the front of what was read, and what
+-- stands behind them begins no whole one.
 pub record TookRead {S K : Type 0} (gathers : S → K → List Content → Type 0) (old new : K) (left : Option (List ℕ)) (bytes : List ℕ)
     : Type 0 where
   pub segments : List Content
@@ -29,8 +29,8 @@ pub record TookRead {S K : Type 0} (gathers : S → K → List Content → Type 
   pub is_rest : IsRest rest
   pub took : Took gathers old new segments
 
--- What it took before this fault of a source that gave some of these bytes, and has others left: the segments before the bytes
--- that are no segment, and where a read failed those that were read. After refused memory nothing is promised.
+-- What a keeper took before this fault of a source that gave some of these bytes, and has others left: the segments before the bytes
+-- that are no segment, and where a read failed the segments that were read. After refused memory nothing is promised.
 abbrev pub TookBefore : {S K : Type 0} → (S → K → List Content → Type 0) → K → K → Option (List ℕ) → List ℕ → SourceFault → Type 0
 TookBefore gathers old new left bytes (Segment offset fault) = TookUpTo gathers old new bytes offset
 TookBefore gathers old new left bytes Read = TookRead gathers old new left bytes

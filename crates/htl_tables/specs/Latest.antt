@@ -14,7 +14,7 @@ event_at rows process base = find key_cmp (process, base) (keyed rows)
 abbrev pub HasEvent : List Event → Event → Type 0
 HasEvent rows e = event_at rows e.process (base_of e.handle) ≡ Some e
 
--- and the process is this one
+-- the event is of this process, and the table has it for its base handle
 abbrev pub HasEventOf : List Event → ℕ → Event → Type 0
 HasEventOf rows process e = (e.process ≡ process) × HasEvent rows e
 

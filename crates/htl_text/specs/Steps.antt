@@ -76,8 +76,8 @@ with_frame_of address h e = record {
   overfull = overfull_after h e;
 }
 
--- The fault of a draft with an overfull event at place i: that of its held events where it comes first, and else that
--- of the overfull event.
+-- The fault of a draft with an overfull event at place i: the fault of its held events where that comes
+-- first, and else the overfull event's.
 abbrev pub overfull_fault : ℕ → Option Fault → Fault
 overfull_fault i None = faults.Frames i
 overfull_fault i (Some faults.NoMemory) = faults.Frames i
@@ -158,7 +158,7 @@ abbrev pub HasCause : Progress → TextFault → Type 0
 HasCause p (text.Line line fault) = Unit {0}
 HasCause p text.NoMemory = is_some p.draft ≡ true
 
--- so memory is taken only for a text that begins with a segment
+-- memory is taken only for a text that begins with a segment
 abbrev pub NeedsSegment : List ℕ → TextFault → Type 0
 NeedsSegment bytes (text.Line line fault) = Unit {0}
 NeedsSegment bytes text.NoMemory = begins (kept (lines_of_text bytes)) ≡ true

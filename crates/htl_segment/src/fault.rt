@@ -68,8 +68,8 @@ impl Fault {
     ghost use Rattle.std.specs.Prelude.{◌≡◌};
     ghost use Rattle.htl_segment.specs.Bundles.{is_early_end};
 
-    /// Whether the bytes only end too early, so that with more bytes they may be a segment.
-    pub(crate) fn is_early_end(self) -> bool
+    /// Whether the bytes only end too early, so that more bytes may complete them to a segment.
+    pub fn is_early_end(self) -> bool
         ensures { result ≡ is_early_end self }
     {
         matches!(self, Fault::Short | Fault::Cut)

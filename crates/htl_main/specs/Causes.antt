@@ -8,7 +8,7 @@ use Rattle.htl_case.specs.Faults.{IsRefusal}
 use Rattle.htl_case.specs.declared.fault.CaseFault.TheVariants as case_faults
 use Rattle.htl_command.specs.declared.question.Job.{Job}
 use Rattle.htl_main.specs.Inputs.{DecodeAll, IsReportedOfInput, StopsAtInput}
-use Rattle.htl_main.specs.Printed.{IsPrinted, IsTaken, WorkersFit, Printed}
+use Rattle.htl_main.specs.Printed.{IsPrinted, IsAcceptedCase, WorkersFit, Printed}
 use Rattle.htl_main.specs.declared.fault.RunFault.{RunFault}
 use Rattle.htl_main.specs.declared.fault.RunFault.TheVariants.{Write, Memory}
 
@@ -23,7 +23,7 @@ PrintsPart job inputs symbols old new =
 
 -- Why nothing is printed of decoded segments. Memory is asked for where the rules of a case that take none hold.
 abbrev pub IsCauseAfter : List Content → Option (List ℕ) → Job → RunFault → Type 0
-IsCauseAfter segments symbols job Memory = IsRefusal segments case_faults.NoMemory ⊎ ((T : Trace) × IsTaken segments job T)
+IsCauseAfter segments symbols job Memory = IsRefusal segments case_faults.NoMemory ⊎ ((T : Trace) × IsAcceptedCase segments job T)
 IsCauseAfter segments symbols job fault = IsPrinted segments symbols job (Err fault)
 
 -- Why a run ends: the first fault of what was given; or memory was refused where no fault came before, or the lines

@@ -100,7 +100,8 @@ IsMissingOf complete a fault = ⊥
 
 -- Some segments were added to others, of which so many keys had been taken: how many they are, how many of them are new, how much of its
 -- trace the analyst has, and which inputs are cut.
-pub record IsAdded (complete : Bool) (now : Option State) (before segments : ℕ) (cut : Option CutInputs) (added : Added) : Type 0 where
+pub record IsAddedToFolded (complete : Bool) (now : Option State) (before segments : ℕ) (cut : Option CutInputs) (added : Added)
+    : Type 0 where
   pub analyst : State
   pub there : now ≡ Some analyst
   pub segments_are : added.segments ≡ segments

@@ -110,9 +110,9 @@ IsOfPlace (cases.OtherProcessors at) place = at ≡ place
 IsOfPlace fault place = ⊤
 
 -- where the taking ends: behind the last segment, or before the first that is unfit
-abbrev pub EndsAt : List Content → List Content → List Content → Option CaseFault → Type 0
-EndsAt before taken later None = later ≡ []
-EndsAt before taken later (Some fault) =
+abbrev pub TakingEndsAt : List Content → List Content → List Content → Option CaseFault → Type 0
+TakingEndsAt before taken later None = later ≡ []
+TakingEndsAt before taken later (Some fault) =
     (s : Content) × (more : List Content) × (later ≡ s ∷ more) × IsUnfit (before ++ taken) s fault × IsOfPlace fault (counted taken)
 
 -- Taken: of the segments that were given all, or those before the first that is unfit.
@@ -120,7 +120,7 @@ pub record TakesUpTo (before given taken : List Content) (unfit : Option CaseFau
   pub later : List Content
   pub cut : given ≡ taken ++ later
   pub accepted : AreAccepted before taken
-  pub ends : EndsAt before taken later unfit
+  pub ends : TakingEndsAt before taken later unfit
 
 -- ---- what a reading brings, and why it ends
 

@@ -47,13 +47,13 @@ HasSymbolFault None fault = ⊥
 HasSymbolFault (Some bytes) fault = (fault ≢ symbol_faults.NoMemory) × Reads (records_of bytes) (Err fault)
 
 -- the case of the segments, which has no gap up to the job's moment where the job asks for a complete one
-abbrev pub IsTaken : List Content → Job → Trace → Type 0
-IsTaken segments job T = IsCaseOf segments T × (job.setting.complete ≡ true → IsCompleteUntil T job.until)
+abbrev pub IsAcceptedCase : List Content → Job → Trace → Type 0
+IsAcceptedCase segments job T = IsCaseOf segments T × (job.setting.complete ≡ true → IsCompleteUntil T job.until)
 
 -- The lines are those of the answer over it. Where the status says what an answer finds, there is an event of what it is about.
 pub record AreAnswerLines (segments : List Content) (symbols : Option (List ℕ)) (job : Job) (lines : List ℕ) : Type 0 where
   pub trace : Trace
-  pub taken : IsTaken segments job trace
+  pub taken : IsAcceptedCase segments job trace
   pub table : List Range
   pub named : HasSymbols symbols table
   pub about : job.exit_code ≡ true → HasSubject trace job true
@@ -68,10 +68,10 @@ IsPrinted segments symbols job (Err (Case fault)) = IsOutcome segments (Err faul
 IsPrinted segments symbols job (Err (Incomplete processor number)) =
     (job.setting.complete ≡ true)
     × (T : Trace) × IsCaseOf segments T × (IsCompleteUntil T job.until → ⊥) × IsLeastMissing T processor number
-IsPrinted segments symbols job (Err (Symbols fault)) = (T : Trace) × IsTaken segments job T × HasSymbolFault symbols fault
+IsPrinted segments symbols job (Err (Symbols fault)) = (T : Trace) × IsAcceptedCase segments job T × HasSymbolFault symbols fault
 IsPrinted segments symbols job (Err NoSubject) =
     (job.exit_code ≡ true)
-    × (T : Trace) × IsTaken segments job T × (table : List Range) × HasSymbols symbols table × HasSubject T job false
+    × (T : Trace) × IsAcceptedCase segments job T × (table : List Range) × HasSymbols symbols table × HasSubject T job false
 IsPrinted segments symbols job (Err other) = ⊥
 
 -- the number of workers is allowed

@@ -11,7 +11,7 @@ ghost use Rattle.htl_case.specs.Cases.{IsCaseOf};
 ghost use Rattle.htl_main.specs.Completeness.{IsComplete};
 ghost use Rattle.htl_main.specs.Coverages.{IsCoverage};
 ghost use Rattle.htl_main.specs.Folders.{IsMissingOf};
-ghost use Rattle.htl_main.specs.Folders.{IsAdded, IsNotAdded, IsSymbolsFault};
+ghost use Rattle.htl_main.specs.Folders.{IsAddedToFolded, IsNotAdded, IsSymbolsFault};
 ghost use Rattle.htl_main.specs.Folding.{AreFolded, AreReadToFold};
 ghost use Rattle.htl_main.specs.Folding.{IsBeginningRefused, IsFolded, IsFoldingRefused, IsHalfKnown};
 ghost use Rattle.htl_main.specs.Origins.{by_fault};
@@ -146,7 +146,8 @@ fn added_to(
     before: u64,
     taken: Taken,
 ) -> Result<Added, RunFault>
-    ensures ok { IfOk result (IsAdded complete folded.now.analyst before taken.segments taken.cut) }
+    ensures ok { IfOk result (IsAddedToFolded complete folded.now.analyst before taken.segments
+        taken.cut) }
     ensures err { IfErr result (IsNotAdded complete folded.now.analyst) }
 {
     let Some(analyst) = &folded.analyst else {

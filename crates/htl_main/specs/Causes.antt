@@ -16,7 +16,7 @@ use Rattle.htl_main.specs.declared.fault.RunFault.TheVariants.{Write, Memory}
 abbrev pub Prints : Job → List (List ℕ) → Option (List ℕ) → Option (List ℕ) → Option (List ℕ) → Type 0
 Prints job inputs symbols old new = (lines : List ℕ) × Printed job inputs symbols (Ok lines) × Appends old new lines
 
--- or some first part of them
+-- the known bytes of a sink got some first part of the printed lines
 abbrev pub PrintsPart : Job → List (List ℕ) → Option (List ℕ) → Option (List ℕ) → Option (List ℕ) → Type 0
 PrintsPart job inputs symbols old new =
     (lines : List ℕ) × Printed job inputs symbols (Ok lines) × AppendsPrefix old new lines

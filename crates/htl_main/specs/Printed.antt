@@ -30,7 +30,7 @@ lines_of_answer Json table until top answer = flat_map json_line (values_of tabl
 lines_of_answer Folded table until top (Leaks process since rows) = folded_text table top rows.items
 lines_of_answer format table until top answer = text_of table until top answer
 
--- those of the answer to the job's question over a trace, of which events count up to the job's moment
+-- the lines of the answer to the job's question over a trace, of which events count up to the job's moment
 abbrev pub IsText : Trace → List Range → Job → List ℕ → Type 0
 IsText T table job lines =
     (until : Option ℕ) × IsMomentOf T job.until until
@@ -41,7 +41,7 @@ abbrev pub HasSymbols : Option (List ℕ) → List Range → Type 0
 HasSymbols None table = table ≡ []
 HasSymbols (Some bytes) table = Reads (records_of bytes) (Ok table)
 
--- its first fault (out of memory is none)
+-- the first fault of the table of symbols (out of memory is none)
 abbrev pub HasSymbolFault : Option (List ℕ) → SymbolFault → Type 0
 HasSymbolFault None fault = ⊥
 HasSymbolFault (Some bytes) fault = (fault ≢ symbol_faults.NoMemory) × Reads (records_of bytes) (Err fault)
@@ -50,7 +50,7 @@ HasSymbolFault (Some bytes) fault = (fault ≢ symbol_faults.NoMemory) × Reads 
 abbrev pub IsAcceptedCase : List Content → Job → Trace → Type 0
 IsAcceptedCase segments job T = IsCaseOf segments T × (job.setting.complete ≡ true → IsCompleteUntil T job.until)
 
--- The lines are those of the answer over it. Where the status says what an answer finds, there is an event of what it is about.
+-- The lines are those of the answer over the case. Where the status says what an answer finds, there is an event of what it is about.
 pub record AreAnswerLines (segments : List Content) (symbols : Option (List ℕ)) (job : Job) (lines : List ℕ) : Type 0 where
   pub trace : Trace
   pub taken : IsAcceptedCase segments job trace

@@ -27,7 +27,7 @@ IsAssociative = (T : Trace) (a b c ab bc l r : State) → IsTrace T → IsRight 
 abbrev pub IsIdempotent : Type 0
 IsIdempotent = (T : Trace) (a c : State) → IsTrace T → IsRight a T → IsMerge a a c → IsSame c a
 
--- the state is above both, and below every state that is above both
+-- the state `m` is above `a` and `b`, and below every state that is above both
 pub record IsLeastAbove (T : Trace) (a b m : State) : Type 0 where
   pub left : IsBelow T a m
   pub right : IsBelow T b m

@@ -32,7 +32,7 @@ pub record TakeAccepted (a : State) (s : Content) : Type 0 where
   pub of_state : IsOfState a s
   pub agrees : HoldsOther a s → ⊥
 
--- both hold a segment of this key, and the two differ
+-- both states hold a segment of this key, and the two segments differ
 pub record HoldTwo (a b : State) (p n : ℕ) : Type 0 where
   pub segment : Content
   pub here : Contains (held_at b.parts p) segment

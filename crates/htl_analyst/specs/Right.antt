@@ -80,11 +80,11 @@ pub record IsStanding (a : State) (T : Trace) : Type 0 where
   pub right : IsRight a T
   pub least : (p : ℕ) → HasTaken a p (front_at a.taken p) → ⊥
 
--- every key of the one is a key of the other
+-- every key of the first state is a key of the second
 abbrev pub KeysAreIn : State → State → Type 0
 KeysAreIn a b = (p n : ℕ) → HasTaken a p n → HasTaken b p n
 
--- Order of states: both are right about the trace, and the other has all keys of the one.
+-- Order of states: both are right about the trace, and the second has all keys of the first.
 pub record IsBelow (T : Trace) (a b : State) : Type 0 where
   pub lower : IsRight a T
   pub upper : IsRight b T

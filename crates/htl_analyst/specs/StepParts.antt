@@ -33,7 +33,7 @@ pub record AreGreaterOf (a b : State) (parts : List Part) (n : ℕ) : Type 0 whe
 abbrev pub run_length : State → ℕ → ℕ
 run_length a p = reach_of (numbers_at a.taken p) - front_at a.taken p
 
--- the events of these segments
+-- the events of the held segments that go on from the processor's front without a gap
 abbrev pub run_of : State → ℕ → List Event
 run_of a p = all_events (take (run_length a p) (held_at a.parts p))
 

@@ -11,7 +11,8 @@ use htl_taken::Taken;
 use std::alloc::Allocator;
 use std::marker::Model;
 
-/// What is known of a trace: the segments that were taken, and the counts and tables of their events.
+/// What is known of a trace: the segments that were taken, and the counts and tables of their
+/// events.
 #[derive(Drop)]
 pub struct Analyst<A: Allocator> {
     pub(crate) trace_id: u64,

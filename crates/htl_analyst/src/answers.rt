@@ -1,5 +1,5 @@
-//! Answers: those of `htl_answers` over the parts of all processors. They are the definitions' answers
-//! over the events of the taken keys.
+//! Answers: those of `htl_answers` over the parts of all processors. They are the definitions'
+//! answers over the events of the taken keys.
 use crate::analyst::Analyst;
 use crate::part::Part;
 use htl_answers as answers;

@@ -155,8 +155,8 @@ impl<A: Allocator + Clone> Part<A> {
     ghost use Rattle.htl_analyst.specs.States.{part};
     ghost use Rattle.htl_analyst.specs.StepParts.{CanFold, IsFoldedWith};
 
-    /// The fold of the part with its first held segments folded too. Where the front is 0 nothing was
-    /// folded before.
+    /// The fold of the part with its first held segments folded too. Where the front is 0 nothing
+    /// was folded before.
     fn folded_with(&self, front: u32, run: usize) -> Result<Folded<A>, NoMemory>
         requires { CanFold run self.now }
         ensures { IfOk result (IsFoldedWith front run self.now) }

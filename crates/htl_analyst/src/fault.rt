@@ -33,8 +33,8 @@ pub enum MergeFault {
     OtherTrace,
     /// The analysts have two processor counts.
     OtherProcessors,
-    /// Both hold a segment of this processor and number, and the two are different. It is the least such
-    /// processor, and the least such number there.
+    /// Both hold a segment of this processor and number, and the two are different. It is the least
+    /// such processor, and the least such number there.
     Conflict(u16, u32),
     NoMemory,
 }

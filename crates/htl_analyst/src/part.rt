@@ -6,8 +6,8 @@ use std::alloc::Allocator;
 use std::marker::Model;
 use std::mem;
 
-/// The segments that wait for others with lower numbers, and the fold of all segments below the front.
-/// It is a `htl_answers::Part`: questions are answered over the parts of all processors.
+/// The segments that wait for others with lower numbers, and the fold of all segments below the
+/// front. It is a `htl_answers::Part`: questions are answered over the parts of all processors.
 #[derive(Drop)]
 pub struct Part<A: Allocator> {
     pub(crate) held: Vec<Segment, A>,

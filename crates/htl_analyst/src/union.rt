@@ -1,5 +1,5 @@
-//! The union of two analysts: the keys that either has taken, and the segments that are held of these.
-//! Analysts of two traces have none, nor have two that hold different segments of one key.
+//! The union of two analysts: the keys that either has taken, and the segments that are held of
+//! these. Analysts of two traces have none, nor have two that hold different segments of one key.
 
 use crate::analyst::Analyst;
 use crate::fault::MergeFault;
@@ -18,7 +18,8 @@ impl<A: Allocator + Clone> Analyst<A> {
     ghost use Rattle.htl_analyst.specs.Refusals.{MergeRefused, MergeAccepted};
     ghost use Rattle.htl_analyst.specs.StepParts.{IsHeldOfBoth, AreHeldOfBoth};
 
-    /// The keys of both, and parts that hold the segments of the loose numbers and have nothing folded.
+    /// The keys of both, and parts that hold the segments of the loose numbers and have nothing
+    /// folded.
     pub(crate) fn union_of(
         &self,
         other: &Analyst<A>,

@@ -33,7 +33,7 @@ marked quoted (b ∷ more) = (b, quoted) ∷ marked (turned quoted b) more
 abbrev pub separates : ℕ × Bool → Bool
 separates (b, quoted) = is_blank b && not quoted
 
--- something stands there
+-- a list has an element
 abbrev pub is_some : {X : Type 0} → List X → Bool
 is_some [] = false
 is_some (x ∷ more) = true

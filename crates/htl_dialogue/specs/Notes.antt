@@ -34,7 +34,7 @@ first_fault [] = None
 first_fault (reads files (Err refused) ∷ more) = Some refused.fault
 first_fault (other ∷ more) = first_fault more
 
--- why arguments are wrong that are a question, or aren't
+-- why arguments are wrong: since they are no question (`true`), or for another reason (`false`)
 abbrev pub IsFaultIn : Bool → List (List ℕ) → ParseFault → Type 0
 IsFaultIn true arguments fault = RefusesQuestion (meant arguments) fault
 IsFaultIn false arguments fault = IsUsageWith ⊤ fault
@@ -50,13 +50,13 @@ IsFaultOf forgets line fault =
     (fault ≢ Memory) × IsFaultIn (not (asks_forgotten forgets (saying_of line)) && (is_readable line && not (is_read (arguments_of line))))
     (arguments_of line) fault
 
--- after the reply to a question, where the host wants to know: that what it names has no event
+-- the notes after the reply to a question: that what it names has no event, where the host wants to know
 abbrev pub IsAbsenceOf : (Job → Bool → Type 0) → Bool → Job → List Note → Type 0
 IsAbsenceOf HasSubject false job notes = notes ≡ []
 IsAbsenceOf HasSubject true job notes =
     (found : Bool) × HasSubject job found × (notes ≡ (if found then [] else lacks job.question ∷ []))
 
--- after the reply to a line
+-- the notes after the reply to a line
 abbrev pub IsAbsence : (Job → Bool → Type 0) → Bool → Saying → List Note → Type 0
 IsAbsence HasSubject wanted (asks job) notes = IsAbsenceOf HasSubject wanted job notes
 IsAbsence HasSubject wanted nothing notes = notes ≡ []

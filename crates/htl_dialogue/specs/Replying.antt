@@ -19,7 +19,7 @@ use Rattle.htl_main.specs.declared.fault.RunFault.{RunFault}
 use Rattle.htl_main.specs.declared.refused.Refused.{Refused}
 use Rattle.htl_dialogue.specs.declared.saying.Said.TheVariants as said
 
--- of a read of the lines
+-- the fault of a dialogue whose lines could not be read
 abbrev pub of_read : ReadFault → DialogueFault
 of_read reads.Failed = Questions
 of_read reads.NoMemory = NoMemory
@@ -29,7 +29,7 @@ abbrev pub fault_of : Result Added Refused → Option RunFault
 fault_of (Ok added) = None
 fault_of (Err refused) = Some refused.fault
 
--- what is said of a wrong line has such a fault
+-- where a line is wrong, its fault is such a one
 abbrev pub HasFault : (ParseFault → Type 0) → Said → Type 0
 HasFault IsSuch (said.Wrong fault) = IsSuch fault
 HasFault IsSuch said.Nothing = ⊤
@@ -37,15 +37,15 @@ HasFault IsSuch said.Quits = ⊤
 HasFault IsSuch (said.Asks job) = ⊤
 HasFault IsSuch (said.Reads files) = ⊤
 
--- the same of a fault that is not that memory was refused
+-- where a line is wrong, its fault is such a one, and isn't that memory was refused
 abbrev pub HasReason : (ParseFault → Type 0) → Said → Type 0
 HasReason IsSuch = HasFault (λ fault. (fault ≢ Memory) × IsSuch fault)
 
--- the fault of this line, in a dialogue that forgets events or keeps them
+-- where the line is wrong in a dialogue that forgets events, or keeps them, its fault is one of this line
 abbrev pub KeepsFault : Bool → List ℕ → Said → Type 0
 KeepsFault forgets line = HasFault (IsFaultOf forgets line)
 
--- this fault is the one that is said of a wrong line
+-- where a line is wrong, its fault is this one
 abbrev pub IsSaidFault : Said → ParseFault → Type 0
 IsSaidFault of fault = HasFault (λ kept. fault ≡ kept) of
 
@@ -80,7 +80,7 @@ pub record Breaks {S Host : Type 0} (answers : Answers S) (of : Said) (before : 
   pub written : AppendsPrefix old new reply
   pub all : heard ≡ after_notes told host early
 
--- why it got none: memory was refused, or a write failed
+-- why a line got no reply: memory was refused, or a write failed
 abbrev pub IsRefusedReply : {S Host : Type 0} → Answers S → Said → S → Option (List ℕ) → Option (List ℕ) → Bool → (Host → Note → Host)
     → Host → Host → DialogueFault → Type 0
 IsRefusedReply answers of before old new failed told host heard NoMemory = (new ≡ old) × (failed ≡ false) × (heard ≡ host)

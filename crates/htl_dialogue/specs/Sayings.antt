@@ -23,7 +23,7 @@ pub data Saying : Type 0 where
 abbrev pub is_farewell : List ℕ → Bool
 is_farewell word = bytes_eq word (codes "quit") || (bytes_eq word (codes "exit") || bytes_eq word (codes "q"))
 
--- such a word alone
+-- `quit`, or another word for it, alone
 abbrev pub is_quit : List (List ℕ) → Bool
 is_quit (word ∷ []) = is_farewell word
 is_quit arguments = false
@@ -41,7 +41,7 @@ abbrev pub is_read : List (List ℕ) → Bool
 is_read [] = false
 is_read (first ∷ more) = bytes_eq first (codes "read")
 
--- it begins as an option does
+-- the argument begins as an option does
 abbrev pub is_option : List ℕ → Bool
 is_option [] = false
 is_option (b ∷ more) = b == 45
@@ -71,7 +71,7 @@ is_readable line = nat_le (length line) MAX_LINE_LEN && (not (ends_quoted false 
 unfoldable pub saying_of : List ℕ → Saying
 saying_of line = if is_readable line then saying_by (arguments_of line) else wrong
 
--- it asks what needs events, where a dialogue forgets them
+-- the line asks what needs events, and the dialogue forgets them
 abbrev pub asks_forgotten : Bool → Saying → Bool
 asks_forgotten false said = false
 asks_forgotten true (asks job) = needs_events job
@@ -81,11 +81,11 @@ asks_forgotten true other = false
 abbrev pub heard : Bool → Saying → Saying
 heard forgets said = if asks_forgotten forgets said then wrong else said
 
--- What a line says there.
+-- What a line says in a dialogue that forgets events, or keeps them.
 abbrev pub saying_in : Bool → List ℕ → Saying
 saying_in forgets line = heard forgets (saying_of line)
 
--- the same of the program's own type
+-- what a line says, of the program's own type
 abbrev pub saying : Said → Saying
 saying said.Nothing = nothing
 saying said.Quits = quits

@@ -48,7 +48,7 @@ pub trait Host {
 pub struct Conversed {
     /// Whether a line was wrong.
     pub has_wrong: bool,
-    /// Why files were refused, for the first line whose files were.
+    /// The fault of the first line whose files were refused.
     pub first_fault: Option<RunFault>,
 }
 
@@ -82,7 +82,8 @@ impl Conversed {
 /// Why a dialogue ends before its lines do.
 #[derive(Clone, Copy, Debug, PartialEq, Eq, Error)]
 pub enum DialogueFault {
-    /// A read of the lines failed, or the lines had no end within 2^32 reads.
+    /// A read of the lines failed, a line had no end within 2^32 reads, or 2^32 lines didn't end
+    /// the dialogue.
     #[error("hleak: questions: read failed")]
     Questions,
     /// A write failed, or accepted none of the bytes.

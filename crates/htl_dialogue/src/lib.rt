@@ -1,10 +1,11 @@
-//! Dialogues: questions that come line by line, each of which gets its reply before the next is read.
-//! Who answers them stands above: `specs/Dialogues` says of anyone what a dialogue with them is.
+//! Dialogues: questions that come line by line, each of which gets its reply before the next is
+//! read. The crates above give the answers. `specs/Dialogues` says what a dialogue is, whoever
+//! answers.
 //!
 //! Files, in reading order: `line.rt` and `reading.rt` (the lines of a source, as they come),
-//! `splitting.rt` (the arguments of a line), `saying.rt` (what a line says), `dialogue.rt` (what the
-//! host is told beside the replies, how a dialogue went, and why it ends early), `laws.rt` (the bound
-//! of a line).
+//! `splitting.rt` (the arguments of a line), `saying.rt` (what a line says), `dialogue.rt` (what
+//! the host is told beside the replies, how a dialogue went, and why it ends early), `laws.rt` (the
+//! bound of a line).
 //!
 //! In `proofs/`, `Conversing` and `Stopping` show how far a dialogue has come, line by line, and
 //! `Simulated` that what is said of one who answers is said of another whose states follow.

@@ -7,8 +7,8 @@ use htl_segment::Segment;
 use std::alloc::Global;
 use std::snapshot::Snapshot;
 
-/// What desks pass on to each other: segments of one processor, those of the highest numbers first, or
-/// a posted state.
+/// What desks pass on to each other: segments of one processor, those of the highest numbers first,
+/// or a posted state.
 #[derive(Drop)]
 pub enum Parcel {
     /// The segments, and their case. The case serves contracts alone, and takes no memory.

@@ -28,9 +28,10 @@ use std::snapshot::Snapshot;
 use std::sync::Wait;
 
 impl Exchange {
-    /// An exchange and this many desks. The queue holds each run of the case, by processor: one parcel
-    /// for each processor that has a segment. Its segments share their events with the case. Besides
-    /// the runs the queue has room for two posted states a desk. The desks have taken in nothing.
+    /// An exchange and this many desks. The queue holds each run of the case, by processor: one
+    /// parcel for each processor that has a segment. Its segments share their events with the case.
+    /// Besides the runs the queue has room for two posted states a desk. The desks have taken in
+    /// nothing.
     pub fn start<R: Wait>(
         rt: &R,
         alloc: Global,

@@ -12,7 +12,7 @@ address_fields address = (codes "address", shown_address address) ∷ []
 unfoldable pub symbol_fields : List ℕ × List ℕ × ℕ → List Field
 symbol_fields s = (codes "module", string s.0) ∷ (codes "name", string s.1) ∷ (codes "offset", quantity s.2) ∷ []
 
--- none of these where no range has the address
+-- the fields of the range that has an address, or none where no range has it
 abbrev pub named_fields : Option (List ℕ × List ℕ × ℕ) → List Field
 named_fields None = []
 named_fields (Some s) = symbol_fields s

@@ -33,7 +33,7 @@ summary_values until top totals gaps processes objects =
     (summary_head until totals (length gaps) (length processes) (length objects) ∷ [])
     ++ (map missing gaps ++ (map process_row (first_rows top processes) ++ map unbalanced_object (first_rows top objects)))
 
--- the first line counts all rows; those that the text prints follow it
+-- the values of an answer's lines: that of the first line, which counts all rows, and those of the rows that the text prints
 abbrev pub values_of : List Range → Option ℕ → Option ℕ → Answer → List Json
 values_of symbols until top (Outstanding process rows) =
     (process_head (codes "outstanding") process None until (length rows.items) ∷ []) ++ map (opened symbols) (first_rows top rows.items)

@@ -88,7 +88,7 @@ handles_fields row =
     (codes "row", string (codes "PROCESS")) ∷ (codes "process", quantity row.process) ∷ (codes "outstanding", quantity row.outstanding)
     ∷ (codes "opens", quantity row.opens) ∷ (codes "closes", quantity row.closes) ∷ []
 
--- its bad references, its snapshot mark and its last exit
+-- the bad references, the snapshot mark and the last exit of a process
 unfoldable pub moments_fields : ProcessRow → List Field
 moments_fields row = (codes "bad", quantity row.bad) ∷ (codes "mark", quantity row.mark) ∷ (codes "exit", quantity row.exit) ∷ []
 

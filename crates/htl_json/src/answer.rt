@@ -20,8 +20,8 @@ use htl_taken::Gap;
 use std::alloc::{AllocError, Global};
 
 /// The lines of an answer as JSON, each an object and a line feed. The first line has the fields of
-/// the text's first line under the same `until`. Then there is one for each row that the text prints
-/// under the same `top`, in the same order.
+/// the text's first line under the same `until`. Then there is one for each row that the text
+/// prints under the same `top`, in the same order.
 pub fn json_lines(
     alloc: Global,
     answer: &Answer,

@@ -17,16 +17,16 @@ ghost use Rattle.htl_json.specs.Laws.{IsNumber, IsProcessRow, IsTag};
 ghost use Rattle.htl_json.specs.Rows.{bad_reference, counted_stack, leak, listed, missing, opened};
 ghost use Rattle.htl_json.specs.Rows.{point_row, process_row, tag_balance, unbalanced_object};
 
-/// A line is of one value only: where two values are read back, and their lines are the same, so are
-/// the values.
+/// A line is of one value only: where two values are read back, and their lines are the same, so
+/// are the values.
 pub fn a_line_is_of_one_value()
     ensures { (a b : Json) → IsReadBack a → IsReadBack b → json_line a ≡ json_line b → a ≡ b }
 {}
 
-/// A value is of one row only: where two rows have the same value, and their numbers are in the ranges
-/// of their types, the rows are the same. An event is the same in all that its row shows: for an
-/// outstanding handle the base handle, the sequence, the thread and the stack, and for a listed event
-/// the kind, the handle as it was written, the sequence, the thread and the stack.
+/// A value is of one row only: where two rows have the same value, and their numbers are in the
+/// ranges of their types, the rows are the same. An event is the same in all that its row shows:
+/// for an outstanding handle the base handle, the sequence, the thread and the stack, and for a
+/// listed event the kind, the handle as it was written, the sequence, the thread and the stack.
 pub fn a_value_is_of_one_row()
     ensures outstanding { (symbols : List Range) (a b : Event) → InRange a → InRange b
         → opened symbols a ≡ opened symbols b

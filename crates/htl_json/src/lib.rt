@@ -1,7 +1,7 @@
 //! The answers of `htl_report` as JSON, one value on each line.
 //!
-//! `specs/Lines` defines the values and their order; `json_lines` writes their texts. Each is written
-//! as its row is met, a token at a time, so no value is ever held.
+//! `specs/Lines` defines the values and their order; `json_lines` writes their texts. Each is
+//! written as its row is met, a token at a time, so no value is ever held.
 //!
 //! Files, in reading order: `answer.rt` (the lines of each answer); `heads.rt` (their first
 //! lines); a file for the rows of each kind of answer: `events.rt`, `bad.rt`, `counts.rt`,

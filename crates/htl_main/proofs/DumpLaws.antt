@@ -22,7 +22,7 @@ use Rattle.htl_text.specs.Texts.{segment_text}
 use Rattle.htl_main.specs.Inputs.{AsksMemory, HasBytes}
 use Rattle.htl_main.specs.Sources.{EndsBefore}
 use Rattle.htl_main.specs.Dumps.{AreWritten, Dumps, InputStops, texts_of}
-use Rattle.htl_main.specs.Dumping.{DumpedSoFar, DumpsInput, EndsAt, FrontDumped, FrontStops, WholeStops}
+use Rattle.htl_main.specs.Dumping.{DumpedSoFar, DumpsInput, DumpEndsAt, FrontDumped, FrontStops, WholeStops}
 use Rattle.htl_main.specs.Ends.{IsEnd, IsEndRefused}
 use Rattle.htl_main.specs.declared.fault.RunFault.{RunFault}
 use Rattle.htl_main.specs.declared.fault.RunFault.TheVariants.{Segment, Read, Memory, Write}
@@ -129,8 +129,8 @@ front_unwritten place start bytes rest n s old mid new so_far front part = recor
 -- ---- all bytes of an input
 
 -- what ends it where inputs may be partial ends it where they have to be whole
-ends_whole : (partial : Bool) (place offset : ℕ) (rest : List ℕ) (fault : RunFault) → EndsAt true place offset rest fault
-    → EndsAt partial place offset rest fault
+ends_whole : (partial : Bool) (place offset : ℕ) (rest : List ℕ) (fault : RunFault) → DumpEndsAt true place offset rest fault
+    → DumpEndsAt partial place offset rest fault
 ends_whole partial place offset rest (Segment at there fault) ends = (ends.0, ends.1, ends.2, ends.3, λ may. ends.4 refl)
 ends_whole partial place offset rest Memory ends = ends
 ends_whole partial place offset rest Write ends = ends
@@ -146,8 +146,8 @@ whole_of_front form place bytes old new fault stops = record {
   ends =
       let start : 0 + length (bundle stops.segments) ≡ length (bundle stops.segments) = omega arith in
       ends_whole form.partial place (length (bundle stops.segments)) stops.rest fault
-      (subst (λ (l : List ℕ). EndsAt true place (length (bundle stops.segments)) l fault) (append-nil stops.rest)
-      (subst (λ (n : ℕ). EndsAt true place n (stops.rest ++ []) fault) start (stops.ends [])));
+      (subst (λ (l : List ℕ). DumpEndsAt true place (length (bundle stops.segments)) l fault) (append-nil stops.rest)
+      (subst (λ (n : ℕ). DumpEndsAt true place n (stops.rest ++ []) fault) start (stops.ends [])));
   written = stops.written;
 }
 
@@ -285,7 +285,7 @@ stops_behind xs ys zs place start held piece old out new fault so_far read stops
       rest = stops.rest ++ zs;
       splits = record { parts = whole; fits = All-append Fits ss ts so_far.fits stops.splits.fits };
       ends = ends_whole form.partial place (length (bundle (ss ++ ts))) (stops.rest ++ zs) fault
-          (subst (λ (n : ℕ). EndsAt true place n (stops.rest ++ zs) fault) offset (stops.ends zs));
+          (subst (λ (n : ℕ). DumpEndsAt true place n (stops.rest ++ zs) fault) offset (stops.ends zs));
       written = written_after old out new ss ts fault so_far.written stops.written;
     }
 

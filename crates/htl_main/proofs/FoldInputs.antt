@@ -28,7 +28,7 @@ use Rattle.htl_segment.specs.declared.hexadecimal.HexFault.TheVariants as digits
 use Rattle.htl_main.specs.CutInputs.{AreCut}
 use Rattle.htl_main.specs.Ends.{IsEnd, IsEndRefused, IsInput}
 use Rattle.htl_main.specs.Faults.{of_case, of_hex, of_read, of_segment, of_source}
-use Rattle.htl_main.specs.Folders.{AreAllTaken, Folds, GaveOwn, IsAdded, IsMissingOf, IsNotAdded, IsOfInput, IsSymbolsFault, KeepsAll}
+use Rattle.htl_main.specs.Folders.{AreAllTaken, Folds, GaveOwn, IsAddedToFolded, IsMissingOf, IsNotAdded, IsOfInput, IsSymbolsFault, KeepsAll}
 use Rattle.htl_main.specs.Folders.{folds_of, number_of}
 use Rattle.htl_main.specs.Folding.{AreAccepted, AreAllOf, AreFolded, AreGiven, AreTaken, AsksFoldsMemory, IsFolded, IsFoldedFar, IsFoldedUpTo}
 use Rattle.htl_main.specs.Folding.{AreReadToFold, IsBeginningRefused, IsFoldingRefused, IsFoldsFault, TakesUpTo, counted}
@@ -428,7 +428,7 @@ module _ (setting : Setting) (before : List Content) (texts : List (List ℕ)) (
     not_added fault told = not_added_to new refl fault told
 
     -- all is well
-    pub is_folded : (added : Added) → AreFolded old before → IsAdded setting.complete new (number_of old) n cut added
+    pub is_folded : (added : Added) → AreFolded old before → IsAddedToFolded setting.complete new (number_of old) n cut added
         → IsFolded setting before texts (AreFolded new) added
     is_folded added was is =
         let now = folded_in (Some is.analyst) is.there in

@@ -28,7 +28,8 @@ use Rattle.htl_main.specs.Answers.{Finds, FindsIn, FindsOver, IsAnswer}
 use Rattle.htl_main.specs.Completeness.{IsLeastMissing}
 use Rattle.htl_main.specs.Moments.{IsCompleteUntil}
 use Rattle.htl_main.specs.Subjects.{HasSubject, is_about}
-use Rattle.htl_main.specs.Printed.{lines_of_answer, IsText, IsTaken, HasSymbols, HasSymbolFault, AreAnswerLines, IsPrinted, WorkersFit, Printed, by_workers}
+use Rattle.htl_main.specs.Printed.{lines_of_answer, IsText, IsAcceptedCase, HasSymbols, HasSymbolFault, AreAnswerLines, IsPrinted}
+use Rattle.htl_main.specs.Printed.{WorkersFit, Printed, by_workers}
 use Rattle.htl_case.specs.Complete.{IsFirstMissing}
 use Rattle.htl_main.specs.declared.fault.RunFault.{RunFault}
 use Rattle.htl_main.specs.declared.fault.RunFault.TheVariants.{Workers, Segment, Hex, Case, Incomplete, NoSubject, Symbols, Memory}
@@ -217,7 +218,7 @@ one_lines segments symbols job a b p q =
     one_text q.trace q.table job a b is q.is
 
 -- no gap is below the moment, or one is
-complete_or_missing : (segments : List Content) (job : Job) (T U : Trace) → IsTaken segments job T → job.setting.complete ≡ true
+complete_or_missing : (segments : List Content) (job : Job) (T U : Trace) → IsAcceptedCase segments job T → job.setting.complete ≡ true
     → IsCaseOf segments U → (IsCompleteUntil U job.until → ⊥) → ⊥
 complete_or_missing segments job T U taken complete case touched =
     touched (subst (λ (V : Trace). IsCompleteUntil V job.until) (one_case segments T U taken.0 case) (taken.1 complete))

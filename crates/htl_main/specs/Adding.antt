@@ -18,8 +18,8 @@ use Rattle.htl_main.specs.Sources.{IsSourcesCause}
 use Rattle.htl_main.specs.declared.adding.Added.{Added}
 use Rattle.htl_main.specs.declared.refused.Refused.{Refused}
 
--- Added: the case is that of the segments of the inputs and of those before, and has no gap where a complete one is asked for. What is
--- said of it counts the segments of the inputs, and those whose keys were not there.
+-- Added: the case is that of the segments of the inputs and of those before, and has no gap where a complete one is asked for. `added`
+-- counts the segments of the inputs, and those whose keys were not there.
 pub record IsAdded (form : InputForm) (complete : Bool) (before : List Content) (inputs : List (List ℕ)) (after : Trace) (added : Added)
     : Type 0 where
   pub segments : List Content

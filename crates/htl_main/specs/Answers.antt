@@ -87,16 +87,16 @@ has_finding (Growth process rows) = has_rows rows.items
 has_finding (Summary totals gaps processes objects) =
     list_any (λ row. not (row.outstanding == 0) || not (row.bad == 0)) processes.items || has_rows objects.items
 
--- the answer to the job's question over a trace does so, or not
+-- whether the answer to the job's question over a trace finds something
 abbrev pub FindsOver : Trace → Job → Bool → Type 0
 FindsOver T job found =
     (until : Option ℕ) × IsMomentOf T job.until until
     × (answer : Answer) × IsAnswer T until job.question answer × (found ≡ has_finding answer)
 
--- that over the case of decoded segments
+-- whether the answer over the case of decoded segments finds something
 abbrev pub FindsIn : List Content → Job → Bool → Type 0
 FindsIn segments job found = (T : Trace) × IsCaseOf segments T × FindsOver T job found
 
--- that over the case of all segments of the inputs
+-- whether the answer over the case of all segments of the inputs finds something
 abbrev pub Finds : Job → List (List ℕ) → Bool → Type 0
 Finds job inputs found = (segments : List Content) × DecodeAll job.setting.form inputs segments × FindsIn segments job found

@@ -8,7 +8,7 @@ use Rattle.htl_case.specs.Faults.{IsRefusal}
 use Rattle.htl_case.specs.declared.fault.CaseFault.TheVariants as case_faults
 use Rattle.htl_command.specs.declared.question.Job.{Job}
 use Rattle.htl_main.specs.Inputs.{DecodeAll, IsReportedOfInput, StopsAtInput}
-use Rattle.htl_main.specs.Printed.{IsPrinted, IsTaken, WorkersFit, Printed}
+use Rattle.htl_main.specs.Printed.{IsPrinted, IsAcceptedCase, WorkersFit, Printed}
 use Rattle.htl_main.specs.declared.fault.RunFault.{RunFault}
 use Rattle.htl_main.specs.declared.fault.RunFault.TheVariants.{Write, Memory}
 
@@ -16,14 +16,14 @@ use Rattle.htl_main.specs.declared.fault.RunFault.TheVariants.{Write, Memory}
 abbrev pub Prints : Job → List (List ℕ) → Option (List ℕ) → Option (List ℕ) → Option (List ℕ) → Type 0
 Prints job inputs symbols old new = (lines : List ℕ) × Printed job inputs symbols (Ok lines) × Appends old new lines
 
--- or some first part of them
+-- the known bytes of a sink got some first part of the printed lines
 abbrev pub PrintsPart : Job → List (List ℕ) → Option (List ℕ) → Option (List ℕ) → Option (List ℕ) → Type 0
 PrintsPart job inputs symbols old new =
     (lines : List ℕ) × Printed job inputs symbols (Ok lines) × AppendsPrefix old new lines
 
 -- Why nothing is printed of decoded segments. Memory is asked for where the rules of a case that take none hold.
 abbrev pub IsCauseAfter : List Content → Option (List ℕ) → Job → RunFault → Type 0
-IsCauseAfter segments symbols job Memory = IsRefusal segments case_faults.NoMemory ⊎ ((T : Trace) × IsTaken segments job T)
+IsCauseAfter segments symbols job Memory = IsRefusal segments case_faults.NoMemory ⊎ ((T : Trace) × IsAcceptedCase segments job T)
 IsCauseAfter segments symbols job fault = IsPrinted segments symbols job (Err fault)
 
 -- Why a run ends: the first fault of what was given; or memory was refused where no fault came before, or the lines

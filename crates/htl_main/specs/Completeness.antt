@@ -24,7 +24,7 @@ pub record IsLeastMissing (T : Trace) (p n : ℕ) : Type 0 where
   pub first : IsFirstMissing T p n
   pub before : (other : Gap) → HasGap T other → p ≤ processor_of other
 
--- this is reported
+-- the fault names the least missing key
 abbrev pub ReportsMissing : Trace → RunFault → Type 0
 ReportsMissing T (Incomplete processor number) = IsLeastMissing T processor number
 ReportsMissing T fault = ⊥

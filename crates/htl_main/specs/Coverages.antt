@@ -18,10 +18,10 @@ pub record IsCoverage (T : Trace) (coverage : Coverage) : Type 0 where
   pub counted : coverage.gaps ≡ length gaps
   pub complete_to : IsCompleteTo T coverage.complete_to
 
--- that of the case of decoded segments
+-- the coverage of the case of decoded segments
 abbrev pub CoversSegments : List Content → Coverage → Type 0
 CoversSegments segments coverage = (T : Trace) × IsCaseOf segments T × IsCoverage T coverage
 
--- that of the case of all segments of the inputs
+-- the coverage of the case of all segments of the inputs
 abbrev pub Covers : InputForm → List (List ℕ) → Coverage → Type 0
 Covers form inputs coverage = (segments : List Content) × DecodeAll form inputs segments × CoversSegments segments coverage

@@ -22,20 +22,20 @@ pub record FrontDumped (bytes rest : List ℕ) (old new : Option (List ℕ)) : T
   pub written : Appends old new (texts_of segments)
 
 -- why the dump of the input at a place ends at this offset, where the rest begins: not because it ends within a segment where it may
-abbrev pub EndsAt : Bool → ℕ → ℕ → List ℕ → RunFault → Type 0
-EndsAt partial place offset rest (Segment at there fault) =
+abbrev pub DumpEndsAt : Bool → ℕ → ℕ → List ℕ → RunFault → Type 0
+DumpEndsAt partial place offset rest (Segment at there fault) =
     (at ≡ place) × (there ≡ offset) × (0 < length rest) × (first_fault rest ≡ Some fault)
     × (partial ≡ true → is_early_end fault ≡ false)
-EndsAt partial place offset rest Memory = first_fault rest ≡ None
-EndsAt partial place offset rest Write = Unit {0}
-EndsAt partial place offset rest other = ⊥
+DumpEndsAt partial place offset rest Memory = first_fault rest ≡ None
+DumpEndsAt partial place offset rest Write = Unit {0}
+DumpEndsAt partial place offset rest other = ⊥
 
 -- The dump of all bytes of an input ends before their end.
 pub record WholeStops (form : InputForm) (place : ℕ) (bytes : List ℕ) (old new : Option (List ℕ)) (fault : RunFault) : Type 0 where
   pub segments : List Content
   pub rest : List ℕ
   pub splits : Splits bytes segments rest
-  pub ends : EndsAt form.partial place (length (bundle segments)) rest fault
+  pub ends : DumpEndsAt form.partial place (length (bundle segments)) rest fault
   pub written : AreWritten fault old new segments
 
 -- The dump of bytes that follow `start` others ends, whatever follows them.
@@ -43,7 +43,7 @@ pub record FrontStops (place start : ℕ) (bytes : List ℕ) (old new : Option (
   pub segments : List Content
   pub rest : List ℕ
   pub splits : Splits bytes segments rest
-  pub ends : (more : List ℕ) → EndsAt true place (start + length (bundle segments)) (rest ++ more) fault
+  pub ends : (more : List ℕ) → DumpEndsAt true place (start + length (bundle segments)) (rest ++ more) fault
   pub written : AreWritten fault old new segments
 
 -- The segments of what a source gave were dumped, but for the last bytes, which more may make a segment of.

@@ -48,7 +48,7 @@ AreBefore true left input (Read at) segments = segments ≡ []
 AreBefore hex left input (Hex at fault) segments = segments ≡ []
 AreBefore hex left input other segments = AreFirst hex input segments
 
--- their texts were written, of which a failed write may have cut off the last bytes
+-- the texts of these segments were written, of which a failed write may have cut off the last bytes
 abbrev pub AreWritten : RunFault → Option (List ℕ) → Option (List ℕ) → List Content → Type 0
 AreWritten Write old new segments = AppendsPrefix old new (texts_of segments)
 AreWritten fault old new segments = Appends old new (texts_of segments)

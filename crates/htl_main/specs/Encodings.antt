@@ -26,7 +26,7 @@ abbrev pub EncodesInto : Bool → List (List ℕ) → Option (List ℕ) → Opti
 EncodesInto hex texts old new =
     (segments : List Content) × EncodeAll texts segments × Appends old new (written_as hex (bundle segments))
 
--- or some first part of them
+-- the known bytes of a sink got some first part of the bytes of the segments that the texts encode
 abbrev pub EncodesPart : Bool → List (List ℕ) → Option (List ℕ) → Option (List ℕ) → Type 0
 EncodesPart hex texts old new =
     (segments : List Content) × EncodeAll texts segments × AppendsPrefix old new (written_as hex (bundle segments))

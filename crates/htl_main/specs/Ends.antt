@@ -11,12 +11,12 @@ use Rattle.htl_main.specs.declared.cut_inputs.CutInputs.{CutInputs}
 use Rattle.htl_main.specs.declared.fault.RunFault.{RunFault}
 use Rattle.htl_main.specs.declared.fault.RunFault.TheVariants.{Segment}
 
--- they are none, or they end within a segment and may
+-- The input ends within a segment, as it may (`true`), or no bytes are left after its segments (`false`).
 abbrev pub IsEnd : InputForm → List ℕ → Bool → Type 0
 IsEnd form rest true = (form.partial ≡ true) × (0 < length rest) × IsRest rest
 IsEnd form rest false = rest ≡ []
 
--- they end within a segment and may not, which is the fault of the input at a place
+-- The input at a place ends within a segment and may not, which is its fault.
 pub record IsEndRefused (form : InputForm) (place offset : ℕ) (rest : List ℕ) (fault : RunFault) : Type 0 where
   pub first : Fault
   pub is : fault ≡ Segment place offset first
@@ -24,7 +24,7 @@ pub record IsEndRefused (form : InputForm) (place offset : ℕ) (rest : List ℕ
   pub first_is : first_fault rest ≡ Some first
   pub whole : form.partial ≡ false
 
--- it is a fault of the segments of the input at a place
+-- the fault is one of a segment of the input at a place
 abbrev pub IsSegmentOf : ℕ → RunFault → Type 0
 IsSegmentOf place fault = (offset : ℕ) × (first : Fault) × (fault ≡ Segment place offset first)
 
@@ -34,7 +34,7 @@ with_input false place cut = cut
 with_input true place None = Some (record { first = place; others = 0 })
 with_input true place (Some cut) = Some (record { first = cut.first; others = cut.others + 1 })
 
--- there are fewer of them than inputs before the place
+-- there are fewer other cut inputs than inputs before the place
 abbrev pub OthersFit : Option CutInputs → ℕ → Type 0
 OthersFit None place = ⊤
 OthersFit (Some cut) place = cut.others < place

@@ -43,7 +43,7 @@ pub record Folds (first now : Option State) (unfit : Option CaseFault) (segments
   pub keeps : KeepsAll first now
   pub same : segments ≡ 0 → now ≡ first
 
--- the same, of what folders hold
+-- what the folder's analyst took of the segments that were given, after what it took first
 abbrev pub folds_of : Folder → Folder → List Content → Type 0
 folds_of first now given = Folds first.analyst now.analyst now.unfit now.segments given
 
@@ -53,7 +53,7 @@ pub record IsNewTo (a : State) (s : Content) : Type 0 where
   pub processors : s.processors ≡ a.processors
   pub new : HasTaken a s.processor s.number → ⊥
 
--- it is new, and an event of it isn't above all that was folded of its processor; or it isn't so
+-- The segment is new, and an event of it isn't above all that was folded of its processor (`true`); or that isn't so (`false`).
 abbrev pub IsFallen : State → Content → Bool → Type 0
 IsFallen a s true = IsNewTo a s × (e : Event) × Contains s.events e × (e.sequence ≤ (folded_at a.parts s.processor).last_sequence)
 IsFallen a s false = IsNewTo a s → (e : Event) → Contains s.events e → (folded_at a.parts s.processor).last_sequence < e.sequence
@@ -98,9 +98,10 @@ IsMissingOf complete a (Incomplete processor number) =
     → IsLeastMissing T processor number)
 IsMissingOf complete a fault = ⊥
 
--- Some segments were added to others, of which so many keys had been taken: how many they are, how many of them are new, how much of its
+-- So many segments were added, where `before` keys had been taken: `added` says how many they are, how many are new, how much of its
 -- trace the analyst has, and which inputs are cut.
-pub record IsAdded (complete : Bool) (now : Option State) (before segments : ℕ) (cut : Option CutInputs) (added : Added) : Type 0 where
+pub record IsAddedToFolded (complete : Bool) (now : Option State) (before segments : ℕ) (cut : Option CutInputs) (added : Added)
+    : Type 0 where
   pub analyst : State
   pub there : now ≡ Some analyst
   pub segments_are : added.segments ≡ segments
@@ -109,7 +110,7 @@ pub record IsAdded (complete : Bool) (now : Option State) (before segments : ℕ
       → IsCoverage T added.coverage × (complete ≡ true → IsComplete T)
   pub cut_is : added.cut ≡ cut
 
--- there is no segment; or one is missing, or memory was refused
+-- why a reading ends after it took all segments: there is none, or one is missing, or memory was refused
 abbrev pub IsNotAdded : Bool → Option State → RunFault → Type 0
 IsNotAdded complete None fault = fault ≡ Case Empty
 IsNotAdded complete (Some a) fault = IsMissingOf complete a fault
@@ -120,7 +121,7 @@ IsSymbolsFault symbols Memory = ⊤
 IsSymbolsFault symbols (Symbols fault) = HasSymbolFault symbols fault
 IsSymbolsFault symbols fault = ⊥
 
--- All segments of the inputs were taken after those from before, which these are from now on.
+-- All segments of the inputs were taken after those from before, and the analyst has folded all of both that it can.
 pub record AreAllTaken (form : InputForm) (before : List Content) (inputs : List (List ℕ)) (old new : Option State) (segments : ℕ)
     (cut : Option CutInputs) : Type 0 where
   pub given : List Content

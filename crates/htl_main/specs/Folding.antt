@@ -40,24 +40,24 @@ abbrev pub AreTaken : List Content → Option State → Type 0
 AreTaken segments None = segments ≡ []
 AreTaken segments (Some analyst) = (segments ≢ []) × HasTakenAll segments analyst
 
--- It holds no segment that it could fold: the least number that wasn't taken is its front.
+-- The analyst holds no segment that it could fold: of each processor the front is the least number that wasn't taken.
 abbrev pub IsFoldedFar : Option State → Type 0
 IsFoldedFar None = ⊤
 IsFoldedFar (Some analyst) = (processor : ℕ) → HasTaken analyst processor (front_at analyst.taken processor) → ⊥
 
--- Folded: it took them, and folded all that it can.
+-- Folded: the analyst took exactly these segments, and folded all that it can.
 pub record AreFolded (analyst : Option State) (segments : List Content) : Type 0 where
   pub taken : AreTaken segments analyst
   pub far : IsFoldedFar analyst
 
 -- ---- which segments are taken
 
--- they are some of the segments of a collection
+-- These segments are some of those of a collection.
 pub record AreSomeOf (segments : List Content) (T : Trace) : Type 0 where
   pub collection : IsCollection T
   pub members : AllByRecursion (Contains T.segments) segments
 
--- they are all of its segments
+-- These segments are all of those of a collection.
 pub record AreAllOf (segments : List Content) (T : Trace) : Type 0 where
   pub collection : IsCollection T
   pub members : (s : Content) → Contains T.segments s ↔ Contains segments s
@@ -76,7 +76,7 @@ pub record Accepts (before earlier : List Content) (s : Content) : Type 0 where
       → (t : Content) → Contains before t → IsUnbroken before t → t.processor ≡ s.processor
       → (e f : Event) → Contains s.events e → Contains t.events f → f.sequence < e.sequence
 
--- each of them is, one after another
+-- Each of these segments is accepted after the earlier ones.
 abbrev pub AreAcceptedAfter : List Content → List Content → List Content → Type 0
 AreAcceptedAfter before earlier [] = ⊤
 AreAcceptedAfter before earlier (s ∷ more) = Accepts before earlier s × AreAcceptedAfter before (earlier ++ s ∷ []) more
@@ -110,9 +110,9 @@ IsOfPlace (cases.OtherProcessors at) place = at ≡ place
 IsOfPlace fault place = ⊤
 
 -- where the taking ends: behind the last segment, or before the first that is unfit
-abbrev pub EndsAt : List Content → List Content → List Content → Option CaseFault → Type 0
-EndsAt before taken later None = later ≡ []
-EndsAt before taken later (Some fault) =
+abbrev pub TakingEndsAt : List Content → List Content → List Content → Option CaseFault → Type 0
+TakingEndsAt before taken later None = later ≡ []
+TakingEndsAt before taken later (Some fault) =
     (s : Content) × (more : List Content) × (later ≡ s ∷ more) × IsUnfit (before ++ taken) s fault × IsOfPlace fault (counted taken)
 
 -- Taken: of the segments that were given all, or those before the first that is unfit.
@@ -120,12 +120,12 @@ pub record TakesUpTo (before given taken : List Content) (unfit : Option CaseFau
   pub later : List Content
   pub cut : given ≡ taken ++ later
   pub accepted : AreAccepted before taken
-  pub ends : EndsAt before taken later unfit
+  pub ends : TakingEndsAt before taken later unfit
 
 -- ---- what a reading brings, and why it ends
 
--- Read: all segments of the inputs were taken, and this holds of all that were taken by then. What is said of them counts them, and those
--- whose keys were not there.
+-- Read: all segments of the inputs were taken, and `Keeps` holds of all that were taken by then. `added` counts the segments of the inputs,
+-- and those whose keys were not there.
 pub record IsFolded (setting : Setting) (before : List Content) (inputs : List (List ℕ)) (Keeps : List Content → Type 0) (added : Added)
     : Type 0 where
   pub workers : WorkersFit setting.workers
@@ -140,7 +140,7 @@ pub record IsFolded (setting : Setting) (before : List Content) (inputs : List (
   pub whole : setting.complete ≡ true → (T : Trace) → IsCaseOf (before ++ given) T → IsComplete T
   pub cut : AreCut setting.form.hex inputs added.cut
 
--- the segments that a source gave by the bytes that it has not left; a text in hexadecimal gives them at its end
+-- The segments that a source gave, of whose bytes this is left. A text in hexadecimal gives none before its end.
 abbrev pub GaveBefore : Bool → Option (List ℕ) → List ℕ → List Content → Type 0
 GaveBefore true left text own = own ≡ []
 GaveBefore false left text own = (read rest : List ℕ) × Consumes (Some text) left read × Splits read own rest × IsRest rest
@@ -150,13 +150,13 @@ abbrev pub StandBefore : InputForm → ℕ → List ℕ → List Content → Typ
 StandBefore form offset text own =
     (bytes rest : List ℕ) × HasBytes form.hex text bytes × Splits bytes own rest × (offset ≡ length (bundle own))
 
--- those of the inputs before a place, and these of the one there
+-- The segments of the inputs before a place, and those of the input there of which `Own` is true.
 abbrev pub ComeBefore : InputForm → List (List ℕ) → ℕ → (List ℕ → List Content → Type 0) → List Content → Type 0
 ComeBefore form inputs place Own given =
     (earlier own : List Content) × (text : List ℕ) × DecodeAll form (take place inputs) earlier × (slice_get inputs place ≡ Some text)
     × Own text own × (given ≡ earlier ++ own)
 
--- The segments that inputs gave before a fault of one of them; all, where it is no such fault. This is left of each input.
+-- The segments that inputs gave before a fault of one of them, or all where it is no such fault. `lefts` are left of the inputs.
 abbrev pub AreGiven : InputForm → List (List ℕ) → List (Option (List ℕ)) → RunFault → List Content → Type 0
 AreGiven form inputs lefts faults.Workers given = given ≡ []
 AreGiven form inputs lefts (faults.Segment place offset fault) given = ComeBefore form inputs place (StandBefore form offset) given
@@ -172,7 +172,7 @@ AsksFoldsMemory setting before inputs lefts ends =
     ⊎ (((given : List Content) × (given ≢ []) × (fault : RunFault) × AreGiven setting.form inputs lefts fault given)
     ⊎ ((given : List Content) × DecodeAll setting.form inputs given × (before ++ given ≢ []))))
 
--- why a reading ends, by what its inputs gave and which of that was taken
+-- Why a reading ends, by what its inputs gave, and which segments of that were taken before an unfit one.
 abbrev pub IsFoldsFault : Setting → List Content → List (List ℕ) → List (Option (List ℕ)) → List Bool → List Content → Option CaseFault
     → RunFault → Type 0
 IsFoldsFault setting before inputs lefts ends taken unfit faults.Workers = WorkersFit setting.workers → ⊥
@@ -189,7 +189,7 @@ IsFoldsFault setting before inputs lefts ends taken unfit (faults.Incomplete pro
     × ((T : Trace) → IsCaseOf (before ++ taken) T → IsLeastMissing T processor number)
 IsFoldsFault setting before inputs lefts ends taken unfit fault = ⊥
 
--- Refused: what came before the fault was taken, and counts.
+-- Refused: of the segments before the fault those before an unfit one were taken, and `Keeps` holds of all that were taken by then.
 pub record IsFoldedUpTo (setting : Setting) (before : List Content) (inputs : List (List ℕ)) (lefts : List (Option (List ℕ)))
     (ends : List Bool) (Keeps : List Content → Type 0) (fault : RunFault) : Type 0 where
   pub given : List Content
@@ -206,13 +206,13 @@ abbrev pub IsFoldingRefused : Setting → List Content → List (List ℕ) → L
 IsFoldingRefused setting before inputs lefts ends Keeps faults.Memory = AsksFoldsMemory setting before inputs lefts ends
 IsFoldingRefused setting before inputs lefts ends Keeps fault = IsFoldedUpTo setting before inputs lefts ends Keeps fault
 
--- Why nothing can be asked: a fault of the inputs, which are the first; or else of the symbols.
+-- Why a dialogue doesn't begin: a fault of its inputs, or else of the symbols.
 abbrev pub IsBeginningRefused : Setting → Option (List ℕ) → List (List ℕ) → List (Option (List ℕ)) → List Bool → RunFault → Type 0
 IsBeginningRefused setting symbols inputs lefts ends (faults.Symbols fault) =
     HasSymbolFault symbols fault × (added : Added) × IsFolded setting [] inputs (λ taken. ⊤) added
 IsBeginningRefused setting symbols inputs lefts ends fault = IsFoldingRefused setting [] inputs lefts ends (λ taken. ⊤) fault
 
--- Its sources are read as by a run that ends so. Where memory was refused to fold what came before a fault, they were read as by a run that
+-- The sources are read as by a run that ends so. Where memory was refused to fold what came before a fault, they were read as by a run that
 -- ends with that fault.
 abbrev pub AreReadToFold : {R S : Type 0} → Bool → (R → Bool) → (R → Bool) → (R → ℕ) → (R → Option (List ℕ)) → List R → List R
     → Result S RunFault → Type 0
@@ -221,7 +221,7 @@ AreReadToFold {R} {S} is_text has_failed has_ended good_reads remaining old new 
     ⊎ ((result ≡ Err faults.Memory) × (fault : RunFault)
     × AreRead {S = S} is_text has_failed has_ended good_reads remaining old new (Err fault))
 
--- of the two segments that a fault is about the one was forgotten
+-- A fault about two segments names neither, since one of them may be forgotten (`Unknown`). Any other fault is about `Nothing`.
 abbrev pub IsHalfKnown : RunFault → Between → Type 0
 IsHalfKnown (faults.Case fault) Nothing = is_about_two fault ≡ false
 IsHalfKnown (faults.Case fault) Unknown = is_about_two fault ≡ true

@@ -11,7 +11,7 @@ use Rattle.htl_main.specs.Inputs.{DecodeAll}
 use Rattle.htl_main.specs.Moments.{IsCompleteUntil}
 use Rattle.htl_main.specs.Printed.{HasSymbols, WorkersFit}
 
--- the job of a run of its own, whose segments are read so
+-- the job, in this setting
 abbrev pub in_setting : Setting → Job → Job
 in_setting setting job = record job { setting = setting }
 
@@ -22,7 +22,7 @@ pub record AreLoaded (segments : List Content) (symbols : Option (List ℕ)) (co
   pub whole : complete ≡ true → IsCompleteUntil T until
   pub named : HasSymbols symbols table
 
--- those of all segments of the inputs
+-- This is the case of all segments of the inputs, with the symbols of the table.
 pub record AreLoadedOf (inputs : List (List ℕ)) (symbols : Option (List ℕ)) (setting : Setting) (until : Option Moment) (T : Trace)
     (table : List Range) : Type 0 where
   pub workers : WorkersFit setting.workers

@@ -41,7 +41,7 @@ BreakRule segments (cases.Falling processor number) one other =
     × (event earlier : Event) × Contains one.events event × Contains other.events earlier × (event.sequence ≤ earlier.sequence)
 BreakRule segments fault one other = ⊥
 
--- two segments at these places do
+-- The segments at these places break the rule: the first breaks it against the second.
 pub record BreakRuleAt (segments : List Content) (fault : CaseFault) (first second : ℕ) : Type 0 where
   pub one : Content
   pub other : Content
@@ -83,7 +83,7 @@ IsBetweenOf form inputs segments fault Nothing = is_about_two fault ≡ false
 IsBetweenOf form inputs segments fault (Two first second) = AreOriginsOf form inputs segments fault first second
 IsBetweenOf form inputs segments fault Unknown = is_about_two fault ≡ true
 
--- which two a fault of a run is about, which only one of all segments is
+-- Which two segments a fault of a run is about: none, unless it is a fault of all segments.
 abbrev pub IsBetween : InputForm → List (List ℕ) → RunFault → Between → Type 0
 IsBetween form inputs (Case fault) between =
     (segments : List Content) × DecodeAll form inputs segments × IsBetweenOf form inputs segments fault between

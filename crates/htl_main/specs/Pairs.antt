@@ -20,27 +20,27 @@ pub record PassesAt {X : Type 0} (test : X → Bool) (xs : List X) (place : ℕ)
   pub here : slice_get xs place ≡ Some one
   pub passes : test one ≡ true
 
--- none does
+-- no element passes the test
 abbrev pub NonePasses : {X : Type 0} → (X → Bool) → List X → Type 0
 NonePasses {X} test xs = (x : X) → Contains xs x → test x ≡ true → ⊥
 
--- all segments that have it are this one
+-- all segments that have the key, or an event of the sequence, are this one
 abbrev pub HaveOne : Shared → List Content → Content → Type 0
 HaveOne shared segments one = (s : Content) → Contains segments s → has_shared shared s ≡ true → s ≡ one
 
--- all segments that have it are one
+-- all segments that have the key, or an event of the sequence, are one
 abbrev pub AreOne : Shared → List Content → Type 0
 AreOne shared segments =
     (s t : Content) → Contains segments s → Contains segments t → has_shared shared s ≡ true → has_shared shared t ≡ true → s ≡ t
 
--- the segment at the place has it, and is another one
+-- the segment at the place has the key, or an event of the sequence, and is another than `one`
 pub record IsOtherAt (shared : Shared) (segments : List Content) (one : Content) (place : ℕ) : Type 0 where
   pub other : Content
   pub here : slice_get segments place ≡ Some other
   pub has : has_shared shared other ≡ true
   pub differ : other ≢ one
 
--- different segments at these places have the same
+-- different segments at these places have the same key, or events of the same sequence
 pub record AreTwoAt (segments : List Content) (shared : Shared) (first second : ℕ) : Type 0 where
   pub one : Content
   pub other : Content

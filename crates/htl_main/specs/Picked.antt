@@ -68,7 +68,7 @@ abbrev pub IsLackOf : Interest → List Content → Job → Lacking → Type 0
 IsLackOf interest segments job lacking.Process = TellsOfNoHandle interest segments job
 IsLackOf interest segments job lacking.Segments = NeedsWhole segments
 
--- what was picked of these inputs doesn't
+-- What was picked of these inputs doesn't tell what the job comes to, for want of this.
 abbrev pub Lacks : Interest → Job → List (List ℕ) → Lacking → Type 0
 Lacks interest job inputs lack =
     (segments : List Content) × DecodeAll job.setting.form inputs segments × IsLackOf interest segments job lack

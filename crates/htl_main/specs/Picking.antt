@@ -45,7 +45,7 @@ pub record IsPickedFor (interest : Interest) (case : Picked) (segments : List Co
   pub case_of : IsCaseOf segments trace
   pub picked : IsPickedOf interest trace case
 
--- that up to a moment
+-- what is asked about was picked, up to a moment, of the case of these segments
 pub record IsPickedAsOf (interest : Interest) (until : Option ℕ) (case : Picked) (segments : List Content) : Type 0 where
   pub trace : Trace
   pub case_of : IsCaseOf segments trace
@@ -77,7 +77,7 @@ EndsAnswer NoSubject = ⊤
 EndsAnswer Memory = ⊤
 EndsAnswer other = ⊥
 
--- or isn't written
+-- why an answer over a case isn't made, or isn't written
 abbrev pub EndsPrinting : RunFault → Type 0
 EndsPrinting Write = ⊤
 EndsPrinting fault = EndsAnswer fault

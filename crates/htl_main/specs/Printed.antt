@@ -30,7 +30,7 @@ lines_of_answer Json table until top answer = flat_map json_line (values_of tabl
 lines_of_answer Folded table until top (Leaks process since rows) = folded_text table top rows.items
 lines_of_answer format table until top answer = text_of table until top answer
 
--- those of the answer to the job's question over a trace, of which events count up to the job's moment
+-- the lines of the answer to the job's question over a trace, of which events count up to the job's moment
 abbrev pub IsText : Trace → List Range → Job → List ℕ → Type 0
 IsText T table job lines =
     (until : Option ℕ) × IsMomentOf T job.until until
@@ -41,19 +41,19 @@ abbrev pub HasSymbols : Option (List ℕ) → List Range → Type 0
 HasSymbols None table = table ≡ []
 HasSymbols (Some bytes) table = Reads (records_of bytes) (Ok table)
 
--- its first fault (out of memory is none)
+-- the first fault of the table of symbols (out of memory is none)
 abbrev pub HasSymbolFault : Option (List ℕ) → SymbolFault → Type 0
 HasSymbolFault None fault = ⊥
 HasSymbolFault (Some bytes) fault = (fault ≢ symbol_faults.NoMemory) × Reads (records_of bytes) (Err fault)
 
 -- the case of the segments, which has no gap up to the job's moment where the job asks for a complete one
-abbrev pub IsTaken : List Content → Job → Trace → Type 0
-IsTaken segments job T = IsCaseOf segments T × (job.setting.complete ≡ true → IsCompleteUntil T job.until)
+abbrev pub IsAcceptedCase : List Content → Job → Trace → Type 0
+IsAcceptedCase segments job T = IsCaseOf segments T × (job.setting.complete ≡ true → IsCompleteUntil T job.until)
 
--- The lines are those of the answer over it. Where the status says what an answer finds, there is an event of what it is about.
+-- The lines are those of the answer over the case. Where the status says what an answer finds, there is an event of what it is about.
 pub record AreAnswerLines (segments : List Content) (symbols : Option (List ℕ)) (job : Job) (lines : List ℕ) : Type 0 where
   pub trace : Trace
-  pub taken : IsTaken segments job trace
+  pub taken : IsAcceptedCase segments job trace
   pub table : List Range
   pub named : HasSymbols symbols table
   pub about : job.exit_code ≡ true → HasSubject trace job true
@@ -68,10 +68,10 @@ IsPrinted segments symbols job (Err (Case fault)) = IsOutcome segments (Err faul
 IsPrinted segments symbols job (Err (Incomplete processor number)) =
     (job.setting.complete ≡ true)
     × (T : Trace) × IsCaseOf segments T × (IsCompleteUntil T job.until → ⊥) × IsLeastMissing T processor number
-IsPrinted segments symbols job (Err (Symbols fault)) = (T : Trace) × IsTaken segments job T × HasSymbolFault symbols fault
+IsPrinted segments symbols job (Err (Symbols fault)) = (T : Trace) × IsAcceptedCase segments job T × HasSymbolFault symbols fault
 IsPrinted segments symbols job (Err NoSubject) =
     (job.exit_code ≡ true)
-    × (T : Trace) × IsTaken segments job T × (table : List Range) × HasSymbols symbols table × HasSubject T job false
+    × (T : Trace) × IsAcceptedCase segments job T × (table : List Range) × HasSymbols symbols table × HasSubject T job false
 IsPrinted segments symbols job (Err other) = ⊥
 
 -- the number of workers is allowed

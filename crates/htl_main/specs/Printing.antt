@@ -15,7 +15,7 @@ pub record PrintsOver (T : Trace) (table : List Range) (job : Job) (Written : Li
   pub is : IsText T table job lines
   pub written : Written lines
 
--- why not all of them were
+-- why not all lines of the answer were written
 abbrev pub EndsOver : Trace → Job → RunFault → Type 0
 EndsOver T job NoSubject = (job.exit_code ≡ true) × HasSubject T job false
 EndsOver T job Memory = ⊤

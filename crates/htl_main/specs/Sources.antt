@@ -27,7 +27,7 @@ IsReportedOfSource form left ended place input Memory =
     AsksMemory form.hex input ⊎ ((ended ≡ false) × (read : List ℕ) × Consumes (Some input) left read × KeepsSome form.hex read)
 IsReportedOfSource form left ended place input fault = IsReportedOfInput form place input fault
 
--- the same where this is left of each source, and these ends were found
+-- what is reported of the source at a place, where `lefts` are left of the sources, and `ends` says which ends were found
 abbrev pub IsReportedAt : InputForm → List (Option (List ℕ)) → List Bool → ℕ → List ℕ → RunFault → Type 0
 IsReportedAt form lefts ends place input fault =
     (left : Option (List ℕ)) × (ended : Bool) × (slice_get lefts place ≡ Some left) × (slice_get ends place ≡ Some ended)

@@ -23,7 +23,7 @@ names_handle Closed = true
 names_handle BadRef = true
 names_handle other = false
 
--- and those that name an object
+-- the kinds of events that name an object
 abbrev pub names_object : Kind → Bool
 names_object Ref = true
 names_object Deref = true
@@ -42,16 +42,16 @@ is_about (questions.Tags object) e = names_object e.kind && (e.object == object)
 is_about (questions.Stacks object tag) e = names_object e.kind && ((e.object == object) && pointwise nat_eq e.tag tag)
 is_about (questions.Trace process handle) e = names_handle e.kind && ((e.process == process) && (base_of e.handle == base_of handle))
 
--- an event of a trace that counts is about the job's question, or none is
+-- whether an event of a trace that counts is about the job's question
 abbrev pub HasSubject : Trace → Job → Bool → Type 0
 HasSubject T job found =
     (until : Option ℕ) × IsMomentOf T job.until until
     × (found ≡ list_any (is_about job.question) (counted_events until (all_events T.segments)))
 
--- that is reported of the case of decoded segments
+-- whether, in the case of decoded segments, an event that counts is about the job's question
 abbrev pub HasSubjectIn : List Content → Job → Bool → Type 0
 HasSubjectIn segments job found = (T : Trace) × IsCaseOf segments T × HasSubject T job found
 
--- that is reported of the case of all segments of the inputs
+-- whether, in the case of all segments of the inputs, an event that counts is about the job's question
 abbrev pub ReportsSubject : List (List ℕ) → Job → Bool → Type 0
 ReportsSubject inputs job found = (segments : List Content) × DecodeAll job.setting.form inputs segments × HasSubjectIn segments job found

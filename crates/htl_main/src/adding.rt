@@ -70,8 +70,8 @@ impl fmt::Display for Added {
 /// Reads all sources and adds their segments to what was loaded. Where they are refused, what was
 /// loaded stays as it is.
 ///
-/// Faults are those of a run over these sources and one more input after them, which has all that was
-/// loaded before. Inputs are counted within these.
+/// Faults are those of a run over these sources and one more input after them, which has all that
+/// was loaded before. Inputs are counted within these.
 pub fn add<Rt: Threads + Sync, R: Parted>(
     rt: &Rt,
     alloc: Global,

@@ -31,9 +31,9 @@ impl Coverage {
     ghost use Rattle.htl_main.specs.Coverages.{IsCoverage};
     ghost use Rattle.htl_main.specs.Moments.{IsMomentOf, is_above};
 
-    /// Whether a gap may change an answer as of the moment: there is a gap, and the moment is above the
-    /// sequence up to which no segment is missing. Where no moment is named, the answer is as of the end
-    /// of the trace, which counts as above it.
+    /// Whether a gap may change an answer as of the moment: there is a gap, and the moment is above
+    /// the sequence up to which no segment is missing. Where no moment is named, the answer is as
+    /// of the end of the trace, which counts as above it.
     pub fn is_touched(self, until: Option<Moment>) -> bool
         ensures { result ≡ (not (self.gaps == 0) && is_above until self.complete_to) }
     {

@@ -10,7 +10,7 @@ use crate::fault::RunFault;
 use htl_command::InputForm;
 use htl_reading::{Bundle, EarlyEnd};
 
-/// Inputs that end within a segment.
+/// Inputs that end within a segment, which is `S1` or `S10` where inputs may not be partial.
 #[derive(Clone, Copy, Debug, PartialEq, Eq)]
 pub struct CutInputs {
     /// The place of the first of them, from 0.

@@ -64,8 +64,8 @@ pub fn dump_from<R: Source, W: Sink>(
     Ok(cut)
 }
 
-/// Dumps the source at a place. A text in hexadecimal is gathered whole first; of bytes each read is
-/// dumped at once.
+/// Dumps the source at a place. A text in hexadecimal is gathered whole first; of bytes each read
+/// is dumped at once.
 fn dump_input<R: Source, W: Sink>(
     alloc: Global,
     form: InputForm,

@@ -24,7 +24,8 @@ use std::alloc::Global;
 use std::thread::Threads;
 
 /// Answers the job's question from what was folded, with the lines that a run over all segments
-/// taken so far prints. Before the first segment there are no lines.
+/// taken so far prints. Before the first segment there are no lines. `workers` counts here, and not
+/// the job's own number, which a line of a dialogue can't give.
 pub fn folded_text(
     rt: &(impl Threads + Sync),
     alloc: Global,

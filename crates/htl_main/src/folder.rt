@@ -16,7 +16,8 @@ use std::alloc::Global;
 use std::thread::Threads;
 
 /// The least number of held events and segments that starts a fold. Those of one more read are held
-/// on top. An event takes 48 bytes and its stack, which equal stacks share.
+/// on top, or of one more round of several workers, or of a whole text in hexadecimal. An event
+/// takes 48 bytes and its stack, which equal stacks share.
 const FEW_HELD: u64 = 1 << 20;
 
 /// Takes segments into an analyst, up to the first that is unfit, and has it fold what it holds.
@@ -24,7 +25,8 @@ const FEW_HELD: u64 = 1 << 20;
 pub(crate) struct Folder {
     /// Recently met stacks, so that equal ones share memory.
     cache: StackCache,
-    /// How many events and segments were taken since the last fold.
+    /// How many events and segments were taken since the last fold, but for the first segment of
+    /// all.
     held: u64,
     /// The analyst, where a segment was taken.
     pub analyst: Option<Analyst<Global>>,
@@ -78,7 +80,7 @@ impl Folder {
         Ok(())
     }
 
-    /// Folds with this number of workers if `most_held` records or more are held.
+    /// Folds with this number of workers if `most_held` events and segments or more are held.
     pub fn fold_if_full(&mut self, rt: &(impl Threads + Sync), workers: u32) -> Result<(), NoMemory>
         ensures { OnOk result (Took folds_of self.old self.new []) }
     {
@@ -88,8 +90,8 @@ impl Folder {
         self.fold_by(rt, workers)
     }
 
-    /// Folds all held segments that can be folded, with this number of workers. It asks for memory only
-    /// where a segment was taken.
+    /// Folds all held segments that can be folded, with this number of workers. It asks for memory
+    /// only where a segment was taken.
     pub fn fold_by(&mut self, rt: &(impl Threads + Sync), workers: u32) -> Result<(), NoMemory>
         ensures kept { (first : Option State) (given : List Content)
             → Folds first self.old.analyst self.old.unfit self.old.segments given
@@ -131,9 +133,9 @@ impl SegmentKeeper for Folder {
     }
 }
 
-/// The number of held records that starts a fold: one for each handle whose latest event is kept,
-/// since each fold copies these, but at least `FEW_HELD`. With three, 10 GB took 4 % less time and a
-/// third more memory.
+/// The number of held events and segments that starts a fold: one for each handle whose latest
+/// event is kept, since each fold copies these, but at least `FEW_HELD`. With three for each
+/// handle, 10 GB took 4 % less time and a third more memory.
 fn most_held(analyst: &Option<Analyst<Global>>) -> u64 {
     let mut latest = 0u64;
     if let Some(analyst) = analyst {
@@ -157,8 +159,8 @@ fn begun_by(alloc: Global, segment: Segment) -> Result<Analyst<Global>, NoMemory
     }
 }
 
-/// Has an analyst take a segment, or says why the segment is unfit. `place` is the number of segments
-/// before it.
+/// Has an analyst take a segment, or says why the segment is unfit. `place` is the number of
+/// segments before it.
 fn take(
     analyst: &mut Analyst<Global>,
     segment: Segment,

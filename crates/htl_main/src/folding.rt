@@ -11,7 +11,7 @@ ghost use Rattle.htl_case.specs.Cases.{IsCaseOf};
 ghost use Rattle.htl_main.specs.Completeness.{IsComplete};
 ghost use Rattle.htl_main.specs.Coverages.{IsCoverage};
 ghost use Rattle.htl_main.specs.Folders.{IsMissingOf};
-ghost use Rattle.htl_main.specs.Folders.{IsAdded, IsNotAdded, IsSymbolsFault};
+ghost use Rattle.htl_main.specs.Folders.{IsAddedToFolded, IsNotAdded, IsSymbolsFault};
 ghost use Rattle.htl_main.specs.Folding.{AreFolded, AreReadToFold};
 ghost use Rattle.htl_main.specs.Folding.{IsBeginningRefused, IsFolded, IsFoldingRefused, IsHalfKnown};
 ghost use Rattle.htl_main.specs.Origins.{by_fault};
@@ -34,8 +34,8 @@ use htl_taken::Gap;
 use std::alloc::Global;
 use std::thread::Threads;
 
-/// What was folded of the segments that were read, and the names of addresses. No event is kept, but
-/// for those of segments that wait for others with lower numbers.
+/// What was folded of the segments that were read, and the names of addresses. No event is kept,
+/// but for those of segments that wait for others with lower numbers.
 #[derive(Drop)]
 pub struct Folded {
     /// The analyst, from the first segment on.
@@ -87,6 +87,7 @@ pub fn load_folded<Rt: Threads + Sync, R: Parted>(
         symbols: Symbols::none(alloc),
     };
     let (taken, far) = take_all(rt, alloc, setting, &mut folded, inputs);
+    // A fault is reported first: nothing is kept of a dialogue that doesn't begin.
     let taken = taken?;
     far?;
     let added = added_to(alloc, setting.complete, &folded, 0, taken)?;
@@ -94,8 +95,8 @@ pub fn load_folded<Rt: Threads + Sync, R: Parted>(
     Ok((folded, added))
 }
 
-/// Reads sources one after another and folds their segments as they come, after those that were folded
-/// before. Several workers read and fold in turn, some hundred megabytes at a time.
+/// Reads sources one after another and folds their segments as they come, after those that were
+/// folded before. Several workers read about 32 MB each, fold if much is held, and read on.
 ///
 /// Each source is read to its end, even after an unfit segment, whose fault is reported only if no
 /// source has a fault of its own. Segments taken before a fault stay taken: a mended source can be
@@ -131,6 +132,7 @@ pub fn fold<Rt: Threads + Sync, R: Parted>(
     check_workers(setting.workers)?;
     let before = folded.number();
     let (taken, far) = take_all(rt, alloc, setting, folded, inputs);
+    // Refused memory is reported first: any other fault says that all that was taken is folded.
     far?;
     let taken = taken?;
     let added = added_to(alloc, setting.complete, folded, before, taken)?;
@@ -146,7 +148,8 @@ fn added_to(
     before: u64,
     taken: Taken,
 ) -> Result<Added, RunFault>
-    ensures ok { IfOk result (IsAdded complete folded.now.analyst before taken.segments taken.cut) }
+    ensures ok { IfOk result (IsAddedToFolded complete folded.now.analyst before taken.segments
+        taken.cut) }
     ensures err { IfErr result (IsNotAdded complete folded.now.analyst) }
 {
     let Some(analyst) = &folded.analyst else {

@@ -7,8 +7,8 @@ ghost use Rattle.htl_main.specs.Picking.{is_of_open_handles};
 use htl_command::Question;
 use htl_event::Interest;
 
-/// The events that the question asks about: those of a process, those that tell of its open handles,
-/// those of an object, or all.
+/// The events that the question asks about: those of a process, those that tell of its open
+/// handles, those of an object, or all.
 pub fn interest(question: Question) -> Interest
     ensures { result ≡ interest_of question }
 {
@@ -23,7 +23,8 @@ pub fn interest(question: Question) -> Interest
     }
 }
 
-/// All events of the process, in place of those that tell of its open handles.
+/// All events of the process, in place of those that tell of its open handles. Any other interest
+/// stays.
 pub fn widened(interest: Interest) -> Interest
     ensures { result ≡ widened interest }
 {

@@ -83,8 +83,8 @@ pub fn analysts_agree()
 
 /// A summary of a case says exactly what an analyst answers that took the segments of the case: how
 /// many segments and events there are, which segments are missing, and which processes and objects
-/// there are. Beside these it says of the case how many processors there are and up to which sequence
-/// no segment is missing, which are no questions to an analyst.
+/// there are. Beside these it says of the case how many processors there are and up to which
+/// sequence no segment is missing, which are no questions to an analyst.
 pub fn summaries_agree()
     ensures { (T : Trace) (S : ℕ → ℕ → Bool) (C : Trace) (totals : Totals) (gaps : Vec Gap)
         (processes : Vec ProcessRow) (objects : Vec ObjectRow) → IsTakenCase T S C
@@ -92,9 +92,9 @@ pub fn summaries_agree()
         ↔ AreAnswers T S C totals gaps processes objects }
 {}
 
-/// What was folded of segments of a trace is an analyst as the headline of `htl_case` has them: it is
-/// right about the trace, and its keys are exactly the keys of the case of these segments. So its
-/// answers over its keys are those over the case (`answers_are_of_the_case` of `htl_case`).
+/// What was folded of segments of a trace is an analyst as the headline of `htl_case` has them: it
+/// is right about the trace, and its keys are exactly the keys of the case of these segments. So
+/// its answers over its keys are those over the case (`answers_are_of_the_case` of `htl_case`).
 pub fn folded_analysts_agree()
     ensures { (T : Trace) (segments : List Content) (a : State) (C : Trace) → IsTrace T
         → ((s : Content) → Contains segments s → Contains T.segments s)
@@ -106,8 +106,8 @@ pub fn any_can_be_compacted()
     ensures { AnyCanBeCompacted }
 {}
 
-/// There are analysts of every history: whatever segments of a trace an analyst takes, and however it
-/// and others are merged and compacted, there is a state that this leaves.
+/// There are analysts of every history: whatever segments of a trace an analyst takes, and however
+/// it and others are merged and compacted, there is a state that this leaves.
 pub fn any_history_leaves_a_state()
     ensures { AnyHistoryLeavesAState }
 {}

@@ -1,10 +1,10 @@
 //! The run: from the bytes of inputs to the printed answer.
 //!
 //! The program calls `pick_from`, which reads the sources of a question and keeps only what the
-//! question asks about. Where only whole segments tell what comes of the sources, or where these can't
-//! be read again, it calls `run_from`, which keeps whole segments. `run` does the same over bytes in
-//! memory. `dump_from` writes the segments of sources as text, and `encode_from` writes the segments of
-//! texts as bytes.
+//! question asks about. Where only whole segments tell what comes of the sources, or where these
+//! can't be read again, it calls `run_from`, which keeps whole segments. `run` does the same over
+//! bytes in memory. `dump_from` writes the segments of sources as text, and `encode_from` writes
+//! the segments of texts as bytes.
 //!
 //! `run_from` loads its sources, answers and writes. Where many questions come, a caller does the
 //! same: `load` reads the sources once, and `answer_text` answers each question.
@@ -26,16 +26,18 @@
 //! outcome, inputs have one coverage, runs and analysts give the same answers and summaries, and
 //! there are analysts of every history).
 //!
-//! `specs/` is read in this order: `Inputs` (which segments the inputs encode, and which input is
-//! refused first), `CutInputs` (which of them end within a segment), `Summaries` (what a summary says
-//! of a trace), `Coverages` (how much of its trace a case has), `Subjects` (whether what was asked
-//! about has an event), `Answers` and `Printed` (the answer and its lines, or the first fault in the
-//! order of a run), `Origins` (which two segments a fault is about), `Causes` and `Sources` (how a run
-//! ends for out of memory or by a failing device), `Readings` (how any run reads its sources, in one
-//! record), `Dumps` and `Encodings` (what the runs of `dump` and `encode` write, and why they end),
-//! `Loading` (what is loaded before a question is answered), `Adding` (what more sources add to it),
-//! `Folding` (what a reading that forgets folds of its sources), `Picked` (what a run that keeps only
-//! what its question asks about reports, and when only whole segments tell), `Analysts` (what an
+//! `specs/` is read in the order of `specs/Lib`: `Inputs` (which segments the inputs encode, and
+//! which input is refused first), `CutInputs` (which of them end within a segment), `Completeness`
+//! (whether segments are missing, and which is the least), `Moments` (the moment up to which events
+//! count), `Summaries` (what a summary says of a trace), `Coverages` (how much of its trace a case
+//! has), `Subjects` (whether what was asked about has an event), `Answers` and `Printed` (the
+//! answer and its lines, or the first fault in the order of a run), `Causes` and `Sources` (how a
+//! run ends for out of memory or by a failing device), `Readings` (how any run reads its sources,
+//! in one record), `Dumps` and `Encodings` (what the runs of `dump` and `encode` write, and why
+//! they end), `Origins` (which two segments a fault is about), `Loading` (what is loaded before a
+//! question is answered), `Adding` (what more sources add to it), `Folding` (what a reading that
+//! forgets folds of its sources), `Picked` (what a run that keeps only what its question asks about
+//! reports, and when only whole segments tell), `Statuses` (the exit statuses), `Analysts` (what an
 //! analyst answers of a summary) and `Histories` (that an analyst can go through any history).
 #![tactic(auto)]
 

@@ -28,8 +28,8 @@ use htl_symbols::Symbols;
 use std::alloc::Global;
 use std::thread::Threads;
 
-/// The case of all segments, how much of its trace it has, which inputs were cut, and the names of its
-/// addresses.
+/// The case of all segments, how much of its trace it has, which inputs were cut, and the names of
+/// its addresses.
 #[derive(Drop)]
 pub struct Loaded {
     pub case: Case,

@@ -35,9 +35,9 @@ use htl_summary::{Objects, Summary};
 use std::alloc::Global;
 use std::thread::Threads;
 
-/// The lines of the answer to the job's question over what was picked of a case, and what is reported
-/// beside them. A case with a gap is refused where the job asks for a complete one. There is no answer
-/// if only open handles are asked about, and nothing tells of them.
+/// The lines of the answer to the job's question over what was picked of a case, and what is
+/// reported beside them. A case with a gap is refused where the job asks for a complete one. There
+/// is no answer if only open handles are asked about, and nothing tells of them.
 pub(crate) fn answered_of_picks(
     rt: &(impl Threads + Sync),
     alloc: Global,
@@ -82,8 +82,8 @@ pub(crate) fn answered_of_picks(
     Ok(Some((lines, completed)))
 }
 
-/// Whether something that was picked of a case, up to a moment, is about the question's subject. None
-/// tells that nothing is, and that more of the case might be.
+/// Whether something that was picked of a case, up to a moment, is about the question's subject.
+/// None tells that nothing is, and that more of the case might be.
 fn subject_of_picks(job: &Job, interest: Interest, case: &PickedCase) -> Option<bool>
     requires { Serves job.now.question interest }
     ensures some { IfSome result (λ has_subject. (until : Option ℕ) (segments : List Content)
@@ -107,8 +107,8 @@ fn falls_short(interest: Interest, has_subject: bool) -> bool
     !has_subject && is_of_open_handles(interest)
 }
 
-/// The answer to the job's question about what was picked of a case up to a moment. The case misses this
-/// of its trace.
+/// The answer to the job's question about what was picked of a case up to a moment. The case misses
+/// this of its trace.
 fn answer_of_picks(
     rt: &(impl Threads + Sync),
     alloc: Global,

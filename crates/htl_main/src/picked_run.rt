@@ -35,8 +35,9 @@ pub enum Lacking {
     Segments,
 }
 
-/// The same as `run_from`, but it keeps no segments. It makes only the events that are of this interest:
-/// those that the question asks about (`interest`), or all events of its process (`widened`).
+/// The same as `run_from`, but it keeps no segments. It makes only the events that are of this
+/// interest: those that the question asks about (`interest`), or all events of its process
+/// (`widened`).
 ///
 /// Where these don't tell the outcome, it returns what it lacks.
 pub fn pick_from<Rt: Threads + Sync, R: Parted, W: Sink>(

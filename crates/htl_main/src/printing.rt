@@ -40,12 +40,12 @@ use std::thread::Threads;
 /// with addresses by name where the symbol table has them.
 ///
 /// The number of workers is tested first; then each input in order is decoded, the segments are
-/// made a case, which is refused where it has a gap and the job asks for a complete one, the symbols
-/// are read, and the answer is made. The first fault ends the run. Nothing is written before the
-/// whole text is made; after a failed write some first part of it went out. What is printed is the
-/// same for every number of workers. A run that ends well reports how much of its trace the case of
-/// all segments has, whether it has an event of what was asked about, and whether the answer finds
-/// something.
+/// made a case, which is refused where it has a gap and the job asks for a complete one, the
+/// symbols are read, and the answer is made. The first fault ends the run. Nothing is written
+/// before the whole text is made; after a failed write some first part of it went out. What is
+/// printed is the same for every number of workers. A run that ends well reports how much of its
+/// trace the case of all segments has, whether it has an event of what was asked about, and whether
+/// the answer finds something.
 pub fn run<Rt: Threads + Sync, W: Sink>(
     rt: &Rt,
     alloc: Global,
@@ -157,7 +157,8 @@ pub struct AnswerText {
 }
 
 /// Answers the job's question over what was loaded. A run over the same inputs prints exactly these
-/// lines, for every number of workers.
+/// lines, for every number of workers. `workers` counts here, and not the job's own number, which a
+/// line of a dialogue can't give.
 pub fn answer_text(
     rt: &(impl Threads + Sync),
     alloc: Global,

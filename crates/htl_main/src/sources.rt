@@ -54,8 +54,8 @@ pub(crate) fn read_all<Rt: Threads + Sync, R: Parted>(
     Ok(decoded)
 }
 
-/// The segments of the source at a place, read by this number of workers. One worker gathers a text in
-/// hexadecimal whole, and then decodes it.
+/// The segments of the source at a place, read by this number of workers. One worker gathers a text
+/// in hexadecimal whole, and then decodes it.
 fn read_input<Rt: Threads + Sync, R: Parted>(
     rt: &Rt,
     alloc: Global,

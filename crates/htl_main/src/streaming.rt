@@ -22,8 +22,7 @@ use htl_device::{Parted, Sink};
 use std::alloc::Global;
 use std::thread::Threads;
 
-/// The same as `run` for the bytes that sources give, each of which is read to its end in reads of
-/// 65,536 bytes.
+/// The same as `run`, for the bytes that sources give. Each source is read to its end.
 ///
 /// A fault of a source ends the run: bytes are decoded as they come, and nothing is read after the
 /// read that showed the fault. A text in hexadecimal is read whole first. Several workers begin

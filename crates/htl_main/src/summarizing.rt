@@ -60,7 +60,8 @@ pub(crate) fn summary_of_lists<Rt: Threads + Sync, E: EventList + Sync>(
     summarize(rt, alloc, workers, &[part])
 }
 
-/// The totals of a case that is complete to this sequence, with these numbers of events and objects.
+/// The totals of a case that is complete to this sequence, with these numbers of events and
+/// objects.
 fn totals(case: &Case, events: u64, complete_to: u64, objects: u64) -> Totals
     requires complete_to { IsCompleteTo case.now complete_to }
     ensures { (until : Option ℕ)

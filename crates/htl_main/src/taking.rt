@@ -94,8 +94,8 @@ pub(crate) fn take_all<Rt: Threads + Sync, R: Parted>(
     (Ok(taken), far)
 }
 
-/// Has a folder take the segments of all sources. The first source that can't be read to its end ends
-/// the reading.
+/// Has a folder take the segments of all sources. The first source that can't be read to its end
+/// ends the reading.
 fn read_all<Rt: Threads + Sync, R: Parted>(
     rt: &Rt,
     alloc: Global,

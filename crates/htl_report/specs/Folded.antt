@@ -10,7 +10,7 @@ use Rattle.htl_report.specs.Rows.{first_rows}
 abbrev pub folded_byte : ℕ → ℕ
 folded_byte b = if b == 59 then 58 else (if b == 10 || b == 13 then 32 else b)
 
--- an address as in other texts
+-- an address as other texts print it, each byte as `folded_byte` has it
 abbrev pub folded_frame : List Range → ℕ → List ℕ
 folded_frame symbols address = map folded_byte (named address (resolved symbols address))
 

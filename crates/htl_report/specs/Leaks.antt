@@ -6,7 +6,7 @@ use Rattle.htl_report.specs.Addresses.{line_feed, stack_lines}
 use Rattle.htl_report.specs.Parts.{process_head}
 use Rattle.htl_report.specs.Rows.{first_rows}
 
--- how many handles
+-- the line that says how many handles a stack opened
 unfoldable pub leak_line : ℕ → List ℕ
 leak_line handles = codes "LEAK handles=" ++ (decimal handles ++ line_feed)
 

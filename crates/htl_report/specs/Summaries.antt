@@ -43,19 +43,19 @@ gap_line (Absent processor) = absent_line processor
 unfoldable pub handles_part : ProcessRow → List ℕ
 handles_part row = codes "PROCESS process=" ++ (decimal row.process ++ (codes " outstanding=" ++ decimal row.outstanding))
 
--- its events of each kind
+-- how many events of each kind a process has
 unfoldable pub events_part : ProcessRow → List ℕ
 events_part row =
     codes " opens=" ++ (decimal row.opens ++ (codes " closes=" ++ (decimal row.closes ++ (codes " bad=" ++ decimal row.bad))))
 
--- its snapshot mark and its last exit
+-- the snapshot mark and the last exit of a process
 unfoldable pub moments_part : ProcessRow → List ℕ
 moments_part row = codes " mark=" ++ (decimal row.mark ++ (codes " exit=" ++ (decimal row.exit ++ line_feed)))
 
 abbrev pub process_line : ProcessRow → List ℕ
 process_line row = handles_part row ++ (events_part row ++ moments_part row)
 
--- its tags, those that aren't balanced, and the references and dereferences of all of them
+-- an object's tags, those that aren't balanced, and the references and dereferences under all of them
 unfoldable pub tags_part : ObjectRow → List ℕ
 tags_part row =
     codes " tags=" ++ (decimal row.tags ++ (codes " unbalanced=" ++ (decimal row.unbalanced

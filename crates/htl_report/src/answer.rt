@@ -16,7 +16,8 @@ use htl_symbols::Symbols;
 use htl_taken::Gap;
 use std::alloc::{AllocError, Global};
 
-/// The answer to a question, with what was asked. Rows are printed in the order that they have here.
+/// The answer to a question, with what was asked. Rows are printed in the order that they have
+/// here.
 #[derive(Debug, Drop)]
 pub enum Answer {
     /// The handles of a process that are open, each by the event that opened it.
@@ -24,8 +25,8 @@ pub enum Answer {
         process: u32,
         rows: Vec<SharedEvent>,
     },
-    /// The handles of a process that are open and were opened after a sequence, each by the event that
-    /// opened it.
+    /// The handles of a process that are open and were opened after a sequence, each by the event
+    /// that opened it.
     Diff {
         process: u32,
         since: u64,
@@ -65,7 +66,8 @@ pub enum Answer {
         process: u32,
         rows: Vec<Point>,
     },
-    /// A summary: the segments that are missing, each process, and the objects with an unbalanced tag.
+    /// A summary: the segments that are missing, each process, and the objects with an unbalanced
+    /// tag.
     Summary {
         totals: Totals,
         gaps: Vec<Gap>,
@@ -79,8 +81,8 @@ pub enum Answer {
 ///
 /// Where `until` is given, the first line says that events count up to this moment.
 ///
-/// Where `top` is given, at most the first `top` rows are printed; of a summary this many processes and
-/// this many objects, and all gaps. The first line counts all rows.
+/// Where `top` is given, at most the first `top` rows are printed; of a summary this many processes
+/// and this many objects, and all gaps. The first line counts all rows.
 pub fn text(
     alloc: Global,
     answer: &Answer,

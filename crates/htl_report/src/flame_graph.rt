@@ -11,8 +11,8 @@ use htl_symbols::Symbols;
 use std::alloc::{AllocError, Global};
 
 /// The stacks of an answer `Leaks` in the form of flame graph programs, a line for each: its
-/// frames, the outermost first, separated by `;`, a space, and the number of handles. Where `top` is
-/// given, at most the first `top` rows are printed.
+/// frames, the outermost first, separated by `;`, a space, and the number of handles. Where `top`
+/// is given, at most the first `top` rows are printed.
 ///
 /// Frames are printed as in `text`, but a `;` within a name as `:`, and a line feed or carriage
 /// return as a space. An empty stack is `(no stack)`.

@@ -140,8 +140,8 @@ pub fn write_tag(out: &mut String, tag: &[u8]) -> Result<(), AllocError>
     Ok(())
 }
 
-/// The character by which a byte of a tag is shown: printable ASCII is itself, and every other byte a
-/// dot.
+/// The character by which a byte of a tag is shown: printable ASCII is itself, and every other byte
+/// a dot.
 pub fn shown_byte(byte: u8) -> char
     ensures value { result ≡ shown_byte byte }
     ensures ascii { result < 128 }

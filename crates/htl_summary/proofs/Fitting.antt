@@ -2,7 +2,6 @@
 use Rattle.std.proofs.Common.{◌≡◌, ℕ, ◌+◌, ◌<◌, ◌≤◌, ◌^◌, cond, ◌==◌, Bool, true, false, List, ◌++◌, Option, Some, refl, arith}
 use Rattle.std.specs.Prelude.{Contains}
 use Rattle.std.specs.List.{sum_by, filter_map}
-use Rattle.std.specs.Ordering.{nat_cmp}
 use Rattle.htl_event.specs.declared.slot.Slot.{Slot}
 use Rattle.htl_event.specs.declared.slot.Slot.TheVariants.{Tagged, Handles, Bad}
 use Rattle.htl_event.specs.declared.slot.Count.{Count}
@@ -24,14 +23,14 @@ total sum = total_of sum.1
 -- a number of rows, where a row has no more of it than its sum comes to
 module _ {Row : Type 0} (key : Row → ℕ) (both : Row → Row → Row) (f : Sum → Option Row) (sums : List Sum) (lt : sum_by total sums < 2 ^ 64)
     (before left right after : List Row) (k : ℕ) (x y : Row) (is : filter_map f sums ≡ before ++ (left ++ (right ++ after)))
-    (one : total_at nat_cmp key (λ (row : Row). row) both k left ≡ Some x)
-    (two : total_at nat_cmp key (λ (row : Row). row) both k right ≡ Some y) where
+    (one : total_at key both k left ≡ Some x)
+    (two : total_at key both k right ≡ Some y) where
   fits : (field : Row → ℕ) → ((a b : Row) → field (both a b) ≡ field a + field b)
       → ((sum : Sum) → Contains sums sum → amount field (f sum) ≤ total sum) → field x + field y < 2 ^ 64
   fits field adds upto =
       let same = sum_filter_map field f sums in
       let most = sum_upto (λ (sum : Sum). amount field (f sum)) total sums upto in
-      total-fits nat_cmp key (λ (row : Row). row) both field adds (2 ^ 64) (filter_map f sums) before left right after k x y
+      total-fits key both field adds (2 ^ 64) (filter_map f sums) before left right after k x y
       (omega (arith, same, most, lt)) is one two
 
 -- ---- processes
@@ -53,7 +52,7 @@ process_of usage = usage.process
 
 -- where all sums of slots add up to less than 2 ^ 64, what they say of one process can be added up
 pub usages_fit : (sums : List Sum) → sum_by total sums < 2 ^ 64
-    → CanAddUp nat_cmp process_of (λ (row : Usage). row) both_usages FitUsages (filter_map of_sum sums)
+    → CanAddUp process_of both_usages FitUsages (filter_map of_sum sums)
 usages_fit sums lt before left right after k x y is one two =
     let all = fits process_of both_usages of_sum sums lt before left right after k x y is one two in (
       all (λ u. u.opens) (λ a b. refl) (λ sum h. usage_within (λ u. u.opens) sum.0 sum.1 (λ p. omega arith) (λ p. omega arith)),
@@ -83,7 +82,7 @@ object_of row = row.object
 
 -- where all sums of slots add up to less than 2 ^ 64, what they say of one object's tags can be added up
 pub objects_fit : (sums : List Sum) → sum_by total sums < 2 ^ 64 → ((sum : Sum) → Contains sums sum → IsPositive sum.1)
-    → CanAddUp nat_cmp object_of (λ (row : ObjectRow). row) both_objects FitObjects (filter_map tag_of_sum sums)
+    → CanAddUp object_of both_objects FitObjects (filter_map tag_of_sum sums)
 objects_fit sums lt positive before left right after k x y is one two =
     let all = fits object_of both_objects tag_of_sum sums lt before left right after k x y is one two in
     record {

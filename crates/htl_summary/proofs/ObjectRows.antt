@@ -4,7 +4,7 @@ use Rattle.std.proofs.Common.{Option, Some, None, T, refl, sym, ap, subst, ◌�
 use Rattle.std.specs.Prelude.{Contains, ◌↔◌, ◌⊎◌, length, count_by, filter, nat_lt}
 use Rattle.std.specs.List.{sum_by, filter_map, AllByRecursion}
 use Rattle.std.specs.Ordering.{nat_cmp, is_eq}
-use Rattle.std.specs.Cmp.{unsigned_tied, nat_cmp_total}
+use Rattle.std.specs.Cmp.{unsigned_tied}
 use Rattle.std.specs.FinMap.Entries.{find, below_all}
 use Rattle.std.proofs.lemmas.Bool.{eqb-true, cases_Bool, cases_lt, and_parts, ltb-true, lt-ltb}
 use Rattle.std.proofs.lemmas.Cmp.{nat_eq_equiv}
@@ -27,14 +27,14 @@ use Rattle.htl_event.specs.Summaries.{IsOfObject, IsObject, IsNumberOfObjects, i
 use Rattle.htl_event.proofs.Members.{Contains-here, Contains-there, Contains-map, Contains-from_map}
 use Rattle.htl_event.proofs.Members.{Contains-filter, Contains-from_filter}
 use Rattle.htl_event.proofs.Counts.{counts_are_determined}
-use Rattle.htl_sorted.specs.Entries.{IsSorted, entries}
+use Rattle.htl_sorted.specs.Entries.{IsSorted}
 use Rattle.htl_lemmas.proofs.Tests.{both_left, both_right, less, lower}
 use Rattle.htl_tree.specs.Trees.{BySlot}
 use Rattle.htl_answers.specs.Tags.{tag_row}
 use Rattle.htl_answers.proofs.FilterMaps.{Contains-filter_map, Contains-from_filter_map, IsRising-filter_map}
 use Rattle.htl_answers.proofs.TagLemmas.{row_of, row_is, row_at, tags_rise}
 use Rattle.htl_answers.specs.Sums.{times_of, ListsSlotSums}
-use Rattle.htl_summary.specs.Totals.{one_at, total_at}
+use Rattle.htl_summary.specs.Totals.{by_owner, one_at, total_at}
 use Rattle.htl_summary.specs.ObjectTags.{one_if_unbalanced, tag_of, both_objects}
 use Rattle.htl_answers.proofs.NumberSums.{amount, sum_same, sum_filter_map}
 use Rattle.htl_summary.proofs.Totals.{found_row, row_there, total-amount, total-keeps, number_at}
@@ -49,16 +49,9 @@ Balance = List ℕ × Count
 abbrev key : ObjectRow → ℕ
 key row = row.object
 
-abbrev whole : ObjectRow → ObjectRow
-whole row = row
-
--- rows as entries of a table by object
-abbrev by_object : List ObjectRow → List (ℕ × ObjectRow)
-by_object rows = entries key whole rows
-
 -- what the sums say of an object
 abbrev object_at : ℕ → List Sum → Option ObjectRow
-object_at object sums = total_at nat_cmp key whole both_objects object (filter_map (λ (sum : Sum). tag_of sum.0 sum.1) sums)
+object_at object sums = total_at key both_objects object (filter_map (λ (sum : Sum). tag_of sum.0 sum.1) sums)
 
 -- the object has an unbalanced tag
 abbrev pub shows : ObjectRow → Bool
@@ -74,7 +67,7 @@ single object count =
 -- the number of an object in a slot, by its row and by its balance
 tag_share : (g : ObjectRow → ℕ) (f : Balance → ℕ) → ((object : ℕ) (tag : List ℕ) (count : Count) → g (single object count) ≡ f (tag, count))
     → (object : ℕ) (slot : Slot) (count : Count)
-    → amount (λ (row : ObjectRow). amount g (one_at nat_cmp key whole object row)) (tag_of slot count) ≡ amount f (tag_row object slot count)
+    → amount (λ (row : ObjectRow). amount g (one_at key object row)) (tag_of slot count) ≡ amount f (tag_row object slot count)
 tag_share g f same object (Tagged its tag) count =
     number_at key g object (single its count)
     ∙ ap (λ (b : Bool). cond b (g (single its count)) 0) (nat_eq_equiv.symm object its)
@@ -152,9 +145,9 @@ module _ (events : List Event) (sums : List Sum) (listed : ListsSlotSums events 
       → ((o : ℕ) (tag : List ℕ) (count : Count) → g (single o count) ≡ f (tag, count))
       → amount g (object_at object sums) ≡ sum_by f balances
   number g adds f same =
-      total-amount nat_cmp key whole both_objects g adds object of_slots
-      ∙ sum_filter_map (λ (row : ObjectRow). amount g (one_at nat_cmp key whole object row)) (λ (sum : Sum). tag_of sum.0 sum.1) sums
-      ∙ sum_same (λ (sum : Sum). amount (λ (row : ObjectRow). amount g (one_at nat_cmp key whole object row)) (tag_of sum.0 sum.1))
+      total-amount key both_objects g adds object of_slots
+      ∙ sum_filter_map (λ (row : ObjectRow). amount g (one_at key object row)) (λ (sum : Sum). tag_of sum.0 sum.1) sums
+      ∙ sum_same (λ (sum : Sum). amount (λ (row : ObjectRow). amount g (one_at key object row)) (tag_of sum.0 sum.1))
       (λ (sum : Sum). amount f (row_of object sum)) sums (λ sum h. tag_share g f same object sum.0 sum.1)
       ∙ sym (sum_filter_map f (row_of object) sums)
 
@@ -173,7 +166,7 @@ module _ (events : List Event) (sums : List Sum) (listed : ListsSlotSums events 
 
   -- the row of the object has a tag
   pub is_tagged : (row : ObjectRow) → object_at object sums ≡ Some row → HasTag object row
-  is_tagged row e = total-keeps nat_cmp key whole both_objects (HasTag object) (tagged_both object) object of_slots each row e
+  is_tagged row e = total-keeps key both_objects (HasTag object) (tagged_both object) object of_slots each row e
     where
       each : (r : ObjectRow) → Contains of_slots r → is_eq (nat_cmp object r.object) ≡ true → HasTag object r
       each r h t =
@@ -249,9 +242,9 @@ one_row events a b p q e =
     λ i. record { object = e i; tags = tags i; unbalanced = unbalanced i; refs = refs i; derefs = derefs i }
 
 module _ (events : List Event) (sums : List Sum) (rows : List ObjectRow) (listed : ListsSlotSums events sums)
-    (ordered : IsSorted nat_cmp (by_object rows)) (values : (object : ℕ) → find nat_cmp object (by_object rows) ≡ object_at object sums) where
+    (ordered : IsSorted nat_cmp (by_owner key rows)) (values : (object : ℕ) → find nat_cmp object (by_owner key rows) ≡ object_at object sums) where
   at_row : (row : ObjectRow) → Contains rows row → object_at row.object sums ≡ Some row
-  at_row row h = sym (values row.object) ∙ row_there nat_cmp key whole nat_cmp_total rows ordered row h
+  at_row row h = sym (values row.object) ∙ row_there key rows ordered row h
 
   from_rows : (row : ObjectRow) → Contains rows row → IsObjectRow events row
   from_rows row h =
@@ -279,14 +272,14 @@ module _ (events : List Event) (sums : List Sum) (rows : List ObjectRow) (listed
           let zero = ap (amount tags_number) none in
           absurd (omega (arith, some, number, zero))
       go (Some row) at =
-          let found = found_row nat_cmp key whole object row rows (values object ∙ at) in
+          let found = found_row key object row rows (values object ∙ at) in
           (found.0, found.1, ap key found.2 ∙ (is_tagged events sums listed object row at).1)
 
-  rising_from : (k : ℕ) (rs : List ObjectRow) → T (below_all nat_cmp k (by_object rs)) → AllByRecursion (λ o. k < o) (map key rs)
+  rising_from : (k : ℕ) (rs : List ObjectRow) → T (below_all nat_cmp k (by_owner key rs)) → AllByRecursion (λ o. k < o) (map key rs)
   rising_from k [] h = tt
   rising_from k (r ∷ rs) h = (lower k r.object (less (nat_cmp k r.object) (both_left _ _ h)), rising_from k rs (both_right _ _ h))
 
-  rising : (rs : List ObjectRow) → IsSorted nat_cmp (by_object rs) → IsRising (λ a b. a < b) (map key rs)
+  rising : (rs : List ObjectRow) → IsSorted nat_cmp (by_owner key rs) → IsRising (λ a b. a < b) (map key rs)
   rising [] sorted = tt
   rising (r ∷ rs) sorted = (rising_from r.object rs (both_left _ _ sorted), rising rs (both_right _ _ sorted))
 

@@ -4,7 +4,7 @@ use Rattle.std.proofs.Common.{Option, Some, None, refl, sym, ap, subst, ◌∙�
 use Rattle.std.specs.Prelude.{Contains, ◌↔◌, length}
 use Rattle.std.specs.List.{filter_map}
 use Rattle.std.specs.Ordering.{nat_cmp, is_eq}
-use Rattle.std.specs.Cmp.{unsigned_tied, nat_cmp_total}
+use Rattle.std.specs.Cmp.{unsigned_tied}
 use Rattle.std.specs.FinMap.Entries.{find}
 use Rattle.std.proofs.Math.Bool.{and-true, and-false}
 use Rattle.std.proofs.lemmas.Bool.{eqb-true}
@@ -27,13 +27,11 @@ use Rattle.htl_sorted.specs.Entries.{IsSorted}
 use Rattle.htl_answers.proofs.FilterMaps.{Contains-from_filter_map}
 use Rattle.htl_summary.specs.declared.usage.Usage.{Usage}
 use Rattle.htl_answers.specs.Sums.{times_of, ListsSlotSums}
-use Rattle.htl_summary.specs.Totals.{one_at, total_at}
+use Rattle.htl_summary.specs.Totals.{by_owner, one_at, total_at}
 use Rattle.htl_summary.specs.Usages.{usage_of, both_usages}
-use Rattle.htl_summary.specs.Counted.{by_process}
 use Rattle.htl_summary.specs.Rows.{IsRowOf, AreRowsOf}
 use Rattle.htl_answers.proofs.NumberSums.{amount, sum_same, sum_zero, sum_filter_map, none_or_none}
-use Rattle.htl_summary.proofs.Totals.{found_row, row_there, total-amount, total-keeps}
-use Rattle.htl_summary.proofs.Totals.{number_at}
+use Rattle.htl_summary.proofs.Totals.{found_row, row_there, total-amount, total-keeps, number_at}
 use Rattle.htl_summary.proofs.SlotSums.{side, hits, sums_are_events}
 
 abbrev Sum : Type 0
@@ -96,16 +94,13 @@ no_minus events p h =
 abbrev key : Usage → ℕ
 key usage = usage.process
 
-abbrev whole : Usage → Usage
-whole usage = usage
-
 -- what the sums say of a process
 abbrev usage_at : ℕ → List Sum → Option Usage
-usage_at process sums = total_at nat_cmp key whole both_usages process (filter_map (λ (sum : Sum). usage_of sum.0 sum.1) sums)
+usage_at process sums = total_at key both_usages process (filter_map (λ (sum : Sum). usage_of sum.0 sum.1) sums)
 
 -- the number of a process in what a slot says
 abbrev share : (Usage → ℕ) → ℕ → Sum → ℕ
-share field process sum = amount (λ (row : Usage). amount field (one_at nat_cmp key whole process row)) (usage_of sum.0 sum.1)
+share field process sum = amount (λ (row : Usage). amount field (one_at key process row)) (usage_of sum.0 sum.1)
 
 abbrev opens : Usage → ℕ
 opens usage = usage.opens
@@ -119,7 +114,7 @@ misuses usage = usage.bad
 share_is : (field : Usage → ℕ) (process : ℕ) (slot : Slot) (count : Count) (row : Usage) → usage_of slot count ≡ Some row
     → share field process (slot, count) ≡ cond (process == row.process) (field row) 0
 share_is field process slot count row e =
-    ap (amount (λ (r : Usage). amount field (one_at nat_cmp key whole process r))) e ∙ number_at key field process row
+    ap (amount (λ (r : Usage). amount field (one_at key process r))) e ∙ number_at key field process row
 
 share_opens : (process : ℕ) (slot : Slot) (count : Count) → share opens process (slot, count) ≡ cond (is_handles process slot) (side Plus count) 0
 share_opens process (Handles p) count = share_is opens process (Handles p) count _ refl
@@ -153,8 +148,8 @@ module _ (events : List Event) (sums : List Sum) (listed : ListsSlotSums events 
       → (is_kind : Kind → Bool) → ((kind : Kind) (e : Event) → hits passes sign (slot_by_kind kind e) ≡ (is_kind kind && process == e.process))
       → amount field (usage_at process sums) ≡ how_many is_kind events process
   number field adds passes sign shares is_kind tests =
-      total-amount nat_cmp key whole both_usages field adds process of_slots
-      ∙ sum_filter_map (λ (row : Usage). amount field (one_at nat_cmp key whole process row)) (λ (sum : Sum). usage_of sum.0 sum.1) sums
+      total-amount key both_usages field adds process of_slots
+      ∙ sum_filter_map (λ (row : Usage). amount field (one_at key process row)) (λ (sum : Sum). usage_of sum.0 sum.1) sums
       ∙ sum_same (share field process) (λ (sum : Sum). cond (passes sum.0) (side sign sum.1) 0) sums (λ sum h. shares sum.0 sum.1)
       ∙ sums_are_events passes sign events sums listed
       ∙ sum_same (λ (e : Event). cond (hits passes sign (slot_of e)) 1 0) (λ (e : Event). cond (is_kind e.kind && process == e.process) 1 0) events
@@ -183,7 +178,7 @@ module _ (events : List Event) (sums : List Sum) (listed : ListsSlotSums events 
 
   -- the usage of the process has a use
   pub is_used : (usage : Usage) → usage_at process sums ≡ Some usage → IsUsed process usage
-  is_used usage e = total-keeps nat_cmp key whole both_usages (IsUsed process) (used_both process) process of_slots each usage e
+  is_used usage e = total-keeps key both_usages (IsUsed process) (used_both process) process of_slots each usage e
     where
       each : (row : Usage) → Contains of_slots row → is_eq (nat_cmp process row.process) ≡ true → IsUsed process row
       each row h t =
@@ -240,7 +235,7 @@ module _ (events : List Event) where
   rows_more (v ∷ used) (x ∷ rows) u r are one = (are.0, rows_more used rows u r are.1 one)
 
 module _ (events : List Event) (sums : List Sum) (used : List Usage) (rows sorted : List ProcessRow) (listed : ListsSlotSums events sums)
-    (ordered : IsSorted nat_cmp (by_process used)) (values : (process : ℕ) → find nat_cmp process (by_process used) ≡ usage_at process sums)
+    (ordered : IsSorted nat_cmp (by_owner key used)) (values : (process : ℕ) → find nat_cmp process (by_owner key used) ≡ usage_at process sums)
     (are : AreRowsOf events used rows) where
   from_rows : (row : ProcessRow) → Contains rows row → IsProcessRow events row
   from_rows row h =
@@ -248,7 +243,7 @@ module _ (events : List Event) (sums : List Sum) (used : List Usage) (rows sorte
       let usage = of.0 in
       let is = of.2 in
       let at : usage_at usage.process sums ≡ Some usage =
-      sym (values usage.process) ∙ row_there nat_cmp key whole nat_cmp_total used ordered usage of.1 in
+      sym (values usage.process) ∙ row_there key used ordered usage of.1 in
       let some = (is_used events sums listed usage.process usage at).0 in
       let opens_at = ap (amount opens) at in
       let closes_at = ap (amount closes) at in
@@ -278,7 +273,7 @@ module _ (events : List Event) (sums : List Sum) (used : List Usage) (rows sorte
           let some = is.some in
           absurd (omega (arith, some, opened, closed, misused))
       go (Some usage) at =
-          let found = found_row nat_cmp key whole row.process usage used (values row.process ∙ at) in
+          let found = found_row key row.process usage used (values row.process ∙ at) in
           let there = row_of_usage events used rows are found.0 found.1 in
           let owner : usage.process ≡ row.process = (is_used events sums listed row.process usage at).1 in
           let same : there.0.process ≡ row.process = there.2.owner ∙ ap key found.2 ∙ owner in

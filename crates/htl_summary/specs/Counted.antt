@@ -1,29 +1,20 @@
 -- What is counted for a summary: how often each slot came, and what each process did with handles.
-use Rattle.std.specs.Prelude.{◌≡◌, ℕ, ◌<◌, ◌^◌, List, Contains}
+use Rattle.std.specs.Prelude.{◌<◌, ◌^◌, List, Contains}
 use Rattle.std.specs.List.{filter_map, sum_by}
-use Rattle.std.specs.Ordering.{nat_cmp}
-use Rattle.std.specs.FinMap.Entries.{find}
 use Rattle.htl_event.specs.Events.{Event}
 use Rattle.htl_event.specs.Tallies.{total_of, IsPositive}
 use Rattle.htl_event.specs.declared.slot.Slot.{Slot}
 use Rattle.htl_event.specs.declared.slot.Count.{Count}
-use Rattle.htl_sorted.specs.Entries.{IsSorted, entries}
 use Rattle.htl_answers.specs.Parts.{Contents, AreEventsOf}
 use Rattle.htl_answers.specs.Sums.{ListsSlotSums}
 use Rattle.htl_summary.specs.declared.usage.Usage.{Usage}
-use Rattle.htl_summary.specs.Totals.{total_at}
+use Rattle.htl_summary.specs.Totals.{AreAddedUp}
 use Rattle.htl_summary.specs.Usages.{both_usages, usage_of}
 
--- usages as entries of a table by process
-abbrev pub by_process : List Usage → List (ℕ × Usage)
-by_process used = entries (λ (usage : Usage). usage.process) (λ usage. usage) used
-
 -- one usage for each process, in order: what the sums of slots say of it, added up
-pub record AreUsages (sums : List (Slot × Count)) (used : List Usage) : Type 0 where
-  pub sorted : IsSorted nat_cmp (by_process used)
-  pub values : (process : ℕ) → find nat_cmp process (by_process used)
-      ≡ total_at nat_cmp (λ (usage : Usage). usage.process) (λ usage. usage) both_usages process
-      (filter_map (λ (sum : Slot × Count). usage_of sum.0 sum.1) sums)
+abbrev pub AreUsages : List (Slot × Count) → List Usage → Type 0
+AreUsages sums used =
+    AreAddedUp (λ (usage : Usage). usage.process) both_usages (filter_map (λ (sum : Slot × Count). usage_of sum.0 sum.1) sums) used
 
 -- how often each slot of the parts' events came, and the usages of these sums
 pub record AreCounted (parts : List Contents) (sums : List (Slot × Count)) (used : List Usage) : Type 0 where

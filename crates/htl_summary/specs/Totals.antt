@@ -1,30 +1,29 @@
--- Rows of one key made one.
-use Rattle.std.specs.Prelude.{◌≡◌, ℕ, ◌+◌, ◌-◌, ◌<◌, List, [], ◌∷◌, ◌++◌, length, get_or, Option, Some, None, if◌then◌else◌}
-use Rattle.std.specs.Ordering.{is_eq}
-use Rattle.std.specs.declared.cmp.Ordering.{Ordering}
-use Rattle.std.specs.declared.cmp.Ordering.TheVariants.{Greater}
-use Rattle.htl_sorted.specs.Entries.{joined_at}
+-- Rows of one owner, a process or an object, made one.
+use Rattle.std.specs.Prelude.{◌≡◌, ℕ, List, [], ◌∷◌, ◌++◌, Option, Some, None, if◌then◌else◌}
+use Rattle.std.specs.Ordering.{nat_cmp, is_eq}
+use Rattle.std.specs.FinMap.Entries.{find}
+use Rattle.htl_sorted.specs.Entries.{IsSorted, entries, joined_at}
 
--- what a row has at a key
-abbrev pub one_at : {Row K X : Type 0} → (K → K → Ordering) → (Row → K) → (Row → X) → K → Row → Option X
-one_at cmp key value k row = if is_eq (cmp k (key row)) then Some (value row) else None
+-- rows as entries of a table by owner
+abbrev pub by_owner : {Row : Type 0} → (Row → ℕ) → List Row → List (ℕ × Row)
+by_owner owner_of rows = entries owner_of (λ row. row) rows
 
--- what the rows have there, joined
-abbrev pub total_at : {Row K X : Type 0} → (K → K → Ordering) → (Row → K) → (Row → X) → (X → X → X) → K → List Row → Option X
-total_at cmp key value join k [] = None
-total_at cmp key value join k (row ∷ rows) = joined_at join (one_at cmp key value k row) (total_at cmp key value join k rows)
+-- the row, where it is of the owner
+abbrev pub one_at : {Row : Type 0} → (Row → ℕ) → ℕ → Row → Option Row
+one_at owner_of owner row = if is_eq (nat_cmp owner (owner_of row)) then Some row else None
 
--- what parts of the rows that stand side by side have at a key can be joined
-abbrev pub CanAddUp : {Row K X : Type 0} → (K → K → Ordering) → (Row → K) → (Row → X) → (X → X → X) → (X → X → Type 0) → List Row → Type 0
-CanAddUp {Row} {K} {X} cmp key value join can_join rows =
-    (before left right after : List Row) (k : K) (x y : X) → rows ≡ before ++ (left ++ (right ++ after))
-    → total_at cmp key value join k left ≡ Some x → total_at cmp key value join k right ≡ Some y → can_join x y
+-- the rows of the owner, joined
+abbrev pub total_at : {Row : Type 0} → (Row → ℕ) → (Row → Row → Row) → ℕ → List Row → Option Row
+total_at owner_of join owner [] = None
+total_at owner_of join owner (row ∷ rows) = joined_at join (one_at owner_of owner row) (total_at owner_of join owner rows)
 
--- the key of the last row
-abbrev pub HasLastKey : {Row K : Type 0} → (Row → K) → List Row → K → Type 0
-HasLastKey {Row} key rows k = (0 < length rows) × ((d : Row) → key (get_or rows (length rows - 1) d) ≡ k)
+-- one row for each owner, in order: all that were given of it, joined
+pub record AreAddedUp {Row : Type 0} (owner_of : Row → ℕ) (join : Row → Row → Row) (given rows : List Row) : Type 0 where
+  pub sorted : IsSorted nat_cmp (by_owner owner_of rows)
+  pub values : (owner : ℕ) → find nat_cmp owner (by_owner owner_of rows) ≡ total_at owner_of join owner given
 
--- a row has a lesser key than the row before it
-abbrev pub HasFall : {Row K : Type 0} → (K → K → Ordering) → (Row → K) → List Row → Type 0
-HasFall {Row} cmp key rows =
-    (i : ℕ) × (i + 1 < length rows) × ((d : Row) → cmp (key (get_or rows i d)) (key (get_or rows (i + 1) d)) ≡ Greater)
+-- what parts of the rows that stand side by side have of an owner can be joined
+abbrev pub CanAddUp : {Row : Type 0} → (Row → ℕ) → (Row → Row → Row) → (Row → Row → Type 0) → List Row → Type 0
+CanAddUp {Row} owner_of join can_join rows =
+    (before left right after : List Row) (owner : ℕ) (x y : Row) → rows ≡ before ++ (left ++ (right ++ after))
+    → total_at owner_of join owner left ≡ Some x → total_at owner_of join owner right ≡ Some y → can_join x y

@@ -1,18 +1,19 @@
 //! Rows that are made of the sums of slots, and added up for each process and each object.
 
-ghost use Rattle.std.specs.Prelude.{◌≡◌, ℕ, Option, IfOk};
+ghost use Rattle.std.specs.Prelude.{◌≡◌, ◌<◌, ℕ, Option, Some, IfOk, IfSome, IfNone};
+ghost use Rattle.std.specs.Prelude.{length, false, true};
 ghost use Rattle.std.specs.List.{filter_map};
 ghost use Rattle.std.specs.Ordering.{nat_cmp};
 ghost use Rattle.std.specs.FinMap.Entries.{find};
 ghost use Rattle.htl_event.specs.declared.slot.Slot.{Slot};
 ghost use Rattle.htl_event.specs.declared.slot.Count.{Count};
-ghost use Rattle.htl_sorted.specs.Entries.{IsSorted, entries};
-ghost use Rattle.htl_summary.specs.Totals.{total_at, CanAddUp};
+ghost use Rattle.htl_sorted.specs.Entries.{IsSorted, joined_at};
+ghost use Rattle.htl_summary.specs.Totals.{by_owner, one_at, AreAddedUp, CanAddUp};
 
-use crate::adding::add_up;
 use htl_event::{Count, NoMemory, Slot};
-use htl_sorted::{Joined, Keyed};
+use htl_sorted::{Joined, Keyed, merge};
 use std::alloc::{AllocError, Global};
+use std::cmp::Ordering;
 use std::marker::PhantomData;
 
 /// A row of a process or of an object, its owner. Rows of one owner are added up.
@@ -39,37 +40,81 @@ pub(crate) trait OwnedRow: Copy + Drop {
         ensures { result ≡ row_of_sum slot count };
 }
 
-/// The rows of all owners, by owner, from the sums of slots.
+/// The rows of all owners, by owner, from the sums of slots. Where one pass can't make them, the rows
+/// of both halves of the sums are merged.
 pub(crate) fn rows_by_owner<R: OwnedRow>(
     alloc: Global,
     sums: &[(Slot, Count)],
 ) -> Result<Vec<R>, NoMemory>
     requires associative { (x y z : R) → R.joined (R.joined x y) z ≡ R.joined x (R.joined y z) }
-    requires fits { CanAddUp nat_cmp R.owner_of (λ row. row) R.joined R.can_join
+    requires fits { CanAddUp R.owner_of R.joined R.can_join
         (filter_map (λ (sum : Slot × Count). R.row_of_sum sum.0 sum.1) sums.now) }
-    ensures sorted { IfOk result (λ rows.
-        IsSorted nat_cmp (entries R.owner_of (λ row. row) rows.items)) }
-    ensures values { IfOk result (λ rows. (owner : ℕ)
-        → find nat_cmp owner (entries R.owner_of (λ row. row) rows.items)
-        ≡ total_at nat_cmp R.owner_of (λ row. row) R.joined owner
-        (filter_map (λ (sum : Slot × Count). R.row_of_sum sum.0 sum.1) sums.now)) }
+    ensures { IfOk result (λ rows. AreAddedUp R.owner_of R.joined
+        (filter_map (λ (sum : Slot × Count). R.row_of_sum sum.0 sum.1) sums.now) rows.items) }
 {
-    let rows = rows_of_sums::<R>(alloc, sums)?;
-    add_up::<ByOwner<R>>(alloc, &rows)
+    if let Some(rows) = rows_in_order::<R>(alloc, sums)? {
+        return Ok(rows);
+    }
+    let (front, back) = sums.split_at(sums.len() / 2);
+    let left = rows_by_owner::<R>(alloc, front)?;
+    let right = rows_by_owner::<R>(alloc, back)?;
+    let rows = merge::<ByOwner<R>, Global>(alloc, &left, &right)?;
+    Ok(rows)
 }
 
-/// The rows of the sums of slots, not added up yet.
-fn rows_of_sums<R: OwnedRow>(alloc: Global, sums: &[(Slot, Count)]) -> Result<Vec<R>, NoMemory>
-    ensures { IfOk result (λ rows. rows.items
-        ≡ filter_map (λ (sum : Slot × Count). R.row_of_sum sum.0 sum.1) sums.now) }
+/// The same in one pass, or none where an owner is less than the one before. Sums in the order of
+/// slots have their owners in order for long stretches.
+fn rows_in_order<R: OwnedRow>(
+    alloc: Global,
+    sums: &[(Slot, Count)],
+) -> Result<Option<Vec<R>>, NoMemory>
+    requires associative { (x y z : R) → R.joined (R.joined x y) z ≡ R.joined x (R.joined y z) }
+    requires fits { CanAddUp R.owner_of R.joined R.can_join
+        (filter_map (λ (sum : Slot × Count). R.row_of_sum sum.0 sum.1) sums.now) }
+    ensures some { IfOk result (λ made. IfSome made (λ rows. AreAddedUp R.owner_of R.joined
+        (filter_map (λ (sum : Slot × Count). R.row_of_sum sum.0 sum.1) sums.now) rows.items)) }
+    ensures none { IfOk result (λ made. IfNone made (1 < length sums.now)) }
 {
     let mut rows = Vec::new(alloc);
     for (slot, count) in sums {
         if let Some(row) = R::from_sum(*slot, *count) {
-            rows.push(row)?;
+            if !add_row(&mut rows, row)? {
+                return Ok(None);
+            }
         }
     }
-    Ok(rows)
+    Ok(Some(rows))
+}
+
+/// Joins a row to the last one, if that has its owner, or puts it after one of a lesser owner. Where
+/// the last row has a greater owner, it answers false.
+fn add_row<R: OwnedRow>(rows: &mut Vec<R>, row: R) -> Result<bool, NoMemory>
+    requires sorted { IsSorted nat_cmp (by_owner R.owner_of rows.old.items) }
+    requires fits { (x : R)
+        → find nat_cmp (R.owner_of row) (by_owner R.owner_of rows.old.items) ≡ Some x
+        → R.can_join x row }
+    ensures sorted { IfOk result (λ is_added. is_added ≡ true
+        → IsSorted nat_cmp (by_owner R.owner_of rows.new.items)) }
+    ensures values { IfOk result (λ is_added. is_added ≡ true → (owner : ℕ)
+        → find nat_cmp owner (by_owner R.owner_of rows.new.items)
+        ≡ joined_at R.joined (find nat_cmp owner (by_owner R.owner_of rows.old.items))
+        (one_at R.owner_of owner row)) }
+    ensures some { IfOk result (λ is_added. is_added ≡ false → 0 < length rows.old.items) }
+{
+    let Some(last) = rows.last() else {
+        rows.push(row)?;
+        return Ok(true);
+    };
+    match last.owner().cmp(&row.owner()) {
+        Ordering::Less => rows.push(row)?,
+        Ordering::Equal => {
+            let sum = last.plus(&row);
+            let place = rows.len() - 1;
+            rows[place] = sum;
+        }
+        Ordering::Greater => return Ok(false),
+    }
+    Ok(true)
 }
 
 /// Rows by their owners.

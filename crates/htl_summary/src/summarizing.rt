@@ -7,8 +7,8 @@ ghost use Rattle.htl_event.specs.Summaries.{IsNumberOfObjects, IsProcesses, IsUn
 ghost use Rattle.htl_answers.specs.Parts.{AreEventsOf, AreTablesOf, size_of_all};
 ghost use Rattle.htl_summary.specs.Counted.{AreCounted};
 
-use crate::balancing::{Objects, balances_of_slots};
-use crate::leaking::{processes_of, usages_of_slots};
+use crate::by_object::{Objects, balances_of_slots};
+use crate::by_process::{processes_of, usages_of_slots};
 use crate::tables::{Tables, tables_of};
 use crate::usage::Usage;
 use htl_answers::{Part, slot_sums};

@@ -44,8 +44,8 @@ impl Case {
         ensures ok { IfOk result (IsCaseOf segments.items) }
         ensures err { IfErr result (IsRefusal segments.items) }
 
-        // A list has exactly one outcome: its case, or the first rule that it breaks. The answer is
-        // that outcome, or out of memory.
+        // The outcome of a list is its case, or the first rule that it breaks. The answer is that
+        // outcome, or out of memory.
         ensures exact { (outcome : Result Trace CaseFault) → IsOutcome segments.items outcome
             → (result ≡ outcome) ⊎ (result ≡ Err CaseFault.NoMemory) }
     {

@@ -24,7 +24,7 @@ use Rattle.htl_taken.proofs.NumberSets.{numbers_at-set_same}
 use Rattle.htl_answers.specs.Parts.{AreEventsOf, Contents}
 use Rattle.htl_analyst.specs.Keys.{HasTaken, keys, number_taken}
 use Rattle.htl_analyst.specs.Moments.{IsLeastLastFolded}
-use Rattle.htl_analyst.specs.Refusals.{HoldsOther, TakeAccepted}
+use Rattle.htl_analyst.specs.Refusals.{HoldsOther, IsOfState, TakeAccepted}
 use Rattle.htl_analyst.specs.Right.{IsCollection, IsOwned, IsRight, IsState, run_events}
 use Rattle.htl_analyst.specs.States.{State, folded_at, held_at}
 use Rattle.htl_analyst.specs.TakenAll.{HasKeyOf, HasTakenAll}
@@ -44,7 +44,7 @@ use Rattle.htl_main.specs.Completeness.{IsComplete, IsLeastMissing}
 use Rattle.htl_main.specs.Coverages.{IsCoverage}
 use Rattle.htl_main.specs.Folders.{IsFallen, IsNewTo, Keeps, KeepsAll, TookNext}
 use Rattle.htl_main.specs.declared.coverage.Coverage.{Coverage}
-use Rattle.htl_main.specs.Folding.{Accepts, AreAllOf, AreFolded, AreSomeOf, IsFoldedFar, IsUnbroken, IsUnfit}
+use Rattle.htl_main.specs.Folding.{Accepts, AreAllOf, AreFolded, AreOfTraceOf, AreSomeOf, IsFoldedFar, IsUnbroken, IsUnfit}
 use Rattle.htl_case.specs.declared.fault.CaseFault.TheVariants as cases
 use Rattle.htl_command.specs.Needs.{is_of_events, needs_events}
 use Rattle.htl_command.specs.declared.question.Job.{Job}
@@ -261,6 +261,12 @@ module _ (segments : List Content) (a : State) (T : Trace) (took : HasTakenAll s
       ]
 
 -- Segments from before were folded as far as they could be, and others taken since: one more is accepted that the analyst takes.
+-- segments that an analyst took are of the trace of a segment of its trace
+are_of_trace : (segments : List Content) (a : State) (s : Content) → HasTakenAll segments a → s.trace_id ≡ a.trace_id
+    → s.processors ≡ a.processors → AreOfTraceOf segments s
+are_of_trace segments a s took id count = each_member (λ t. (t.trace_id ≡ s.trace_id) × (t.processors ≡ s.processors)) segments
+    (λ t has. (let ids = at_member (AreIdsOf a) segments t took.ids has in (ids.0 ∙ sym id, ids.1 ∙ sym count)))
+
 module _ (before earlier : List Content) (a : State) where
   -- an unbroken run from before is below the fronts
   front_above : (first : Option State) → AreFolded first before → KeepsAll first (Some a) → (t : Content) → Contains before t
@@ -307,9 +313,7 @@ module _ (before earlier : List Content) (a : State) where
     -- a segment that the analyst takes, and that doesn't fall, is accepted after those before
     pub accepts_next : Accepts before earlier s
     accepts_next = record {
-      trace = each_member (λ t. (t.trace_id ≡ s.trace_id) × (t.processors ≡ s.processors)) (before ++ earlier)
-          (λ t has. (let ids = at_member (AreIdsOf a) (before ++ earlier) t took.ids has in
-          (ids.0 ∙ sym accepted.of_state.trace_id, ids.1 ∙ sym accepted.of_state.processors)));
+      trace = are_of_trace (before ++ earlier) a s took accepted.of_state.trace_id accepted.of_state.processors;
       content = content_agrees;
       rises = rises_above;
     }
@@ -321,6 +325,8 @@ module _ (segments : List Content) (a : State) (s : Content) (took : HasTakenAll
   pub falls : (fits : Fits s) → IsFallen a s true → IsUnfit segments s (cases.Falling s.processor s.number)
   falls fits fallen = (
     refl,
+    are_of_trace segments a s took fallen.0.trace_id fallen.0.processors,
+    λ there. fallen.0.new ((took.keys s.processor s.number).1 there),
     λ T of.
         (let e = fallen.1 in
         let right = right_of_some segments a T took some of in
@@ -341,10 +347,11 @@ module _ (segments : List Content) (a : State) (s : Content) (took : HasTakenAll
   )
 
   -- another content is held
-  pub conflicts : (other : HoldsOther a s) → s.processor < a.processors
+  pub conflicts : IsOfState a s → (other : HoldsOther a s) → s.processor < a.processors
       → IsUnfit segments s (cases.TwoContents s.processor s.number)
-  conflicts other within = (
+  conflicts its other within = (
     refl,
+    are_of_trace segments a s took its.trace_id its.processors,
     λ T of.
         (let h = held_in_list segments a T took some of s.processor other.held within other.here in
         (other.held, h.1, same_pair other.held s h.0 other.number, other.other)),

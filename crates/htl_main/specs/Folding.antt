@@ -66,10 +66,14 @@ pub record AreAllOf (segments : List Content) (T : Trace) : Type 0 where
 abbrev pub IsUnbroken : List Content → Content → Type 0
 IsUnbroken segments s = (n : ℕ) → n ≤ s.number → HasKeyOf segments s.processor n
 
+-- they are of the segment's trace
+abbrev pub AreOfTraceOf : List Content → Content → Type 0
+AreOfTraceOf segments s = AllByRecursion (λ t. (t.trace_id ≡ s.trace_id) × (t.processors ≡ s.processors)) segments
+
 -- A segment is accepted after others: it is of their trace; where its key came before and isn't in an unbroken run, its content is the one
 -- from then; and where its key is new, its sequences are above those of the unbroken run that there was before the reading began.
 pub record Accepts (before earlier : List Content) (s : Content) : Type 0 where
-  pub trace : AllByRecursion (λ t. (t.trace_id ≡ s.trace_id) × (t.processors ≡ s.processors)) (before ++ earlier)
+  pub trace : AreOfTraceOf (before ++ earlier) s
   pub content : (T : Trace) → AreSomeOf (before ++ earlier) T → (t : Content) → Contains (before ++ earlier) t → key_of t ≡ key_of s
       → (IsUnbroken (before ++ earlier) t → ⊥) → t ≢ s → ⊥
   pub rises : (T : Trace) → AreSomeOf (before ++ earlier) T → (HasKeyOf (before ++ earlier) s.processor s.number → ⊥)
@@ -88,17 +92,17 @@ AreAccepted before segments = AreAcceptedAfter before [] segments
 abbrev pub counted : List Content → ℕ
 counted segments = min (length segments) (2 ^ 64 - 1)
 
--- Why a segment isn't taken after others: its trace or its number of processors is another; its key came with another content; or it has
--- an event that isn't above all those of a segment of a lower number.
+-- Why a segment isn't taken after others: its trace or its number of processors is another; or it is of their trace, and its key came with
+-- another content, or its key is new and it has an event that isn't above all those of a segment of a lower number.
 abbrev pub IsUnfit : List Content → Content → CaseFault → Type 0
 IsUnfit taken s (cases.OtherTrace place) = (taken ≢ []) × AllByRecursion (λ t. t.trace_id ≢ s.trace_id) taken
 IsUnfit taken s (cases.OtherProcessors place) =
     (taken ≢ []) × AllByRecursion (λ t. (t.trace_id ≡ s.trace_id) × (t.processors ≢ s.processors)) taken
 IsUnfit taken s (cases.TwoContents processor number) =
-    (key_of s ≡ (processor, number))
+    (key_of s ≡ (processor, number)) × AreOfTraceOf taken s
     × ((T : Trace) → AreSomeOf taken T → (t : Content) × Contains taken t × (key_of t ≡ key_of s) × (t ≢ s))
 IsUnfit taken s (cases.Falling processor number) =
-    (key_of s ≡ (processor, number))
+    (key_of s ≡ (processor, number)) × AreOfTraceOf taken s × (HasKeyOf taken processor number → ⊥)
     × ((T : Trace) → AreSomeOf taken T → (t : Content) × Contains taken t × (t.processor ≡ s.processor) × (t.number < s.number)
     × (e f : Event) × Contains s.events e × Contains t.events f × (e.sequence ≤ f.sequence))
 IsUnfit taken s fault = ⊥

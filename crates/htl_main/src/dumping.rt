@@ -5,9 +5,8 @@ ghost use Rattle.std.specs.Prelude.{ℕ, Bool, List, Option, All, Some, Err, fal
 ghost use Rattle.std.specs.Prelude.{length, map, IfErr, IfOk, IfSome, MatchResult, OnOk};
 ghost use Rattle.std.specs.Io.KnownBytes.{Appends};
 ghost use Rattle.htl_device.specs.Devices.{AppendsPrefix};
-ghost use Rattle.htl_segment.specs.Bundles.{bundle, is_early_end, IsRest};
+ghost use Rattle.htl_segment.specs.Bundles.{bundle, IsRest};
 ghost use Rattle.htl_segment.specs.Content.{Content};
-ghost use Rattle.htl_segment.specs.declared.fault.Fault.{Fault};
 ghost use Rattle.htl_text.specs.Texts.{segment_text};
 ghost use Rattle.htl_reading.specs.Sources.{IsReadToFault};
 ghost use Rattle.htl_main.specs.CutInputs.{AreCut};
@@ -24,7 +23,7 @@ use crate::printing::write_lines;
 use htl_command::InputForm;
 use htl_device::{MAX_READ_LEN, MAX_READS, MIN_READ_LEN, Sink, Source, read_whole};
 use htl_reading::early_end;
-use htl_segment::{Fault, SegmentBytes, from_hex};
+use htl_segment::{SegmentBytes, from_hex};
 use htl_text::dump;
 use std::alloc::Global;
 
@@ -234,7 +233,7 @@ fn dump_front<'a, W: Sink>(
                 dump_segment(alloc, &segment, out)?;
                 rest = &rest[segment.byte_len()..];
             }
-            Err(fault) if is_early_end(fault) => return Ok(rest),
+            Err(fault) if fault.is_early_end() => return Ok(rest),
             Err(fault) => {
                 return Err(RunFault::Segment {
                     input: place,
@@ -244,13 +243,6 @@ fn dump_front<'a, W: Sink>(
             }
         }
     }
-}
-
-/// Whether the fault is only that the bytes end too early, so that more bytes may mend it.
-fn is_early_end(fault: Fault) -> bool
-    ensures { result ≡ is_early_end fault }
-{
-    matches!(fault, Fault::Short | Fault::Cut)
 }
 
 /// Writes the text of a segment.

@@ -25,8 +25,7 @@ const FEW_HELD: u64 = 1 << 20;
 pub(crate) struct Folder {
     /// Recently met stacks, so that equal ones share memory.
     cache: StackCache,
-    /// How many events and segments were taken since the last fold, but for the first segment of
-    /// all.
+    /// How many events and segments were taken since the last fold.
     held: u64,
     /// The analyst, where a segment was taken.
     pub analyst: Option<Analyst<Global>>,
@@ -65,10 +64,11 @@ impl Folder {
             → OnOk result (Folds first self.new.analyst self.new.unfit self.new.segments
             (given ++ segment ∷ [])) }
     {
-        let records = 1 + segment.events().len() as u64;
+        let more = 1 + segment.events().len() as u64;
         let Some(analyst) = &mut self.analyst else {
             self.analyst = Some(begun_by(alloc, segment)?);
             self.segments = 1;
+            self.held = more;
             return Ok(());
         };
         self.unfit = take(analyst, segment, self.segments)?;
@@ -76,7 +76,7 @@ impl Folder {
             return Ok(());
         }
         self.segments = self.segments.saturating_add(1);
-        self.held = self.held.saturating_add(records);
+        self.held = self.held.saturating_add(more);
         Ok(())
     }
 

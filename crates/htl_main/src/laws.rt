@@ -36,7 +36,7 @@ ghost use Rattle.htl_main.specs.Summaries.{AreTotals, IsSummary};
 ghost use Rattle.htl_main.specs.declared.coverage.Coverage.{Coverage};
 ghost use Rattle.htl_main.specs.declared.fault.RunFault.{RunFault};
 
-/// Inputs and a symbol table have exactly one outcome: a printed text or a fault. It is the same
+/// Inputs and a symbol table have at most one outcome: a printed text or a fault. It is the same
 /// for every number of workers that is allowed. (A refused allocation or thread and a failed read
 /// or write are no faults of what is given.)
 pub fn one_outcome()

@@ -52,7 +52,7 @@ returns-in-Err-Conflict-default-clause-taken c = λ segments some took.
     let own = c.if-is_fallen.ensures.fits.processor in
     let count = is.0.processors in
     let within : s.processor < a.processors = omega (arith, own, count) in
-    (rw (is.1, is.2) (conflicts segments a s took some is.3 within), tt)
+    (rw (is.1, is.2) (conflicts segments a s took some is.0 is.3 within), tt)
 
 pub returns-in-Err-Conflict-default-clause-keeps : goal.returns-in-Err-Conflict-default-clause-keeps
 returns-in-Err-Conflict-default-clause-keeps c = keeps_same c.args.analyst.now c.take.new.self c.in-Err-Conflict-default.ensures.err.1

@@ -74,7 +74,7 @@ pub fn wrong(code: Code) -> &'static str
         Code::C5 => "stands in two different segments",
         Code::C7 => "has a sequence that isn't above those of the processor's earlier segments",
         Code::C8 => "is missing",
-        Code::C9 => "has no event in these inputs",
+        Code::C9 => "has no event in these inputs, or none up to --until",
         Code::Y1 => "the first line isn't start,end,module,name",
         Code::Y2 => "hasn't four fields",
         Code::Y3 => "has a start or an end that is no number",
@@ -132,7 +132,10 @@ pub fn advice(code: Code) -> &'static str
         Code::C4 => "give the files of one trace, as they were written",
         Code::C5 | Code::C7 => MIXED,
         Code::C8 => "give all files of the trace, or leave out --complete",
-        Code::C9 => "is its number right? A mistyped one looks like one without a leak",
+        Code::C9 => {
+            "\
+is its number right, and --until late enough? A mistyped number looks like one without a leak"
+        }
         Code::Y1 => "is it a table of symbols?",
         Code::Y2 => "is a name with a comma in quotes, and is each quote ended?",
         Code::Y3 => "each is 1 to 16 hexadecimal digits, with or without 0x",

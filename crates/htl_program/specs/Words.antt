@@ -52,7 +52,7 @@ form_wrong_of (forms.Field field) = bad_value
 
 -- what is wrong with that part, or by itself
 unfoldable pub wrong_of : Code → List ℕ
-wrong_of S1 = codes "a segment has at least 32 bytes and begins with HLS1, and fewer are left"
+wrong_of S1 = codes "fewer bytes are left than the 32 of a segment's header"
 wrong_of S2 = codes "a segment begins with HLS1 (48 4c 53 31), and these bytes do not"
 wrong_of S3 = codes "the segment's version is neither 1 nor 2"
 wrong_of S4 = codes "the segment's version allows no such number of processors"
@@ -105,8 +105,8 @@ abbrev pub one_trace : List ℕ
 one_trace = codes "give the files of one trace"
 
 unfoldable pub advice_of : Code → List ℕ
-advice_of S1 = codes "is it a trace, and copied whole?"
-advice_of S2 = codes "is it a trace, in bytes and not in digits (--hex) or text (hleak encode)?"
+advice_of S1 = codes "is it a trace, and copied whole? With --partial its whole segments count"
+advice_of S2 = codes "is it a trace in bytes, and not digits (--hex), text (hleak encode) or a log (tools/from-htrace)?"
 advice_of S3 = codes "was it written for a newer hleak?"
 advice_of S4 = damaged
 advice_of S5 = damaged
@@ -141,7 +141,7 @@ advice_of Y4 = codes "an end is the first address after the range"
 advice_of Y5 = codes "are all rows of one moment?"
 advice_of Y6 = codes "is the file in UTF-8?"
 advice_of Y7 = free_memory
-advice_of E1 = codes "is it written as dump prints it?"
+advice_of E1 = codes "is it written as dump prints it, or of a log (tools/from-htrace)?"
 advice_of E2 = codes "is a line left out before it?"
 
 -- what is wrong, after the part that it is wrong with

@@ -48,7 +48,7 @@ pub fn wrong(code: Code) -> &'static str
     ensures { result.now ≡ wrong_of code }
 {
     match code {
-        Code::S1 => "a segment has at least 32 bytes and begins with HLS1, and fewer are left",
+        Code::S1 => "fewer bytes are left than the 32 of a segment's header",
         Code::S2 => "a segment begins with HLS1 (48 4c 53 31), and these bytes do not",
         Code::S3 => "the segment's version is neither 1 nor 2",
         Code::S4 => "the segment's version allows no such number of processors",
@@ -108,8 +108,11 @@ pub fn advice(code: Code) -> &'static str
     ensures { result.now ≡ advice_of code }
 {
     match code {
-        Code::S1 => "is it a trace, and copied whole?",
-        Code::S2 => "is it a trace, in bytes and not in digits (--hex) or text (hleak encode)?",
+        Code::S1 => "is it a trace, and copied whole? With --partial its whole segments count",
+        Code::S2 => {
+            "\
+is it a trace in bytes, and not digits (--hex), text (hleak encode) or a log (tools/from-htrace)?"
+        }
         Code::S3 => "was it written for a newer hleak?",
         Code::S4
         | Code::S5
@@ -142,7 +145,7 @@ is its number right, and --until late enough? A mistyped number looks like one w
         Code::Y4 => "an end is the first address after the range",
         Code::Y5 => "are all rows of one moment?",
         Code::Y6 => "is the file in UTF-8?",
-        Code::E1 => "is it written as dump prints it?",
+        Code::E1 => "is it written as dump prints it, or of a log (tools/from-htrace)?",
         Code::E2 => "is a line left out before it?",
     }
 }

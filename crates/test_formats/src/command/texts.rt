@@ -528,7 +528,15 @@ const DIALOGUE_NOTES: &str = "\
 error: a line is a question with its own options
 
   tip: files, --symbols, --workers, --fold, --complete, --hex, --partial and
-  --notes stand after 'hleak ask'
+  --notes stand after 'hleak ask'; --exit-code is for a run of its own
+
+For more information, try 'hleak ask --help'.
+";
+
+const DIALOGUE_OTHER: &str = "\
+error: a line is a question, 'read FILE ..' or 'quit'
+
+  tip: ask, explain, dump and encode are commands of their own
 
 For more information, try 'hleak ask --help'.
 ";
@@ -710,6 +718,7 @@ const DIALOGUE_USAGE: &[(&str, &str)] = &[
     ("leaks|--proces|4", DIALOGUE_MISSPELT),
     ("leak|--process|4", DIALOGUE_COMMAND),
     ("leaks|--process|4|--notes", DIALOGUE_NOTES),
+    ("explain|S10", DIALOGUE_OTHER),
     ("leaks|--process|4|--fold", DIALOGUE_FOLD),
 ];
 

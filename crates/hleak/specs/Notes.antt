@@ -34,4 +34,5 @@ cut_noted inputs = option_map (λ cut. Cut cut) inputs
 
 -- that what was asked about has no event
 abbrev pub absence_text : Subject → List ℕ
-absence_text subject = codes "hleak: note: " ++ (subject_text subject ++ codes " has no event in these segments")
+absence_text subject =
+    codes "hleak: note: " ++ (subject_text subject ++ codes " has no event in these segments, or none up to --until")

@@ -35,6 +35,9 @@ impl fmt::Display for Absence {
 
     fn fmt<W: fmt::Write>(&self, f: &mut fmt::Formatter<W>) -> fmt::Result {
         let subject = self.subject;
-        write!(f, "hleak: note: {subject} has no event in these segments")
+        write!(
+            f,
+            "hleak: note: {subject} has no event in these segments, or none up to --until"
+        )
     }
 }

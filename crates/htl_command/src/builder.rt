@@ -3,7 +3,7 @@ ghost use Rattle.std.specs.Prelude.{◌≡◌, IfOk, false, map};
 ghost use Rattle.clap.specs.Words.{app_of, new_app, rule_of, with_subcommand};
 ghost use Rattle.clap.specs.declared.builder.Command.TheViews.{out-Command as fields_of};
 ghost use Rattle.htl_command.specs.Steps.{Describes};
-ghost use Rattle.htl_command.specs.Commands.{name_of};
+ghost use Rattle.htl_command.specs.Commands.{name_of, own_options};
 ghost use Rattle.htl_command.specs.Entries.{code_rule, common_rules, command_app, dialogue_rules};
 ghost use Rattle.htl_command.specs.Entries.{dump_rules, encode_rules, files_rule};
 ghost use Rattle.htl_command.specs.Entries.{flag_rule, hleak_app, option_rule, program_app};
@@ -12,9 +12,9 @@ ghost use Rattle.htl_command.specs.declared.names.CommandFlag.TheVariants as fla
 
 use crate::help::{
     ABOUT, AFTER_HELP, CODE_HELP, DIALOGUE_ABOUT, DIALOGUE_AFTER_HELP, DIALOGUE_FILES_HELP,
-    DIALOGUE_USAGE, FILES_HELP, HEX_TEXT_HELP, TEXTS_HELP, VERSION,
+    DIALOGUE_USAGE, FILES_HELP, HEX_TEXT_HELP, SUMMARY_TOP_HELP, TEXTS_HELP, VERSION,
 };
-use crate::names::{COMMANDS, CommandFlag, CommandName, CommandOption};
+use crate::names::{COMMANDS, CommandFlag, CommandName, CommandOption, QuestionName};
 use clap::{Arg, ArgAction, Command};
 use std::alloc::{AllocError, Global};
 
@@ -41,14 +41,14 @@ struct Builder {
 }
 
 impl Builder {
-    fn option<'a>(self, option: CommandOption) -> Arg<'a>
+    fn option<'a>(self, option: CommandOption, help: &'a str) -> Arg<'a>
         ensures rule { rule_of result ≡ option_rule option }
         ensures local { result.global ≡ false }
     {
         Arg::new(self.alloc, option.as_str())
             .long(option.as_str())
             .value_name(option.value_name())
-            .help(option.help())
+            .help(help)
             .required(option.is_required())
             .hide(self.place.is_dialogue() && option.is_of_run())
     }
@@ -99,9 +99,23 @@ impl Builder {
     {
         let mut command = command;
         for own in options {
-            command = command.arg(self.option(*own))?;
+            command = command.arg(self.option(*own, own.help()))?;
         }
         Ok(command)
+    }
+
+    /// The options of a question that not every one has. A summary has rows of several kinds.
+    fn with_own_options<'a>(self, command: Command<'a>, question: QuestionName) -> Built<'a>
+        requires { (fields_of command).has_globals ≡ false }
+        ensures { IfOk result
+            (Describes (with_rules (app_of command.entry) (map option_rule (own_options question)))) }
+    {
+        match question {
+            QuestionName::Summary => {
+                command.arg(self.option(CommandOption::Top, SUMMARY_TOP_HELP))
+            }
+            _ => self.with_options(command, question.own_options()),
+        }
     }
 
     fn with_flags<'a>(self, command: Command<'a>, flags: &[CommandFlag]) -> Built<'a>
@@ -200,7 +214,7 @@ impl Builder {
         let bare = self.bare_command(name);
         match name {
             CommandName::Question(question) => {
-                let command = self.with_options(bare, question.own_options())?;
+                let command = self.with_own_options(bare, question)?;
                 let command = self.with_flags(command, question.own_flags())?;
                 self.with_common_options(command)
             }

@@ -203,7 +203,18 @@ pub(crate) fn no_command(alloc: Global) -> ParseFault
     usage(alloc, why, "")
 }
 
-/// The fault of a line of a dialogue that has what a run alone has, or another command.
+/// The fault of a line of a dialogue with a command that is no question.
+pub(crate) fn other_command(alloc: Global) -> ParseFault
+    ensures { IsUsageWith ⊤ result }
+{
+    let why = "\
+a line is a question, 'read FILE ..' or 'quit'
+
+  tip: ask, explain, dump and encode are commands of their own";
+    wrong_line(alloc, why)
+}
+
+/// The fault of a question of a dialogue that has what a run alone has.
 pub(crate) fn no_question(alloc: Global) -> ParseFault
     ensures { IsUsageWith ⊤ result }
 {
@@ -211,7 +222,7 @@ pub(crate) fn no_question(alloc: Global) -> ParseFault
 a line is a question with its own options
 
   tip: files, --symbols, --workers, --fold, --complete, --hex, --partial and
-  --notes stand after 'hleak ask'";
+  --notes stand after 'hleak ask'; --exit-code is for a run of its own";
     wrong_line(alloc, why)
 }
 

@@ -13,14 +13,15 @@ pub(crate) const AFTER_HELP: &str = "\
 Options of every question, from summary to growth:
       --until <N>       Only events up to this sequence count: decimal, at most
                         18446744073709551615, or 'complete' for the one up to
-                        which no segment is missing
+                        which no segment is missing: 0 if a processor is idle
       --symbols <FILE>  Names for addresses: CSV of start,end,module,name
       --workers <N>     Use up to N threads: 1 to 8 [default: 1]
       --json            One JSON object a line, for other programs
       --complete        Refuse segments of which one is missing (C8)
       --hex             The files hold hexadecimal digits, not bytes
       --partial         A file may end within a segment, which is left out
-      --notes           Notes on standard error also where it is no terminal
+      --notes           Notes, and the file and the words of a fault, also where
+                        standard error is no terminal
   [FILES]...            Trace segments; standard input where no file is given
 
 Exit status:
@@ -35,7 +36,10 @@ Examples:
   hleak tags --object 0xffffa00000001000 --symbols names.csv cpu0.hls cpu1.hls
 
 'hleak COMMAND --help' lists the options of a command. No argument at all stands
-for 'hleak outstanding --process 4 --hex'.";
+for 'hleak outstanding --process 4 --hex'.
+
+tools/from-htrace and tools/from-obtrace turn logs of the debugger into text for
+'hleak encode'.";
 
 pub(crate) const DIALOGUE_ABOUT: &str = "A line is a question over the segments that were read.";
 
@@ -45,7 +49,7 @@ pub(crate) const DIALOGUE_AFTER_HELP: &str = "\
 Options of every question:
       --until <N>  Only events up to this sequence count: decimal, at most
                    18446744073709551615, or 'complete' for the one up to
-                   which no segment is missing
+                   which no segment is missing: 0 if a processor is idle
       --json       One JSON object a line, for other programs
 
 'COMMAND --help' lists the options of a question. 'read FILE ..' reads more
@@ -53,15 +57,16 @@ segments. An argument with blanks stands in double quotes. 'quit' ends.";
 
 pub(crate) const FILES_HELP: &str = "Trace segments; standard input where no file is given";
 
+pub(crate) const SUMMARY_TOP_HELP: &str = "At most N processes and N objects: 1 to 4294967295";
+
 pub(crate) const HEX_TEXT_HELP: &str = "Write hexadecimal digits, not bytes";
 
 pub(crate) const TEXTS_HELP: &str = "Texts of segments; standard input where no file is given";
 
 pub(crate) const DIALOGUE_FILES_HELP: &str = "Trace segments";
 
-pub(crate) const CODE_HELP: &str = "\
-The code of a fault, as S10, or the fault as it was
-printed, as 'C8(0, 2)'";
+pub(crate) const CODE_HELP: &str =
+    "The code of a fault, as S10, or with its numbers, as 'C8(0, 2)'";
 
 /// Which codes there are, as a refusal reports it.
 pub(crate) const CODE_EXPECTED: &str = "S1 to S17, H1 to H3, C1 to C9, Y1 to Y7, E1 or E2";
@@ -115,7 +120,7 @@ impl QuestionName {
                 "Handles that are open, each with the stack that opened it",
             QuestionName::Diff => "Handles opened since a snapshot and still open (!htrace -diff)",
             QuestionName::Tags => "References and dereferences of an object, by tag (!obtrace)",
-            QuestionName::Bad => "References to invalid handles, by stack (BAD REF of !htrace)",
+            QuestionName::Bad => "References to invalid handles, by handle and stack (BAD REF)",
             QuestionName::Leaks => "Stacks by how many of their handles are still open, most first",
             QuestionName::Stacks => "Stacks behind one tag of an object (!obtrace)",
             QuestionName::Trace =>
@@ -203,7 +208,7 @@ The handle: 1 to 16 hexadecimal digits, with or without
                 "\
 Only events up to this sequence count: decimal, at most
 18446744073709551615, or 'complete' for the one up to
-which no segment is missing"
+which no segment is missing: 0 if a processor is idle"
             }
         }
     }
@@ -242,7 +247,11 @@ growth and --until are not answered then"
             CommandFlag::Complete => "Refuse segments of which one is missing (C8)",
             CommandFlag::Hex => "The files hold hexadecimal digits, not bytes",
             CommandFlag::Partial => "A file may end within a segment, which is left out",
-            CommandFlag::Notes => "Notes on standard error also where it is no terminal",
+            CommandFlag::Notes => {
+                "\
+Notes, and the file and the words of a fault, also where
+standard error is no terminal"
+            }
         }
     }
 }

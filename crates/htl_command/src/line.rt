@@ -7,7 +7,7 @@ ghost use Rattle.htl_command.specs.Steps.{entries_of};
 ghost use Rattle.htl_command.specs.declared.names.CommandName.TheVariants as command;
 
 use crate::builder::Place;
-use crate::fault::{ParseFault, no_command, no_question, refused_entries};
+use crate::fault::{ParseFault, no_command, no_question, other_command, refused_entries};
 use crate::matching::matches;
 use crate::names::{CommandName, QuestionName};
 use crate::question::Job;
@@ -36,7 +36,7 @@ fn read_line(alloc: Global, matches: &ArgMatches) -> Result<Job, ParseFault>
     };
     match CommandName::from_name(name) {
         Some(CommandName::Question(question)) => read_entries(alloc, question, entries),
-        Some(_) => Err(no_question(alloc)),
+        Some(_) => Err(other_command(alloc)),
         None => Err(no_command(alloc)),
     }
 }

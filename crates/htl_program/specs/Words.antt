@@ -52,7 +52,7 @@ form_wrong_of (forms.Field field) = bad_value
 
 -- what is wrong with that part, or by itself
 unfoldable pub wrong_of : Code → List ℕ
-wrong_of S1 = codes "a segment has at least 32 bytes and begins with HLS1, and fewer are left"
+wrong_of S1 = codes "fewer bytes are left than the 32 of a segment's header"
 wrong_of S2 = codes "a segment begins with HLS1 (48 4c 53 31), and these bytes do not"
 wrong_of S3 = codes "the segment's version is neither 1 nor 2"
 wrong_of S4 = codes "the segment's version allows no such number of processors"
@@ -73,14 +73,14 @@ wrong_of H1 = codes "is no digit and no blank"
 wrong_of H2 = codes "the last byte has only one digit"
 wrong_of H3 = codes "the system refused memory"
 wrong_of C1 = codes "the inputs have no segments"
-wrong_of C2 = codes "is of another trace than segment 0"
-wrong_of C3 = codes "has another number of processors than segment 0"
+wrong_of C2 = codes "is of another trace than those before it"
+wrong_of C3 = codes "has another number of processors than those before it"
 wrong_of C4 = codes "is there with two different contents"
 wrong_of C5 = codes "stands in two different segments"
 wrong_of C6 = codes "the system refused memory"
 wrong_of C7 = codes "has a sequence that isn't above those of the processor's earlier segments"
 wrong_of C8 = codes "is missing"
-wrong_of C9 = codes "has no event in these inputs"
+wrong_of C9 = codes "has no event in these inputs, or none up to --until"
 wrong_of Y1 = codes "the first line isn't start,end,module,name"
 wrong_of Y2 = codes "hasn't four fields"
 wrong_of Y3 = codes "has a start or an end that is no number"
@@ -105,8 +105,8 @@ abbrev pub one_trace : List ℕ
 one_trace = codes "give the files of one trace"
 
 unfoldable pub advice_of : Code → List ℕ
-advice_of S1 = codes "is it a trace, and copied whole?"
-advice_of S2 = codes "is it a trace, in bytes and not in digits (--hex) or text (hleak encode)?"
+advice_of S1 = codes "is it a trace, and copied whole? With --partial its whole segments count"
+advice_of S2 = codes "is it a trace in bytes, and not digits (--hex), text (hleak encode) or a log (tools/from-htrace)?"
 advice_of S3 = codes "was it written for a newer hleak?"
 advice_of S4 = damaged
 advice_of S5 = damaged
@@ -133,7 +133,7 @@ advice_of C5 = mixed
 advice_of C6 = free_memory
 advice_of C7 = mixed
 advice_of C8 = codes "give all files of the trace, or leave out --complete"
-advice_of C9 = codes "is its number right? A mistyped one looks like one without a leak"
+advice_of C9 = codes "is its number right, and --until late enough? A mistyped number looks like one without a leak"
 advice_of Y1 = codes "is it a table of symbols?"
 advice_of Y2 = codes "is a name with a comma in quotes, and is each quote ended?"
 advice_of Y3 = codes "each is 1 to 16 hexadecimal digits, with or without 0x"
@@ -141,7 +141,7 @@ advice_of Y4 = codes "an end is the first address after the range"
 advice_of Y5 = codes "are all rows of one moment?"
 advice_of Y6 = codes "is the file in UTF-8?"
 advice_of Y7 = free_memory
-advice_of E1 = codes "is it written as dump prints it?"
+advice_of E1 = codes "is it written as dump prints it, or of a log (tools/from-htrace)?"
 advice_of E2 = codes "is a line left out before it?"
 
 -- what is wrong, after the part that it is wrong with

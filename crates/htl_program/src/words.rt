@@ -48,7 +48,7 @@ pub fn wrong(code: Code) -> &'static str
     ensures { result.now ≡ wrong_of code }
 {
     match code {
-        Code::S1 => "a segment has at least 32 bytes and begins with HLS1, and fewer are left",
+        Code::S1 => "fewer bytes are left than the 32 of a segment's header",
         Code::S2 => "a segment begins with HLS1 (48 4c 53 31), and these bytes do not",
         Code::S3 => "the segment's version is neither 1 nor 2",
         Code::S4 => "the segment's version allows no such number of processors",
@@ -68,13 +68,13 @@ pub fn wrong(code: Code) -> &'static str
         Code::H1 => "is no digit and no blank",
         Code::H2 => "the last byte has only one digit",
         Code::C1 => "the inputs have no segments",
-        Code::C2 => "is of another trace than segment 0",
-        Code::C3 => "has another number of processors than segment 0",
+        Code::C2 => "is of another trace than those before it",
+        Code::C3 => "has another number of processors than those before it",
         Code::C4 => "is there with two different contents",
         Code::C5 => "stands in two different segments",
         Code::C7 => "has a sequence that isn't above those of the processor's earlier segments",
         Code::C8 => "is missing",
-        Code::C9 => "has no event in these inputs",
+        Code::C9 => "has no event in these inputs, or none up to --until",
         Code::Y1 => "the first line isn't start,end,module,name",
         Code::Y2 => "hasn't four fields",
         Code::Y3 => "has a start or an end that is no number",
@@ -108,8 +108,11 @@ pub fn advice(code: Code) -> &'static str
     ensures { result.now ≡ advice_of code }
 {
     match code {
-        Code::S1 => "is it a trace, and copied whole?",
-        Code::S2 => "is it a trace, in bytes and not in digits (--hex) or text (hleak encode)?",
+        Code::S1 => "is it a trace, and copied whole? With --partial its whole segments count",
+        Code::S2 => {
+            "\
+is it a trace in bytes, and not digits (--hex), text (hleak encode) or a log (tools/from-htrace)?"
+        }
         Code::S3 => "was it written for a newer hleak?",
         Code::S4
         | Code::S5
@@ -132,14 +135,17 @@ pub fn advice(code: Code) -> &'static str
         Code::C4 => "give the files of one trace, as they were written",
         Code::C5 | Code::C7 => MIXED,
         Code::C8 => "give all files of the trace, or leave out --complete",
-        Code::C9 => "is its number right? A mistyped one looks like one without a leak",
+        Code::C9 => {
+            "\
+is its number right, and --until late enough? A mistyped number looks like one without a leak"
+        }
         Code::Y1 => "is it a table of symbols?",
         Code::Y2 => "is a name with a comma in quotes, and is each quote ended?",
         Code::Y3 => "each is 1 to 16 hexadecimal digits, with or without 0x",
         Code::Y4 => "an end is the first address after the range",
         Code::Y5 => "are all rows of one moment?",
         Code::Y6 => "is the file in UTF-8?",
-        Code::E1 => "is it written as dump prints it?",
+        Code::E1 => "is it written as dump prints it, or of a log (tools/from-htrace)?",
         Code::E2 => "is a line left out before it?",
     }
 }

@@ -17,7 +17,7 @@ Commands:
   outstanding  Handles that are open, each with the stack that opened it
   diff         Handles opened since a snapshot and still open (!htrace -diff)
   tags         References and dereferences of an object, by tag (!obtrace)
-  bad          References to invalid handles, by stack (BAD REF of !htrace)
+  bad          References to invalid handles, by handle and stack (BAD REF)
   leaks        Stacks by how many of their handles are still open, most first
   stacks       Stacks behind one tag of an object (!obtrace)
   trace        Each open, close and bad reference of a handle (!htrace HANDLE)
@@ -35,14 +35,15 @@ Options:
 Options of every question, from summary to growth:
       --until <N>       Only events up to this sequence count: decimal, at most
                         18446744073709551615, or 'complete' for the one up to
-                        which no segment is missing
+                        which no segment is missing: 0 if a processor is idle
       --symbols <FILE>  Names for addresses: CSV of start,end,module,name
       --workers <N>     Use up to N threads: 1 to 8 [default: 1]
       --json            One JSON object a line, for other programs
       --complete        Refuse segments of which one is missing (C8)
       --hex             The files hold hexadecimal digits, not bytes
       --partial         A file may end within a segment, which is left out
-      --notes           Notes on standard error also where it is no terminal
+      --notes           Notes, and the file and the words of a fault, also where
+                        standard error is no terminal
   [FILES]...            Trace segments; standard input where no file is given
 
 Exit status:
@@ -58,6 +59,9 @@ Examples:
 
 'hleak COMMAND --help' lists the options of a command. No argument at all stands
 for 'hleak outstanding --process 4 --hex'.
+
+tools/from-htrace and tools/from-obtrace turn logs of the debugger into text for
+'hleak encode'.
 ";
 
 const VERSION: &str = "\
@@ -73,18 +77,19 @@ Arguments:
   [FILES]...  Trace segments; standard input where no file is given
 
 Options:
-      --top <N>         At most N rows: decimal, 1 to 4294967295
+      --top <N>         At most N processes and N objects: 1 to 4294967295
       --exit-code       End with status 1 where the answer finds something
       --until <N>       Only events up to this sequence count: decimal, at most
                         18446744073709551615, or 'complete' for the one up to
-                        which no segment is missing
+                        which no segment is missing: 0 if a processor is idle
       --symbols <FILE>  Names for addresses: CSV of start,end,module,name
       --workers <N>     Use up to N threads: 1 to 8 [default: 1]
       --json            One JSON object a line, for other programs
       --complete        Refuse segments of which one is missing (C8)
       --hex             The files hold hexadecimal digits, not bytes
       --partial         A file may end within a segment, which is left out
-      --notes           Notes on standard error also where it is no terminal
+      --notes           Notes, and the file and the words of a fault, also where
+                        standard error is no terminal
   -h, --help            Print help
 
 Example:
@@ -105,14 +110,15 @@ Options:
       --exit-code       End with status 1 where the answer finds something
       --until <N>       Only events up to this sequence count: decimal, at most
                         18446744073709551615, or 'complete' for the one up to
-                        which no segment is missing
+                        which no segment is missing: 0 if a processor is idle
       --symbols <FILE>  Names for addresses: CSV of start,end,module,name
       --workers <N>     Use up to N threads: 1 to 8 [default: 1]
       --json            One JSON object a line, for other programs
       --complete        Refuse segments of which one is missing (C8)
       --hex             The files hold hexadecimal digits, not bytes
       --partial         A file may end within a segment, which is left out
-      --notes           Notes on standard error also where it is no terminal
+      --notes           Notes, and the file and the words of a fault, also where
+                        standard error is no terminal
   -h, --help            Print help
 
 Example:
@@ -137,14 +143,15 @@ Options:
       --exit-code       End with status 1 where the answer finds something
       --until <N>       Only events up to this sequence count: decimal, at most
                         18446744073709551615, or 'complete' for the one up to
-                        which no segment is missing
+                        which no segment is missing: 0 if a processor is idle
       --symbols <FILE>  Names for addresses: CSV of start,end,module,name
       --workers <N>     Use up to N threads: 1 to 8 [default: 1]
       --json            One JSON object a line, for other programs
       --complete        Refuse segments of which one is missing (C8)
       --hex             The files hold hexadecimal digits, not bytes
       --partial         A file may end within a segment, which is left out
-      --notes           Notes on standard error also where it is no terminal
+      --notes           Notes, and the file and the words of a fault, also where
+                        standard error is no terminal
   -h, --help            Print help
 
 Example:
@@ -165,14 +172,15 @@ Options:
       --exit-code       End with status 1 where the answer finds something
       --until <N>       Only events up to this sequence count: decimal, at most
                         18446744073709551615, or 'complete' for the one up to
-                        which no segment is missing
+                        which no segment is missing: 0 if a processor is idle
       --symbols <FILE>  Names for addresses: CSV of start,end,module,name
       --workers <N>     Use up to N threads: 1 to 8 [default: 1]
       --json            One JSON object a line, for other programs
       --complete        Refuse segments of which one is missing (C8)
       --hex             The files hold hexadecimal digits, not bytes
       --partial         A file may end within a segment, which is left out
-      --notes           Notes on standard error also where it is no terminal
+      --notes           Notes, and the file and the words of a fault, also where
+                        standard error is no terminal
   -h, --help            Print help
 
 Example:
@@ -180,7 +188,7 @@ Example:
 ";
 
 const BAD: &str = "\
-References to invalid handles, by stack (BAD REF of !htrace)
+References to invalid handles, by handle and stack (BAD REF)
 
 Usage: hleak bad [OPTIONS] --process <N> [FILES]...
 
@@ -193,14 +201,15 @@ Options:
       --exit-code       End with status 1 where the answer finds something
       --until <N>       Only events up to this sequence count: decimal, at most
                         18446744073709551615, or 'complete' for the one up to
-                        which no segment is missing
+                        which no segment is missing: 0 if a processor is idle
       --symbols <FILE>  Names for addresses: CSV of start,end,module,name
       --workers <N>     Use up to N threads: 1 to 8 [default: 1]
       --json            One JSON object a line, for other programs
       --complete        Refuse segments of which one is missing (C8)
       --hex             The files hold hexadecimal digits, not bytes
       --partial         A file may end within a segment, which is left out
-      --notes           Notes on standard error also where it is no terminal
+      --notes           Notes, and the file and the words of a fault, also where
+                        standard error is no terminal
   -h, --help            Print help
 
 Example:
@@ -228,14 +237,15 @@ Options:
       --folded          Folded stacks, for flame graph programs
       --until <N>       Only events up to this sequence count: decimal, at most
                         18446744073709551615, or 'complete' for the one up to
-                        which no segment is missing
+                        which no segment is missing: 0 if a processor is idle
       --symbols <FILE>  Names for addresses: CSV of start,end,module,name
       --workers <N>     Use up to N threads: 1 to 8 [default: 1]
       --json            One JSON object a line, for other programs
       --complete        Refuse segments of which one is missing (C8)
       --hex             The files hold hexadecimal digits, not bytes
       --partial         A file may end within a segment, which is left out
-      --notes           Notes on standard error also where it is no terminal
+      --notes           Notes, and the file and the words of a fault, also where
+                        standard error is no terminal
   -h, --help            Print help
 
 Example:
@@ -258,14 +268,15 @@ Options:
       --top <N>         At most N rows: decimal, 1 to 4294967295
       --until <N>       Only events up to this sequence count: decimal, at most
                         18446744073709551615, or 'complete' for the one up to
-                        which no segment is missing
+                        which no segment is missing: 0 if a processor is idle
       --symbols <FILE>  Names for addresses: CSV of start,end,module,name
       --workers <N>     Use up to N threads: 1 to 8 [default: 1]
       --json            One JSON object a line, for other programs
       --complete        Refuse segments of which one is missing (C8)
       --hex             The files hold hexadecimal digits, not bytes
       --partial         A file may end within a segment, which is left out
-      --notes           Notes on standard error also where it is no terminal
+      --notes           Notes, and the file and the words of a fault, also where
+                        standard error is no terminal
   -h, --help            Print help
 
 Example:
@@ -287,14 +298,15 @@ Options:
       --top <N>         At most N rows: decimal, 1 to 4294967295
       --until <N>       Only events up to this sequence count: decimal, at most
                         18446744073709551615, or 'complete' for the one up to
-                        which no segment is missing
+                        which no segment is missing: 0 if a processor is idle
       --symbols <FILE>  Names for addresses: CSV of start,end,module,name
       --workers <N>     Use up to N threads: 1 to 8 [default: 1]
       --json            One JSON object a line, for other programs
       --complete        Refuse segments of which one is missing (C8)
       --hex             The files hold hexadecimal digits, not bytes
       --partial         A file may end within a segment, which is left out
-      --notes           Notes on standard error also where it is no terminal
+      --notes           Notes, and the file and the words of a fault, also where
+                        standard error is no terminal
   -h, --help            Print help
 
 Example:
@@ -314,14 +326,15 @@ Options:
       --points <N>      At most N moments: decimal, 2 to 1000 [default: 20]
       --until <N>       Only events up to this sequence count: decimal, at most
                         18446744073709551615, or 'complete' for the one up to
-                        which no segment is missing
+                        which no segment is missing: 0 if a processor is idle
       --symbols <FILE>  Names for addresses: CSV of start,end,module,name
       --workers <N>     Use up to N threads: 1 to 8 [default: 1]
       --json            One JSON object a line, for other programs
       --complete        Refuse segments of which one is missing (C8)
       --hex             The files hold hexadecimal digits, not bytes
       --partial         A file may end within a segment, which is left out
-      --notes           Notes on standard error also where it is no terminal
+      --notes           Notes, and the file and the words of a fault, also where
+                        standard error is no terminal
   -h, --help            Print help
 
 Example:
@@ -344,7 +357,8 @@ Options:
       --complete        Refuse segments of which one is missing (C8)
       --hex             The files hold hexadecimal digits, not bytes
       --partial         A file may end within a segment, which is left out
-      --notes           Notes on standard error also where it is no terminal
+      --notes           Notes, and the file and the words of a fault, also where
+                        standard error is no terminal
   -h, --help            Print help
 
 Each line of standard input is a question with its options, as
@@ -363,11 +377,11 @@ What a fault means, and what to do
 Usage: hleak explain [OPTIONS] <CODE>
 
 Arguments:
-  <CODE>  The code of a fault, as S10, or the fault as it was
-          printed, as 'C8(0, 2)'
+  <CODE>  The code of a fault, as S10, or with its numbers, as 'C8(0, 2)'
 
 Options:
-      --notes  Notes on standard error also where it is no terminal
+      --notes  Notes, and the file and the words of a fault, also where
+               standard error is no terminal
   -h, --help   Print help
 
 Example:
@@ -385,7 +399,8 @@ Arguments:
 Options:
       --hex      The files hold hexadecimal digits, not bytes
       --partial  A file may end within a segment, which is left out
-      --notes    Notes on standard error also where it is no terminal
+      --notes    Notes, and the file and the words of a fault, also where
+                 standard error is no terminal
   -h, --help     Print help
 
 Example:
@@ -402,7 +417,8 @@ Arguments:
 
 Options:
       --hex    Write hexadecimal digits, not bytes
-      --notes  Notes on standard error also where it is no terminal
+      --notes  Notes, and the file and the words of a fault, also where
+               standard error is no terminal
   -h, --help   Print help
 
 Bytes are not written to a terminal.
@@ -422,7 +438,7 @@ Commands:
   outstanding  Handles that are open, each with the stack that opened it
   diff         Handles opened since a snapshot and still open (!htrace -diff)
   tags         References and dereferences of an object, by tag (!obtrace)
-  bad          References to invalid handles, by stack (BAD REF of !htrace)
+  bad          References to invalid handles, by handle and stack (BAD REF)
   leaks        Stacks by how many of their handles are still open, most first
   stacks       Stacks behind one tag of an object (!obtrace)
   trace        Each open, close and bad reference of a handle (!htrace HANDLE)
@@ -436,7 +452,7 @@ Options:
 Options of every question:
       --until <N>  Only events up to this sequence count: decimal, at most
                    18446744073709551615, or 'complete' for the one up to
-                   which no segment is missing
+                   which no segment is missing: 0 if a processor is idle
       --json       One JSON object a line, for other programs
 
 'COMMAND --help' lists the options of a question. 'read FILE ..' reads more
@@ -461,7 +477,7 @@ Options:
       --folded        Folded stacks, for flame graph programs
       --until <N>     Only events up to this sequence count: decimal, at most
                       18446744073709551615, or 'complete' for the one up to
-                      which no segment is missing
+                      which no segment is missing: 0 if a processor is idle
       --json          One JSON object a line, for other programs
   -h, --help          Print help
 ";
@@ -528,7 +544,15 @@ const DIALOGUE_NOTES: &str = "\
 error: a line is a question with its own options
 
   tip: files, --symbols, --workers, --fold, --complete, --hex, --partial and
-  --notes stand after 'hleak ask'
+  --notes stand after 'hleak ask'; --exit-code is for a run of its own
+
+For more information, try 'hleak ask --help'.
+";
+
+const DIALOGUE_OTHER: &str = "\
+error: a line is a question, 'read FILE ..' or 'quit'
+
+  tip: ask, explain, dump and encode are commands of their own
 
 For more information, try 'hleak ask --help'.
 ";
@@ -710,6 +734,7 @@ const DIALOGUE_USAGE: &[(&str, &str)] = &[
     ("leaks|--proces|4", DIALOGUE_MISSPELT),
     ("leak|--process|4", DIALOGUE_COMMAND),
     ("leaks|--process|4|--notes", DIALOGUE_NOTES),
+    ("explain|S10", DIALOGUE_OTHER),
     ("leaks|--process|4|--fold", DIALOGUE_FOLD),
 ];
 

@@ -2,7 +2,7 @@
 //! over those in files, prints segments as text or makes them of text, or explains a code.
 //!
 //! What its arguments ask for is done by `htl_program`, for any world. Here is the world of the
-//! machine (`host.rt`), whose files (`file.rt`) are opened once they are read (`input.rt`), also by
+//! machine (`machine.rt`), whose files (`file.rt`) are opened once they are read (`input.rt`), also by
 //! several workers (`input_source.rt`), and the person who reads standard error (`terminal.rt`).
 //! `listener.rt` writes there beside the replies of a dialogue.
 //!
@@ -19,20 +19,20 @@ ghost use Rattle.hleak.specs.Arguments.{AreArguments};
 mod absence;
 mod explaining;
 mod file;
-mod host;
 mod input;
 mod input_source;
 mod listener;
+mod machine;
 mod note;
 mod progress;
 mod shown;
 mod terminal;
 
-use host::Host;
 use htl_command::ParseFault;
 use htl_main::Writing;
 use htl_program::{Console, Inputs, program, refuse};
 use listener::Listener;
+use machine::{Machine, Machine};
 use progress::Progress;
 use std::alloc::AllocError;
 use std::io::IsTerminal;
@@ -48,7 +48,7 @@ fn main(rt: HostRuntime) -> ExitCode {
         None
     };
     let progress = progress.as_ref();
-    let world = Host { rt, progress };
+    let world = Machine { rt, progress };
     let mut console = Console {
         out: Writing::new(io::writer(&rt)),
         person: Terminal {

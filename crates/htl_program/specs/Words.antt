@@ -141,7 +141,7 @@ advice_of Y4 = codes "an end is the first address after the range"
 advice_of Y5 = codes "are all rows of one moment?"
 advice_of Y6 = codes "is the file in UTF-8?"
 advice_of Y7 = free_memory
-advice_of E1 = codes "is it written as dump prints it, or of a log (tools/from-htrace)?"
+advice_of E1 = codes "is it written as dump prints it? A log goes through tools/from-htrace first"
 advice_of E2 = codes "is a line left out before it?"
 
 -- what is wrong, after the part that it is wrong with

@@ -26,8 +26,8 @@ pub struct Files<'a, Rt, W> {
 }
 
 impl<Rt: Threads + Sync, W: World> Files<'_, Rt, W> {
-    /// Opens files and adds their segments to what is kept. If memory is refused while a state
-    /// folds them, it isn't known which ones it took, and it can answer no more.
+    /// Opens files and adds their segments to what is kept. If memory is refused while segments are
+    /// folded, it isn't known which of them were taken. Then the dialogue ends.
     pub(crate) fn read(
         &self,
         alloc: Global,

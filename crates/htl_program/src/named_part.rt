@@ -25,7 +25,7 @@ pub enum NamedPart {
     Field(&'static str),
     /// What was asked about.
     Subject(Subject),
-    /// The words for every fault of a code, with a placeholder such as `<N>` for each number.
+    /// The words for every fault of a code, with a placeholder such as `<row>` for each number.
     Unnumbered(&'static str),
 }
 

@@ -145,7 +145,7 @@ is its number right, and --until late enough? A mistyped number looks like one w
         Code::Y4 => "an end is the first address after the range",
         Code::Y5 => "are all rows of one moment?",
         Code::Y6 => "is the file in UTF-8?",
-        Code::E1 => "is it written as dump prints it, or of a log (tools/from-htrace)?",
+        Code::E1 => "is it written as dump prints it? A log goes through tools/from-htrace first",
         Code::E2 => "is a line left out before it?",
     }
 }

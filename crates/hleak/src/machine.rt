@@ -1,6 +1,6 @@
-//! The files and the standard input of the machine. No contract knows what its files hold, so each
-//! body here is one call of std's; `.ci/statuses` and `.ci/picks` test that it opens the right
-//! name.
+//! The files and the standard input of the machine. No contract knows what its files hold, so no
+//! clause says what is opened. Each body here is a line or two, to be read; `.ci/statuses` and
+//! `.ci/picks` test that it opens the right name.
 
 ghost use Rattle.std.specs.Prelude.{◌≡◌, Err, IfErr, IfOk, None, Ok, false};
 ghost use Rattle.std_io.specs.IoError.{error_kind};
@@ -15,12 +15,12 @@ use std::{fs, io};
 
 /// What the program opens. What is read of it is counted where somebody watches.
 #[derive(Clone, Copy)]
-pub struct Host<'p> {
+pub struct Machine<'p> {
     pub rt: HostRuntime,
     pub progress: Option<&'p Progress>,
 }
 
-impl<'p> World for Host<'p> {
+impl<'p> World for Machine<'p> {
     type Input = InputSource<'p>;
 
     ghost holds = { λ _ _. None };

@@ -32,7 +32,7 @@ use htl_command::ParseFault;
 use htl_main::Writing;
 use htl_program::{Console, Inputs, program, refuse};
 use listener::Listener;
-use machine::{Machine, Machine};
+use machine::Machine;
 use progress::Progress;
 use std::alloc::AllocError;
 use std::io::IsTerminal;

@@ -73,11 +73,15 @@ fn obey<Rt: Threads + Sync, W: World, O: Output, P: Person, S: Speaker>(
         Command::Encode { hex, files } => {
             do_encode(alloc, world, line, *hex, files, inputs, console)
         }
-        Command::Ask(of) => {
+        Command::Ask(dialogue) => {
             speaker.takes_notes(line.notes);
             do_converse(
                 alloc,
-                &Files { rt, world, of },
+                &Files {
+                    rt,
+                    world,
+                    dialogue,
+                },
                 line,
                 inputs,
                 console,

@@ -47,7 +47,7 @@ pub fn converse<Rt: Threads + Sync, W: World, Q: Source, O: Sink, H: Speaker>(
     requires out { O.has_failed out.old ≡ false }
     ensures conversed { IsConversed (known W.holds W.is_absent W.standard files.now.world.now)
         (opened_files W.Input.remaining W.Input.has_ended W.Input.has_failed W.Input.good_reads
-        inputs.new.items) files.now.of.now
+        inputs.new.items) files.now.dialogue.now
         (talk (Q.remaining questions.old) (Q.remaining questions.new) (Q.has_failed questions.new)
         (O.contents out.old) (O.contents out.new) (O.has_failed out.new) H.told
         (H.wants_absence speaker.old) speaker.old speaker.new) result }
@@ -55,7 +55,7 @@ pub fn converse<Rt: Threads + Sync, W: World, Q: Source, O: Sink, H: Speaker>(
         (λ _. (questions.new ≡ questions.old) × (out.new ≡ out.old)
         × (speaker.new ≡ speaker.old)) }
 {
-    match open_all(alloc, files.world, files.of, inputs) {
+    match open_all(alloc, files.world, files.dialogue, inputs) {
         Ok(table) => {
             let symbols = as_bytes(&table);
             ask_opened(alloc, files, inputs, symbols, questions, out, speaker)
@@ -120,10 +120,10 @@ fn ask_opened<Rt: Threads + Sync, W: World, Q: Source, O: Sink, H: Speaker>(
         → map W.Input.remaining inputs.old.items ≡ map Some texts
         → Q.remaining questions.old ≡ Some lines
         → IfOk result (λ conversed. (read : Taken) × (opening : Opening)
-        × Begins files.now.of.now.folds files.now.of.now.setting texts read opening
+        × Begins files.now.dialogue.now.folds files.now.dialogue.now.setting texts read opening
         × Converses (answers_over (known W.holds W.is_absent W.standard files.now.world.now)
         (ways W.Input.remaining W.Input.has_ended W.Input.has_failed W.Input.good_reads)
-        files.now.of.now.setting files.now.of.now.folds (option_copied symbols.entry))
+        files.now.dialogue.now.setting files.now.dialogue.now.folds (option_copied symbols.entry))
         (H.wants_absence speaker.old) (Some read) lines
         (BeginsAndGets (O.contents out.old) (O.contents out.new) H.told speaker.old speaker.new
         opening) conversed) }
@@ -132,10 +132,10 @@ fn ask_opened<Rt: Threads + Sync, W: World, Q: Source, O: Sink, H: Speaker>(
         → Q.remaining questions.old ≡ Some lines
         → result ≡ Err (AskFault.Dialogue stopped)
         → (read : Taken) × (opening : Opening)
-        × Begins files.now.of.now.folds files.now.of.now.setting texts read opening
+        × Begins files.now.dialogue.now.folds files.now.dialogue.now.setting texts read opening
         × DialogueStops (answers_over (known W.holds W.is_absent W.standard files.now.world.now)
         (ways W.Input.remaining W.Input.has_ended W.Input.has_failed W.Input.good_reads)
-        files.now.of.now.setting files.now.of.now.folds (option_copied symbols.entry))
+        files.now.dialogue.now.setting files.now.dialogue.now.folds (option_copied symbols.entry))
         (H.wants_absence speaker.old) (Some read) lines
         (Q.remaining questions.new) (Q.has_failed questions.new)
         (BeginsAndGets (O.contents out.old) (O.contents out.new) H.told speaker.old speaker.new
@@ -144,15 +144,15 @@ fn ask_opened<Rt: Threads + Sync, W: World, Q: Source, O: Sink, H: Speaker>(
         (O.has_failed out.new) result }
     ensures cause { (texts : List (List ℕ)) → map W.Input.remaining inputs.old.items ≡ map Some texts
         → IfErr (by_fault (before_dialogue result))
-        (IsBeginsCause files.now.of.now.folds files.now.of.now.setting texts
+        (IsBeginsCause files.now.dialogue.now.folds files.now.dialogue.now.setting texts
         (map W.Input.remaining inputs.new.items) (map W.Input.has_ended inputs.new.items)
         (option_copied symbols.entry)) }
     ensures between { (texts : List (List ℕ)) → map W.Input.remaining inputs.old.items ≡ map Some texts
         → IfErr (before_dialogue result) (λ refused.
-        IsBeginsBetween files.now.of.now.folds files.now.of.now.setting texts refused.fault
+        IsBeginsBetween files.now.dialogue.now.folds files.now.dialogue.now.setting texts refused.fault
         refused.between) }
-    ensures reading { AreRead files.now.of.now.setting.form.hex W.Input.has_failed W.Input.has_ended
-        W.Input.good_reads W.Input.remaining inputs.old.items inputs.new.items
+    ensures reading { AreRead files.now.dialogue.now.setting.form.hex W.Input.has_failed
+        W.Input.has_ended W.Input.good_reads W.Input.remaining inputs.old.items inputs.new.items
         (by_fault (before_dialogue result)) }
     ensures untouched { IfErr (before_dialogue result)
         (λ _. (questions.new ≡ questions.old) × (out.new ≡ out.old)
@@ -165,8 +165,8 @@ fn ask_opened<Rt: Threads + Sync, W: World, Q: Source, O: Sink, H: Speaker>(
     } = begin(
         files.rt,
         alloc,
-        files.of.folds,
-        files.of.setting,
+        files.dialogue.folds,
+        files.dialogue.setting,
         inputs,
         symbols,
     )?;

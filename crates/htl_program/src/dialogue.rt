@@ -42,14 +42,14 @@ pub(crate) fn converse_lines<Rt: Threads + Sync, W: World, Q: Source, O: Sink, H
     ensures ok { (text : List ℕ) → Q.remaining questions.old ≡ Some text → IfOk result
         (Converses (answers_from (known W.holds W.is_absent W.standard files.now.world.now)
         (ways W.Input.remaining W.Input.has_ended W.Input.has_failed W.Input.good_reads)
-        files.now.of.now.setting (is_state kept.old)) (H.wants_absence host.old) kept.old text
+        files.now.dialogue.now.setting (is_state kept.old)) (H.wants_absence host.old) kept.old text
         (Gets (O.contents out.old) (O.contents out.new) H.told host.old host.new)) }
     // After a fault, the lines before it have their replies; if a read failed, these are all that
     // were read.
     ensures stops { (text : List ℕ) → Q.remaining questions.old ≡ Some text → IfErr result
         (DialogueStops (answers_from (known W.holds W.is_absent W.standard files.now.world.now)
         (ways W.Input.remaining W.Input.has_ended W.Input.has_failed W.Input.good_reads)
-        files.now.of.now.setting (is_state kept.old)) (H.wants_absence host.old) kept.old text
+        files.now.dialogue.now.setting (is_state kept.old)) (H.wants_absence host.old) kept.old text
         (Q.remaining questions.new) (Q.has_failed questions.new)
         (Gets (O.contents out.old) (O.contents out.new) H.told host.old host.new)) }
     ensures fine { OnOk result ((Q.has_failed questions.new ≡ false)
@@ -101,13 +101,13 @@ fn reply<Rt: Threads + Sync, W: World, O: Sink, H: Host>(
     ensures ok { IfOk result (Replies
         (answers_from (known W.holds W.is_absent W.standard files.now.world.now)
         (ways W.Input.remaining W.Input.has_ended W.Input.has_failed W.Input.good_reads)
-        files.now.of.now.setting (is_state kept.old)) (H.wants_absence host.old) said.now kept.old
+        files.now.dialogue.now.setting (is_state kept.old)) (H.wants_absence host.old) said.now kept.old
         kept.new (O.contents out.old) (O.contents out.new) H.told host.old host.new) }
     ensures fine { OnOk result (O.has_failed out.new ≡ false) }
     ensures err { IfErr result (IsRefusedReply
         (answers_from (known W.holds W.is_absent W.standard files.now.world.now)
         (ways W.Input.remaining W.Input.has_ended W.Input.has_failed W.Input.good_reads)
-        files.now.of.now.setting (is_state kept.old)) said.now kept.old (O.contents out.old)
+        files.now.dialogue.now.setting (is_state kept.old)) said.now kept.old (O.contents out.old)
         (O.contents out.new) (O.has_failed out.new) H.told host.old host.new) }
     ensures same { H.wants_absence host.new ≡ H.wants_absence host.old }
     ensures form { OnOk result (is_state kept.new ≡ is_state kept.old) }
@@ -123,7 +123,7 @@ fn reply<Rt: Threads + Sync, W: World, O: Sink, H: Host>(
             })
         }
         Said::Asks(job) => {
-            let mut text = kept.answer(files.rt, alloc, files.of.setting.workers, job)?;
+            let mut text = kept.answer(files.rt, alloc, files.dialogue.setting.workers, job)?;
             text.push(b'\n')?;
             write(out, &text)?;
             note_absence(kept, job, host);

@@ -22,7 +22,7 @@ pub struct Files<'a, Rt, W> {
     /// What opens files by their names.
     pub world: &'a W,
     /// The files at the beginning, the table of symbols, and how all files are read.
-    pub of: &'a Dialogue,
+    pub dialogue: &'a Dialogue,
 }
 
 impl<Rt: Threads + Sync, W: World> Files<'_, Rt, W> {
@@ -36,7 +36,7 @@ impl<Rt: Threads + Sync, W: World> Files<'_, Rt, W> {
     ) -> Result<Result<Added, Refused>, NoMemory>
         ensures { IfOk result (ReadsFiles (known W.holds W.is_absent W.standard self.now.world.now)
             (ways W.Input.remaining W.Input.has_ended W.Input.has_failed W.Input.good_reads)
-            self.now.of.now.setting kept.old (map string_bytes names.now) kept.new) }
+            self.now.dialogue.now.setting kept.old (map string_bytes names.now) kept.new) }
     {
         match kept {
             Kept::Case(loaded) => Ok(self.add(alloc, loaded, names)),
@@ -66,19 +66,19 @@ impl<Rt: Threads + Sync, W: World> Files<'_, Rt, W> {
     fn add(&self, alloc: Global, loaded: &mut Loaded, names: &[String]) -> Result<Added, Refused>
         ensures { AddsFiles (known W.holds W.is_absent W.standard self.now.world.now)
             (ways W.Input.remaining W.Input.has_ended W.Input.has_failed W.Input.good_reads)
-            self.now.of.now.setting loaded.old (map string_bytes names.now) loaded.new result }
+            self.now.dialogue.now.setting loaded.old (map string_bytes names.now) loaded.new result }
     {
         let mut inputs = self.opened(alloc, names)?;
-        add(self.rt, alloc, self.of.setting, loaded, &mut inputs)
+        add(self.rt, alloc, self.dialogue.setting, loaded, &mut inputs)
     }
 
     /// Opens files and folds their segments behind what was folded.
     fn fold(&self, alloc: Global, folded: &mut Folded, names: &[String]) -> Result<Added, Refused>
         ensures { FoldsFiles (known W.holds W.is_absent W.standard self.now.world.now)
             (ways W.Input.remaining W.Input.has_ended W.Input.has_failed W.Input.good_reads)
-            self.now.of.now.setting folded.old (map string_bytes names.now) folded.new result }
+            self.now.dialogue.now.setting folded.old (map string_bytes names.now) folded.new result }
     {
         let mut inputs = self.opened(alloc, names)?;
-        fold(self.rt, alloc, self.of.setting, folded, &mut inputs)
+        fold(self.rt, alloc, self.dialogue.setting, folded, &mut inputs)
     }
 }

@@ -176,7 +176,8 @@ pub(crate) fn do_converse<Rt: Threads + Sync, W: World, O: Output, P: Person, S:
         (opened W.Input.remaining W.Input.has_ended W.Input.has_failed W.Input.good_reads
         inputs.new)
         (told O.contents O.has_failed P.heard console.old)
-        (told O.contents O.has_failed P.heard console.new) line.now.command files.now.of.now result }
+        (told O.contents O.has_failed P.heard console.new) line.now.command files.now.dialogue.now
+        result }
 {
     let in_words = console.says_words(line);
     console.person.begins(&line.command);

@@ -17,7 +17,7 @@ returns-in_err-kept-clause-reading g c =
     let p = err_from_is_err_and c.from_residual.result c.from_residual.ensures.1 in
     let kept : length c.begin.new.inputs ≡ c.args.inputs.now.len = search rules in
     let back = take_front c.begin.new.inputs (drop (length c.begin.new.inputs) c.args.inputs.now.items) c.args.inputs.now.len kept in
-    rw (back, ← c.deref_mut.ensures.value, p.1, p.2) (ends_too c.args.files.now.of.now.setting.form.hex g.W.Input.Source.has_failed
+    rw (back, ← c.deref_mut.ensures.value, p.1, p.2) (ends_too c.args.files.now.dialogue.now.setting.form.hex g.W.Input.Source.has_failed
     g.W.Input.Source.has_ended g.W.Input.Source.good_reads g.W.Input.Source.remaining c.deref_mut.result.now c.begin.new.inputs
     c.in_err-kept.field-0.0.fault c.in_err-kept.ensures.reading)
 
@@ -26,7 +26,7 @@ returns-in_err-conversed-clause-reading g c =
     let p = err_from_is_err_and c.from_residual-in_err-conversed.result c.from_residual-in_err-conversed.ensures.1 in
     let kept : length c.begin.new.inputs ≡ c.args.inputs.now.len = search rules in
     let back = take_front c.begin.new.inputs (drop (length c.begin.new.inputs) c.args.inputs.now.items) c.args.inputs.now.len kept in
-    rw (back, ← c.deref_mut.ensures.value, p.1, p.2) (read_then c.args.files.now.of.now.setting.form.hex g.W.Input.Source.has_failed
+    rw (back, ← c.deref_mut.ensures.value, p.1, p.2) (read_then c.args.files.now.dialogue.now.setting.form.hex g.W.Input.Source.has_failed
     g.W.Input.Source.has_ended g.W.Input.Source.good_reads g.W.Input.Source.remaining c.deref_mut.result.now c.begin.new.inputs
     c.in_ok-kept.field-0 (well (tt {0})) c.in_ok-kept.ensures.reading (λ at told. cc told) (tt {0}))
 
@@ -34,7 +34,7 @@ pub returns-clause-reading : goal.returns-clause-reading
 returns-clause-reading g c =
     let kept : length c.begin.new.inputs ≡ c.args.inputs.now.len = search rules in
     let back = take_front c.begin.new.inputs (drop (length c.begin.new.inputs) c.args.inputs.now.items) c.args.inputs.now.len kept in
-    rw (back, ← c.deref_mut.ensures.value) (read_then c.args.files.now.of.now.setting.form.hex g.W.Input.Source.has_failed g.W.Input.Source.has_ended
+    rw (back, ← c.deref_mut.ensures.value) (read_then c.args.files.now.dialogue.now.setting.form.hex g.W.Input.Source.has_failed g.W.Input.Source.has_ended
     g.W.Input.Source.good_reads g.W.Input.Source.remaining c.deref_mut.result.now c.begin.new.inputs c.in_ok-kept.field-0 (well (tt {0}))
     c.in_ok-kept.ensures.reading (λ at told. cc told) (tt {0}))
 
@@ -43,7 +43,7 @@ returns-in_err-conversed-clause-stops g c =
     let p = err_from_is_err_and c.from_residual-in_err-conversed.result c.from_residual-in_err-conversed.ensures.1 in
     let world = known g.W.World.holds g.W.World.is_absent g.W.World.standard c.args.files.now.world.now in
     let read = ways g.W.Input.Source.remaining g.W.Input.Source.has_ended g.W.Input.Source.has_failed g.W.Input.Source.good_reads in
-    let setting = c.args.files.now.of.now.setting in
+    let setting = c.args.files.now.dialogue.now.setting in
     let symbols = option_copied c.args.symbols in
     let begun = c.in_ok-kept.field-0 in
     let opening : Opening = record { coverage = begun.coverage; cut = begun.cut } in
@@ -51,7 +51,7 @@ returns-in_err-conversed-clause-stops g c =
     let left = g.Q.Source.remaining c.converse_lines.new.questions in
     let failed = g.Q.Source.has_failed c.converse_lines.new.questions in
     let one = answers_from world read setting (is_state begun.kept) in
-    let other = answers_over world read setting c.args.files.now.of.now.folds symbols in
+    let other = answers_over world read setting c.args.files.now.dialogue.now.folds symbols in
     λ texts lines stopped all asked is.
     let are = c.in_ok-kept.ensures.ok texts (rw c.deref_mut.ensures.value all) in (
       are.read,
@@ -74,13 +74,13 @@ pub returns-clause-replies : goal.returns-clause-replies
 returns-clause-replies g c =
     let world = known g.W.World.holds g.W.World.is_absent g.W.World.standard c.args.files.now.world.now in
     let read = ways g.W.Input.Source.remaining g.W.Input.Source.has_ended g.W.Input.Source.has_failed g.W.Input.Source.good_reads in
-    let setting = c.args.files.now.of.now.setting in
+    let setting = c.args.files.now.dialogue.now.setting in
     let symbols = option_copied c.args.symbols in
     let begun = c.in_ok-kept.field-0 in
     let opening : Opening = record { coverage = begun.coverage; cut = begun.cut } in
     let conversed = c.in_ok-conversed.conversed in
     let one = answers_from world read setting (is_state begun.kept) in
-    let other = answers_over world read setting c.args.files.now.of.now.folds symbols in
+    let other = answers_over world read setting c.args.files.now.dialogue.now.folds symbols in
     λ texts lines all asked.
     let are = c.in_ok-kept.ensures.ok texts (rw c.deref_mut.ensures.value all) in (
       are.read,

@@ -11,7 +11,7 @@ returns-in_err-inputs g c =
     let world = known g.W.World.holds g.W.World.is_absent g.W.World.standard c.args.self.now.world.now in
     let names = map string_bytes c.args.names.now in
     rw p.1 (not_opened world (ways g.W.Input.Source.remaining g.W.Input.Source.has_ended g.W.Input.Source.has_failed g.W.Input.Source.good_reads)
-    c.args.self.now.of.now.setting c.args.loaded.now names p.0
+    c.args.self.now.dialogue.now.setting c.args.loaded.now names p.0
     (rw p.2.0 c.in_err-inputs.ensures.refused) p.2.1)
 
 pub returns : goal.returns
@@ -19,7 +19,7 @@ returns g c =
     let world = known g.W.World.holds g.W.World.is_absent g.W.World.standard c.args.self.now.world.now in
     let names = map string_bytes c.args.names.now in
     opened_and_added world (ways g.W.Input.Source.remaining g.W.Input.Source.has_ended g.W.Input.Source.has_failed g.W.Input.Source.good_reads)
-    c.args.self.now.of.now.setting c.args.loaded.now names c.add.new.loaded c.in_ok-inputs.inputs c.add.new.inputs c.add.result
+    c.args.self.now.dialogue.now.setting c.args.loaded.now names c.add.new.loaded c.in_ok-inputs.inputs c.add.new.inputs c.add.result
     c.in_ok-inputs.ensures
     (rw c.deref_mut.ensures.value at c.add.ensures.ok) (rw c.deref_mut.ensures.value at c.add.ensures.err) c.add.ensures.coverage
     c.add.ensures.same c.add.ensures.symbols (rw c.deref_mut.ensures.value at c.add.ensures.reading)

@@ -11,7 +11,7 @@ returns-in_err-inputs g c =
     let world = known g.W.World.holds g.W.World.is_absent g.W.World.standard c.args.self.now.world.now in
     let names = map string_bytes c.args.names.now in
     rw p.1 (none_folded world (ways g.W.Input.Source.remaining g.W.Input.Source.has_ended g.W.Input.Source.has_failed g.W.Input.Source.good_reads)
-    c.args.self.now.of.now.setting c.args.folded.now names p.0
+    c.args.self.now.dialogue.now.setting c.args.folded.now names p.0
     (rw p.2.0 c.in_err-inputs.ensures.refused))
 
 pub returns : goal.returns
@@ -19,7 +19,7 @@ returns g c =
     let world = known g.W.World.holds g.W.World.is_absent g.W.World.standard c.args.self.now.world.now in
     let names = map string_bytes c.args.names.now in
     opened_and_folded world (ways g.W.Input.Source.remaining g.W.Input.Source.has_ended g.W.Input.Source.has_failed g.W.Input.Source.good_reads)
-    c.args.self.now.of.now.setting c.args.folded.now names c.fold.new.folded c.in_ok-inputs.inputs c.fold.new.inputs c.fold.result
+    c.args.self.now.dialogue.now.setting c.args.folded.now names c.fold.new.folded c.in_ok-inputs.inputs c.fold.new.inputs c.fold.result
     c.in_ok-inputs.ensures
     (rw c.deref_mut.ensures.value at c.fold.ensures.ok) (rw c.deref_mut.ensures.value at c.fold.ensures.err) c.fold.ensures.between
     c.fold.ensures.symbols (rw c.deref_mut.ensures.value at c.fold.ensures.reading)

@@ -20,7 +20,8 @@ number s = s.number
 pub collection_of : TracesAreCollections
 collection_of T trace = record { in_order = trace.in_order; fit = trace.fit; same = trace.same }
 
-keys_differ : (s t : Content) → IsBefore s t → s.processor ≡ t.processor → s.number ≡ t.number → ⊥
+-- two segments of which one comes before the other have two keys
+pub keys_differ : (s t : Content) → IsBefore s t → s.processor ≡ t.processor → s.number ≡ t.number → ⊥
 keys_differ s t (inl lt) ep en = omega arith
 keys_differ s t (inr both) ep en = omega (arith, both.1)
 

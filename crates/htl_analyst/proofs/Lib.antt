@@ -19,4 +19,5 @@ pub mod Falling
 pub mod Compactions
 pub mod Answered
 pub mod EventNumbers
+pub mod Firsts
 pub mod TakenAll

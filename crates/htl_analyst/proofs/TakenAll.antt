@@ -1,10 +1,10 @@
 -- After each step a state has taken exactly the segments that reached it, and it answers about their events alone.
-use Rattle.std.proofs.Common.{◌≡◌, ℕ, Bool, true, List, [], ◌∷◌, ◌++◌, refl, sym, ap, ◌∙◌, inl, inr, ◌⊎◌}
+use Rattle.std.proofs.Common.{◌≡◌, ℕ, Bool, true, List, [], ◌∷◌, ◌++◌, refl, sym, ap, ◌∙◌, subst, inl, inr, ◌⊎◌}
 use Rattle.std.specs.Prelude.{Contains, ◌↔◌, filter}
 use Rattle.std.proofs.lemmas.List.Elements.{Contains-append_cases, Contains-append_left, Contains-append_right}
 use Rattle.htl_event.proofs.Members.{Contains-here, Contains-there, Contains-cases, Contains-nil, at_member, each_member, filter-pass}
-use Rattle.htl_event.proofs.Members.{all_left, all_right, all_append}
-use Rattle.htl_segment.specs.Content.{Content}
+use Rattle.htl_event.proofs.Members.{all_append}
+use Rattle.htl_segment.specs.Content.{Content, Fits}
 use Rattle.htl_segment.specs.Traces.{Trace, key_is_in, all_events}
 use Rattle.htl_analyst.specs.States.{State}
 use Rattle.htl_analyst.specs.Keys.{HasTaken, keys}
@@ -14,7 +14,8 @@ use Rattle.htl_analyst.specs.declared.fault.Took.{Took}
 use Rattle.htl_analyst.specs.declared.fault.Took.TheVariants.{New, Repeat}
 use Rattle.htl_analyst.specs.Steps.{new_state, taken_as}
 use Rattle.htl_analyst.specs.TakenEvents.{taken_events}
-use Rattle.htl_analyst.specs.TakenAll.{HasKeyOf, HasTakenAll}
+use Rattle.htl_analyst.specs.TakenAll.{HasKeyOf, HasTakenAll, IsFirstOf}
+use Rattle.htl_analyst.proofs.Firsts.{first_at_end, still_first}
 use Rattle.htl_analyst.proofs.KeyEvents.{taken_keys}
 
 -- ---- the steps
@@ -24,6 +25,7 @@ pub new_has_taken_none : (id count : ℕ) (a : State) → a ≡ new_state id cou
     → ((T : Trace) → IsCollection T → T.id ≡ id → T.processors ≡ count → IsRight a T) → HasTakenAll [] a
 new_has_taken_none id count a is none right = record {
   ids = tt;
+  fit = tt;
   keys = λ p n. (λ h. absurd (none p n h), λ k. absurd (Contains-nil k.0 k.1));
   right = λ T collection same_id same_count of.
       right T collection (same_id ∙ ap (λ (x : State). x.trace_id) is) (same_count ∙ ap (λ (x : State). x.processors) is);
@@ -55,12 +57,21 @@ key_more segments s p n = (
 abbrev AreIdsOf : State → Content → Type 0
 AreIdsOf a s = (s.trace_id ≡ a.trace_id) × (s.processors ≡ a.processors)
 
+-- a state that took a segment is right about a collection of the first segments of all keys
+next_right : (segments : List Content) (s : Content) (took : Took) (a b : State) (T : Trace) → b ≡ taken_as took a s
+    → ((took ≡ New) ↔ (HasTaken a s.processor s.number → ⊥)) → ((p n : ℕ) → HasTaken a p n ↔ HasKeyOf segments p n)
+    → (IsRight a T → Contains T.segments s → IsRight b T)
+    → ((t : Content) → IsFirstOf (segments ++ s ∷ []) t → Contains T.segments t) → IsRight a T → IsRight b T
+next_right segments s Repeat a b T is new keys right each before = subst (λ (x : State). IsRight x T) (sym is) before
+next_right segments s New a b T is new keys right each before =
+    right before (each s (first_at_end segments s (λ key. new.0 refl ((keys s.processor s.number).1 key))))
+
 -- a take that is Ok adds its segment, whether it is new or a repeat
-pub take_has_taken_one_more : (segments : List Content) (s : Content) (took : Took) (a b : State) → HasTakenAll segments a
-    → b ≡ taken_as took a s → TakeAccepted a s
+pub take_has_taken_one_more : (segments : List Content) (s : Content) (took : Took) (a b : State) → HasTakenAll segments a → Fits s
+    → b ≡ taken_as took a s → TakeAccepted a s → ((took ≡ New) ↔ (HasTaken a s.processor s.number → ⊥))
     → ((p n : ℕ) → HasTaken b p n ↔ (HasTaken a p n ⊎ ((p ≡ s.processor) × (n ≡ s.number))))
     → ((T : Trace) → IsRight a T → Contains T.segments s → IsRight b T) → HasTakenAll (segments ++ s ∷ []) b
-take_has_taken_one_more segments s took a b old is accepted more right =
+take_has_taken_one_more segments s took a b old fits is accepted new more right =
     let same = taken_ids took a s in
     let id : b.trace_id ≡ a.trace_id = ap (λ (x : State). x.trace_id) is ∙ same.0 in
     let count : b.processors ≡ a.processors = ap (λ (x : State). x.processors) is ∙ same.1 in
@@ -69,6 +80,7 @@ take_has_taken_one_more segments s took a b old is accepted more right =
           (each_member (AreIdsOf b) segments
           (λ t h. (let e = at_member (AreIdsOf a) segments t old.ids h in (e.0 ∙ sym id, e.1 ∙ sym count))))
           ((accepted.of_state.trace_id ∙ sym id, accepted.of_state.processors ∙ sym count), tt);
+      fit = all_append Fits segments (s ∷ []) old.fit (fits, tt);
       keys = λ p n.
           let now = more p n in
           let was = old.keys p n in
@@ -76,10 +88,9 @@ take_has_taken_one_more segments s took a b old is accepted more right =
             (λ h. elim (now.0 h) [ inl before ↦ list.1 (inl (was.0 before)) | inr here ↦ list.1 (inr here) ]),
             (λ k. elim (list.0 k) [ inl before ↦ now.1 (inl (was.1 before)) | inr here ↦ now.1 (inr here) ]),
           );
-      right = λ T collection same_id same_count of.
-          right T
-          (old.right T collection (same_id ∙ id) (same_count ∙ count) (all_left (Contains T.segments) segments (s ∷ []) of))
-          ((all_right (Contains T.segments) segments (s ∷ []) of).0);
+      right = λ T collection same_id same_count each.
+          next_right segments s took a b T is new old.keys (right T) each
+          (old.right T collection (same_id ∙ id) (same_count ∙ count) (λ t first. each t (still_first segments (s ∷ []) t first)));
     }
 
 -- a compaction takes nothing and loses nothing, whether it is Ok or Err
@@ -89,9 +100,10 @@ pub compact_has_taken_the_same : (segments : List Content) (a b : State) → Has
 compact_has_taken_the_same segments a b old same now right = record {
   ids = each_member (AreIdsOf b) segments
       (λ t h. (let e = at_member (AreIdsOf a) segments t old.ids h in (e.0 ∙ sym same.0, e.1 ∙ sym same.1)));
+  fit = old.fit;
   keys = λ p n. (let k = now p n in let was = old.keys p n in (λ h. was.0 (k.0 h), λ h. k.1 (was.1 h)));
-  right = λ T collection same_id same_count of.
-      right T (old.right T collection (same_id ∙ same.0) (same_count ∙ same.1) of);
+  right = λ T collection same_id same_count each.
+      right T (old.right T collection (same_id ∙ same.0) (same_count ∙ same.1) each);
 }
 
 -- ---- the events

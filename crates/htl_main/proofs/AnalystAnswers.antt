@@ -10,16 +10,16 @@ use Rattle.htl_taken.specs.declared.gap.Gap.{Gap}
 use Rattle.htl_analyst.specs.Keys.{keys}
 use Rattle.htl_analyst.specs.Right.{IsRight}
 use Rattle.htl_analyst.specs.States.{State}
+use Rattle.htl_analyst.specs.TakenAll.{IsFirstOf}
 use Rattle.htl_analyst.proofs.Held.{collection_of}
 use Rattle.htl_analyst.proofs.KeyEvents.{keys_taken, taken_keys}
-use Rattle.htl_case.specs.Cases.{IsCaseOf}
 use Rattle.htl_case.specs.TakenCases.{IsTakenCase}
 use Rattle.htl_case.specs.declared.question.AnalystAnswer.TheVariants as found
 use Rattle.htl_case.specs.declared.question.AnalystQuestion.TheVariants as analysts
 use Rattle.htl_case.proofs.TakenCases.{taken_cases_answer}
 use Rattle.htl_report.specs.declared.summary.Totals.{Totals}
 use Rattle.htl_main.specs.Analysts.{AreAnswers}
-use Rattle.htl_main.specs.Folding.{AreFolded}
+use Rattle.htl_main.specs.Folding.{AreFolded, IsCaseOfFirsts}
 use Rattle.htl_main.specs.Summaries.{IsSummary}
 use Rattle.htl_main.proofs.FoldLaws.{all_keys, all_of_case, is_right}
 
@@ -57,9 +57,9 @@ summaries_agree T S C totals gaps processes objects is =
           },
     )
 
--- what was folded is an analyst of each trace that the segments are of, with exactly the keys of their case
+-- what was folded is an analyst of each trace that has the first segments of all keys, with exactly the keys of their case
 pub folded_analysts_agree : (T : Trace) (segments : List Content) (a : State) (C : Trace) → IsTrace T
-    → ((s : Content) → Contains segments s → Contains T.segments s) → AreFolded (Some a) segments → IsCaseOf segments C
+    → ((s : Content) → IsFirstOf segments s → Contains T.segments s) → AreFolded (Some a) segments → IsCaseOfFirsts segments C
     → IsRight a T × IsTakenCase T (keys a) C
 folded_analysts_agree T segments a C trace each folded case =
     let some = folded.taken.0 in

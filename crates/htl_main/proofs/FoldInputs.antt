@@ -4,8 +4,9 @@ use Rattle.std.proofs.Common.{refl, sym, ap, ◌∙◌, subst, arith, inl, inr, 
 use Rattle.std.proofs.Common.{Option, Some, None, IfErr, IfOk, IfSome, Result, Ok, Err}
 use Rattle.std.specs.Prelude.{Contains, OnOk, slice_get}
 use Rattle.std.proofs.lemmas.Result.{on_ok_weaker}
-use Rattle.htl_event.proofs.Members.{Contains-here, Contains-nil}
+use Rattle.htl_event.proofs.Members.{Contains-here}
 use Rattle.htl_analyst.specs.States.{State}
+use Rattle.htl_analyst.specs.TakenAll.{IsFirstOf}
 use Rattle.htl_case.specs.declared.fault.CaseFault.{CaseFault}
 use Rattle.htl_case.specs.declared.fault.CaseFault.TheVariants as cases
 use Rattle.htl_command.specs.declared.question.InputForm.{InputForm}
@@ -30,8 +31,8 @@ use Rattle.htl_main.specs.Ends.{IsEnd, IsEndRefused, IsInput}
 use Rattle.htl_main.specs.Faults.{of_case, of_hex, of_read, of_segment, of_source}
 use Rattle.htl_main.specs.Folders.{AreAllTaken, Folds, GaveOwn, IsAddedToFolded, IsMissingOf, IsNotAdded, IsOfInput, IsSymbolsFault, KeepsAll}
 use Rattle.htl_main.specs.Folders.{folds_of, number_of}
-use Rattle.htl_main.specs.Folding.{AreAccepted, AreAllOf, AreFolded, AreGiven, AreTaken, AsksFoldsMemory, IsFolded, IsFoldedFar, IsFoldedUpTo}
-use Rattle.htl_main.specs.Folding.{AreReadToFold, IsBeginningRefused, IsFoldingRefused, IsFoldsFault, TakesUpTo, counted}
+use Rattle.htl_main.specs.Folding.{AreAccepted, AreFolded, AreGiven, AreReadToFold, AreTaken, AsksFoldsMemory, IsBeginningRefused}
+use Rattle.htl_main.specs.Folding.{IsCollectionOf, IsFolded, IsFoldedFar, IsFoldedUpTo, IsFoldingRefused, IsFoldsFault, TakesUpTo, counted}
 use Rattle.htl_main.specs.Inputs.{DecodeAll, HasBytes, StopsAtInput}
 use Rattle.htl_main.specs.Printed.{WorkersFit}
 use Rattle.htl_main.specs.Readings.{AreRead}
@@ -273,11 +274,10 @@ no_members : (ss : List Content) → ((s : Content) → Contains ss s → ⊥) �
 no_members [] none = refl
 no_members (s ∷ ss) none = absurd (none s (Contains-here s ss))
 
-counted_before : (before : List Content) (old : Option State) (T : Trace) → AreTaken before old → AreAllOf before T
+counted_before : (before : List Content) (old : Option State) (T : Trace) → AreTaken before old → IsCollectionOf before T
     → number_of old ≡ length T.segments
 counted_before before None T taken all =
-    sym (no_members T.segments (λ s has.
-    Contains-nil s (subst (λ (ss : List Content). Contains ss s) taken ((all.members s).0 has))))
+    sym (no_members T.segments (λ s has. subst (λ (ss : List Content). IsFirstOf ss s) taken ((all.members s).0 has)))
 counted_before before (Some a) T taken all = all_counted before a T taken.1 taken.0 all
 
 -- ---- why a reading ends

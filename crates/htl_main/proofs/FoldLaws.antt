@@ -1,10 +1,9 @@
--- An analyst that took a list of segments is right about each trace that these are of, and takes the next one or finds it unfit.
+-- An analyst that took a list of segments is right about the first of each key, and takes the next one or finds it unfit.
 use Rattle.std.proofs.Common.{◌≡◌, ◌≢◌, ℕ, ◌+◌, ◌<◌, ◌≤◌, Bool, true, false, cond, List, [], ◌∷◌, ◌++◌, length, length-set, refl, sym, ap, ◌∙◌, subst}
 use Rattle.std.proofs.Common.{inl, inr, ◌⊎◌, arith, Some, None, Option, eq-eqb, eqb, eqb-true, ltb, ltb-true}
 use Rattle.std.specs.Prelude.{Contains, ◌↔◌, ◌||◌, count_by, is_some, map, slice_get}
 use Rattle.std.proofs.lemmas.Bool.{and_from, and_parts, cases_Bool, cases_eq, cases_lt, lt-ltb}
 use Rattle.std.proofs.Common.{leb, leb-true, leb-false}
-use Rattle.std.proofs.lemmas.List.Elements.{Contains-append_left}
 use Rattle.std.proofs.lemmas.List.Sums.{sum_by-cons}
 use Rattle.htl_event.specs.Events.{Event}
 use Rattle.htl_event.specs.Handles.{IsGreatestSequence}
@@ -27,8 +26,9 @@ use Rattle.htl_analyst.specs.Moments.{IsLeastLastFolded}
 use Rattle.htl_analyst.specs.Refusals.{HoldsOther, IsOfState, TakeAccepted}
 use Rattle.htl_analyst.specs.Right.{IsCollection, IsOwned, IsRight, IsState, run_events}
 use Rattle.htl_analyst.specs.States.{State, folded_at, held_at}
-use Rattle.htl_analyst.specs.TakenAll.{HasKeyOf, HasTakenAll}
+use Rattle.htl_analyst.specs.TakenAll.{HasKeyOf, HasTakenAll, IsFirstOf}
 use Rattle.htl_analyst.specs.TakenEvents.{taken_events}
+use Rattle.htl_analyst.proofs.Firsts.{first_of_key, is_member, still_first}
 use Rattle.htl_analyst.proofs.Held.{collection_of, number, one_segment}
 use Rattle.htl_analyst.proofs.KeyEvents.{keys_taken, taken_keys}
 use Rattle.htl_analyst.proofs.TakenAll.{all_were_taken, take_has_taken_one_more}
@@ -36,7 +36,6 @@ use Rattle.htl_analyst.proofs.Updates.{place-set_other}
 use Rattle.htl_analyst.specs.Steps.{taken_as}
 use Rattle.htl_analyst.specs.declared.fault.Took.{Took}
 use Rattle.htl_analyst.specs.declared.fault.Took.TheVariants.{New, Repeat}
-use Rattle.htl_case.specs.Cases.{IsCaseOf}
 use Rattle.htl_case.specs.Complete.{IsCompleteTo, IsFirstMissing}
 use Rattle.htl_case.specs.Faults.{key_of}
 use Rattle.htl_case.proofs.Sizes.{size_is}
@@ -44,7 +43,7 @@ use Rattle.htl_main.specs.Completeness.{IsComplete, IsLeastMissing}
 use Rattle.htl_main.specs.Coverages.{IsCoverage}
 use Rattle.htl_main.specs.Folders.{IsFallen, IsNewTo, Keeps, KeepsAll, TookNext}
 use Rattle.htl_main.specs.declared.coverage.Coverage.{Coverage}
-use Rattle.htl_main.specs.Folding.{Accepts, AreAllOf, AreFolded, AreOfTraceOf, AreSomeOf, IsFoldedFar, IsUnbroken, IsUnfit}
+use Rattle.htl_main.specs.Folding.{Accepts, AreFolded, AreOfTraceOf, IsCaseOfFirsts, IsCollectionOf, IsFoldedFar, IsUnbroken, IsUnfit}
 use Rattle.htl_case.specs.declared.fault.CaseFault.TheVariants as cases
 use Rattle.htl_command.specs.Needs.{is_of_events, needs_events}
 use Rattle.htl_command.specs.declared.question.Job.{Job}
@@ -52,36 +51,43 @@ use Rattle.htl_command.specs.declared.question.Moment.{Moment}
 use Rattle.htl_command.specs.declared.question.Question.{Question}
 use Rattle.htl_command.specs.declared.question.Question.TheVariants as questions
 use Rattle.htl_main.specs.Questions.{IsOfParts}
+use Rattle.htl_main.proofs.Collections.{firsts_of}
 use Rattle.htl_main.proofs.Covered.{one_first}
 use Rattle.htl_main.proofs.Missing.{no_later}
 
 abbrev AreIdsOf : State → Content → Type 0
 AreIdsOf a s = (s.trace_id ≡ a.trace_id) × (s.processors ≡ a.processors)
 
--- ---- a collection that the segments are of
+-- ---- a collection of the first segments
 
 module _ (segments : List Content) (a : State) (T : Trace) (took : HasTakenAll segments a) (some : segments ≢ [])
-    (collection : IsCollection T) (each : (s : Content) → Contains segments s → Contains T.segments s) where
+    (collection : IsCollection T) (each : (s : Content) → IsFirstOf segments s → Contains T.segments s) where
+  some_first : (s : Content) × IsFirstOf segments s
+  some_first =
+      let one = some_member segments some in
+      let first = first_of_key segments (one.0).processor (one.0).number (one.0, one.1, refl, refl) in
+      (first.0, first.1)
+
   -- it has the analyst's trace id and processor count
   pub same_ids : (T.id ≡ a.trace_id) × (T.processors ≡ a.processors)
   same_ids =
-      let one = some_member segments some in
-      let ids = at_member (AreIdsOf a) segments one.0 took.ids one.1 in
+      let one = some_first in
+      let ids = at_member (AreIdsOf a) segments one.0 took.ids (is_member segments one.0 one.1) in
       let same = at_member (λ s. (s.trace_id ≡ T.id) × (s.processors ≡ T.processors)) T.segments one.0 collection.same (each one.0 one.1) in
       (sym same.0 ∙ ids.0, sym same.1 ∙ ids.1)
 
-  -- the analyst is right about each collection that the segments are some of
+  -- the analyst is right about it
   pub is_right : IsRight a T
-  is_right = took.right T collection same_ids.0 same_ids.1 (each_member (Contains T.segments) segments each)
+  is_right = took.right T collection same_ids.0 same_ids.1 each
 
-  -- the segment of a taken key is one of the list
-  pub in_list : (s : Content) → Contains T.segments s → HasTaken a s.processor s.number → Contains segments s
+  -- the segment of a taken key is the first of the list that has it
+  pub in_list : (s : Content) → Contains T.segments s → HasTaken a s.processor s.number → IsFirstOf segments s
   in_list s has taken =
-      let key = (took.keys s.processor s.number).0 taken in
-      subst (Contains segments)
-      (one_segment T.segments collection.in_order key.0 s (each key.0 key.1) has key.2 key.3) key.1
+      let first = first_of_key segments s.processor s.number ((took.keys s.processor s.number).0 taken) in
+      subst (IsFirstOf segments)
+      (one_segment T.segments collection.in_order first.0 s (each first.0 first.1) has first.2 first.3) first.1
 
--- ---- all of its segments
+-- ---- the collection of just these
 
 count_all : (p : Content → Bool) (ss : List Content) → ((s : Content) → Contains ss s → p s ≡ true) → count_by p ss ≡ length ss
 count_all p [] each = refl
@@ -92,15 +98,15 @@ count_all p (s ∷ ss) each =
     omega (arith, one, first, rest)
 
 module _ (segments : List Content) (a : State) (T : Trace) (took : HasTakenAll segments a) (some : segments ≢ [])
-    (all : AreAllOf segments T) where
-  right_of_all : IsRight a T
+    (all : IsCollectionOf segments T) where
+  pub right_of_all : IsRight a T
   right_of_all = is_right segments a T took some all.collection (λ s h. (all.members s).1 h)
 
   -- they were taken
   pub all_keys : (p n : ℕ) → HasTaken a p n ↔ HasKey T p n
   all_keys p n = (
-    λ taken. (let key = (took.keys p n).0 taken in (key.0, (all.members key.0).1 key.1, key.2, key.3)),
-    λ has. (took.keys p n).1 (has.0, (all.members has.0).0 has.1, has.2, has.3),
+    λ taken. (let first = first_of_key segments p n ((took.keys p n).0 taken) in (first.0, (all.members first.0).1 first.1, first.2, first.3)),
+    λ has. (took.keys p n).1 (has.0, is_member segments has.0 ((all.members has.0).0 has.1), has.2, has.3),
   )
 
   -- each once
@@ -113,18 +119,17 @@ module _ (segments : List Content) (a : State) (T : Trace) (took : HasTakenAll s
 -- ---- a case of them
 
 module _ (segments : List Content) (a : State) (T : Trace) (took : HasTakenAll segments a) (some : segments ≢ [])
-    (case : IsCaseOf segments T) where
-  -- the segments are all that their case has
-  pub all_of_case : AreAllOf segments T
+    (case : IsCaseOfFirsts segments T) where
+  pub all_of_case : IsCollectionOf segments T
   all_of_case = record { collection = collection_of T case.is_case.trace; members = case.members }
 
-  -- the analyst is right about the case of the segments
+  -- the analyst is right about the case
   pub right_of_case : IsRight a T
   right_of_case = right_of_all segments a T took some all_of_case
 
   -- the events of its taken keys are all events of the case
   pub events_of_case : taken_events T a ≡ all_events T.segments
-  events_of_case = all_were_taken segments T a took (λ s h. (case.members s).0 h)
+  events_of_case = all_were_taken segments T a took (λ s h. is_member segments s ((case.members s).0 h))
 
   -- the gaps of its taken keys are those of the case
   pub gaps_of_case : (gaps : List Gap) → IsGaps (HasTaken a) a.processors gaps → IsGaps (HasKey T) T.processors gaps
@@ -184,43 +189,40 @@ module _ (segments : List Content) (a : State) (T : Trace) (took : HasTakenAll s
 -- ---- the next segment
 
 module _ (segments : List Content) (a : State) (T : Trace) (took : HasTakenAll segments a) (some : segments ≢ [])
-    (of : AreSomeOf segments T) where
-  member_of : (s : Content) → Contains segments s → Contains T.segments s
-  member_of s has = at_member (Contains T.segments) segments s of.members has
-
-  right_of_some : IsRight a T
-  right_of_some = is_right segments a T took some of.collection member_of
+    (all : IsCollectionOf segments T) where
+  right : IsRight a T
+  right = right_of_all segments a T took some all
 
   -- a segment of the list is of one of the analyst's processors
-  of_processor : (t : Content) → Contains segments t → t.processor < a.processors
-  of_processor t has =
-      let fits = at_member Fits T.segments t of.collection.fit (member_of t has) in
-      let ids = at_member (AreIdsOf a) segments t took.ids has in
+  of_processor : (t : Content) → IsFirstOf segments t → t.processor < a.processors
+  of_processor t first =
+      let fits = at_member Fits segments t took.fit (is_member segments t first) in
+      let ids = at_member (AreIdsOf a) segments t took.ids (is_member segments t first) in
       let below = fits.processor in
       let same = ids.1 in
       omega (arith, below, same)
 
-  -- what is held of a processor are segments of the list
+  -- what is held of a processor are first segments of the list
   pub held_in_list : (p : ℕ) (h : Content) → p < a.processors → Contains (held_at a.parts p) h
-      → (h.processor ≡ p) × Contains segments h
+      → (h.processor ≡ p) × IsFirstOf segments h
   held_in_list p h within has =
-      let part = right_of_some.state.each p within in
+      let part = right.state.each p within in
       let owned = at_member (IsOwned a.trace_id a.processors p) (held_at a.parts p) h part.owned has in
-      let there = at_member (Contains T.segments) (held_at a.parts p) h (right_of_some.each p within).held has in
+      let there = at_member (Contains T.segments) (held_at a.parts p) h (right.each p within).held has in
       let numbered = subst (λ (ns : List ℕ). Contains ns h.number) part.numbers (Contains-mapped h has) in
       let taken : HasTaken a h.processor h.number = subst (λ (q : ℕ). HasTaken a q h.number) (sym owned.processor) (inr numbered) in
-      (owned.processor, in_list segments a T took some of.collection member_of h there taken)
+      (owned.processor, in_list segments a T took some all.collection (λ s first. (all.members s).1 first) h there taken)
     where
       Contains-mapped : (h : Content) → Contains (held_at a.parts p) h → Contains (map number (held_at a.parts p)) h.number
       Contains-mapped h has = Contains-map number (held_at a.parts p) h has
 
   -- what is not in an unbroken run is held
-  pub held_of : (t : Content) → Contains segments t → (IsUnbroken segments t → ⊥) → Contains (held_at a.parts t.processor) t
-  held_of t has broken =
+  pub held_of : (t : Content) → IsFirstOf segments t → (IsUnbroken segments t → ⊥) → Contains (held_at a.parts t.processor) t
+  held_of t first broken =
       let p = t.processor in
-      let within = of_processor t has in
-      let part = right_of_some.state.each p within in
-      elim ((took.keys p t.number).1 (t, has, refl, refl)) [
+      let within = of_processor t first in
+      let part = right.state.each p within in
+      elim ((took.keys p t.number).1 (t, is_member segments t first, refl, refl)) [
         | inl below ↦
             absurd (broken (λ n le. (took.keys p n).0 (inl (omega (arith, below, le)))))
         | inr loose ↦
@@ -228,26 +230,27 @@ module _ (segments : List Content) (a : State) (T : Trace) (took : HasTakenAll s
             (subst (λ (ns : List ℕ). Contains ns t.number) (sym part.numbers) loose) in
             let h = held_in_list p found.0 within found.1 in
             subst (Contains (held_at a.parts p))
-            (one_segment T.segments of.collection.in_order found.0 t (member_of found.0 h.1) (member_of t has) h.0 found.2) found.1
+            (one_segment T.segments all.collection.in_order found.0 t ((all.members found.0).1 h.1) ((all.members t).1 first) h.0 found.2)
+            found.1
       ]
 
   -- an event below a front of a processor is at most the last that was folded
-  pub at_most_last : (t : Content) (f : Event) → Contains segments t → t.number < front_at a.taken t.processor → Contains t.events f
+  pub at_most_last : (t : Content) (f : Event) → IsFirstOf segments t → t.number < front_at a.taken t.processor → Contains t.events f
       → f.sequence ≤ (folded_at a.parts t.processor).last_sequence
-  at_most_last t f has below in_t =
+  at_most_last t f first below in_t =
       let p = t.processor in
       let front = front_at a.taken p in
       let run : run_below p front t.processor t.number ≡ true =
       and_from (eqb t.processor p) (ltb t.number front) (eq-eqb t.processor p refl) (lt-ltb t.number front below) in
-      let there = (members_agree (run_below p front) T.segments f).1 (t, member_of t has, run, in_t) in
-      (right_of_some.each p (of_processor t has)).folded.last.bound f there
+      let there = (members_agree (run_below p front) T.segments f).1 (t, (all.members t).1 first, run, in_t) in
+      (right.each p (of_processor t first)).folded.last.bound f there
 
   -- where that isn't 0, it is the sequence of an event of a segment of the list below the front
   pub last_is_of : (p : ℕ) → p < a.processors → 0 < (folded_at a.parts p).last_sequence
-      → (t : Content) × Contains segments t × (t.processor ≡ p) × (t.number < front_at a.taken p)
+      → (t : Content) × IsFirstOf segments t × (t.processor ≡ p) × (t.number < front_at a.taken p)
       × (f : Event) × Contains t.events f × (f.sequence ≡ (folded_at a.parts p).last_sequence)
   last_is_of p within above =
-      elim ((right_of_some.each p within).folded.last.reached) [
+      elim ((right.each p within).folded.last.reached) [
         | inl none ↦ absurd (omega (arith, none, above))
         | inr found ↦
             let front = front_at a.taken p in
@@ -255,13 +258,12 @@ module _ (segments : List Content) (a : State) (T : Trace) (took : HasTakenAll s
             let key = and_parts (eqb (at.0).processor p) (ltb (at.0).number front) at.2 in
             let own : (at.0).processor ≡ p = eqb-true (at.0).processor p key.0 in
             let low : (at.0).number < front = ltb-true (at.0).number front key.1 in
-            let taken : HasTaken a (at.0).processor (at.0).number =
-            subst (λ (q : ℕ). HasTaken a q (at.0).number) (sym own) (inl low) in
-            (at.0, in_list segments a T took some of.collection member_of at.0 at.1 taken, own, low, found.0, at.3, found.2)
+            (at.0, (all.members at.0).0 at.1, own, low, found.0, at.3, found.2)
       ]
 
 -- Segments from before were folded as far as they could be, and others taken since: one more is accepted that the analyst takes.
--- segments that an analyst took are of the trace of a segment of its trace
+
+-- what an analyst took is of the trace of each segment of its trace
 are_of_trace : (segments : List Content) (a : State) (s : Content) → HasTakenAll segments a → s.trace_id ≡ a.trace_id
     → s.processors ≡ a.processors → AreOfTraceOf segments s
 are_of_trace segments a s took id count = each_member (λ t. (t.trace_id ≡ s.trace_id) × (t.processors ≡ s.processors)) segments
@@ -269,9 +271,9 @@ are_of_trace segments a s took id count = each_member (λ t. (t.trace_id ≡ s.t
 
 module _ (before earlier : List Content) (a : State) where
   -- an unbroken run from before is below the fronts
-  front_above : (first : Option State) → AreFolded first before → KeepsAll first (Some a) → (t : Content) → Contains before t
+  front_above : (first : Option State) → AreFolded first before → KeepsAll first (Some a) → (t : Content) → IsFirstOf before t
       → IsUnbroken before t → t.number < front_at a.taken t.processor
-  front_above None was keeps t has unbroken = absurd (Contains-nil t (subst (λ (ts : List Content). Contains ts t) was.taken has))
+  front_above None was keeps t has unbroken = absurd (subst (λ (ts : List Content). IsFirstOf ts t) was.taken has)
   front_above (Some first) was keeps t has unbroken =
       let p = t.processor in
       let kept = keeps.fronts p in
@@ -283,23 +285,24 @@ module _ (before earlier : List Content) (a : State) where
   module _ (first : Option State) (s : Content) (was : AreFolded first before) (some : before ++ earlier ≢ [])
       (took : HasTakenAll (before ++ earlier) a) (keeps : KeepsAll first (Some a)) (accepted : TakeAccepted a s)
       (rising : IsFallen a s false) where
-    content_agrees : (T : Trace) → AreSomeOf (before ++ earlier) T → (t : Content) → Contains (before ++ earlier) t → key_of t ≡ key_of s
-        → (IsUnbroken (before ++ earlier) t → ⊥) → t ≢ s → ⊥
-    content_agrees T of t has same broken other =
+    content_agrees : (t : Content) → IsFirstOf (before ++ earlier) t → key_of t ≡ key_of s → (IsUnbroken (before ++ earlier) t → ⊥)
+        → t ≢ s → ⊥
+    content_agrees t is_first same broken other =
+        let all = firsts_of (before ++ earlier) a took in
         let same_p : t.processor ≡ s.processor = ap (λ (k : ℕ × ℕ). k.0) same in
         accepted.agrees (record {
           held = t;
-          here = subst (λ (p : ℕ). Contains (held_at a.parts p) t) same_p (held_of (before ++ earlier) a T took some of t has broken);
+          here = subst (λ (p : ℕ). Contains (held_at a.parts p) t) same_p (held_of (before ++ earlier) a all.0 took some all.1 t is_first broken);
           number = ap (λ (k : ℕ × ℕ). k.1) same;
           other = other;
         })
 
-    rises_above : (T : Trace) → AreSomeOf (before ++ earlier) T → (HasKeyOf (before ++ earlier) s.processor s.number → ⊥)
-        → (t : Content) → Contains before t → IsUnbroken before t → t.processor ≡ s.processor
-        → (e f : Event) → Contains s.events e → Contains t.events f → f.sequence < e.sequence
-    rises_above T of new t has unbroken same e f in_s in_t =
-        let last = at_most_last (before ++ earlier) a T took some of t f (Contains-append_left before earlier t has)
-        (front_above first was keeps t has unbroken) in_t in
+    rises_above : (HasKeyOf (before ++ earlier) s.processor s.number → ⊥) → (t : Content) → IsFirstOf before t → IsUnbroken before t
+        → t.processor ≡ s.processor → (e f : Event) → Contains s.events e → Contains t.events f → f.sequence < e.sequence
+    rises_above new t is_first unbroken same e f in_s in_t =
+        let all = firsts_of (before ++ earlier) a took in
+        let last = at_most_last (before ++ earlier) a all.0 took some all.1 t f (still_first before earlier t is_first)
+        (front_above first was keeps t is_first unbroken) in_t in
         let fresh : IsNewTo a s = record {
           trace_id = accepted.of_state.trace_id;
           processors = accepted.of_state.processors;
@@ -323,39 +326,49 @@ module _ (before earlier : List Content) (a : State) where
 module _ (segments : List Content) (a : State) (s : Content) (took : HasTakenAll segments a) (some : segments ≢ []) where
   -- an event that isn't above all that was folded
   pub falls : (fits : Fits s) → IsFallen a s true → IsUnfit segments s (cases.Falling s.processor s.number)
-  falls fits fallen = (
-    refl,
-    are_of_trace segments a s took fallen.0.trace_id fallen.0.processors,
-    λ there. fallen.0.new ((took.keys s.processor s.number).1 there),
-    λ T of.
-        (let e = fallen.1 in
-        let right = right_of_some segments a T took some of in
-        let high = above s.version 0 s.events fits.events e fallen.2 in
-        let low = fallen.3 in
-        let count = fallen.0.processors in
-        let own = fits.processor in
-        let within : s.processor < a.processors = omega (arith, own, count) in
-        let last = last_is_of segments a T took some of s.processor within (omega (arith, high, low)) in
-        let t = last.0 in
-        let behind : t.number < s.number =
-        elim (cases_lt t.number s.number) [
-          | inl lt ↦ lt
-          | inr le ↦ (let below = last.3 in absurd (fallen.0.new (inl (omega (arith, le, below)))))
-        ] in
-        let is = last.6 in
-        (t, last.1, last.2, behind, e, last.4, fallen.2, last.5, omega (arith, low, is))),
-  )
+  falls fits fallen =
+      let e = fallen.1 in
+      let all = firsts_of segments a took in
+      let high = above s.version 0 s.events fits.events e fallen.2 in
+      let low = fallen.3 in
+      let count = fallen.0.processors in
+      let own = fits.processor in
+      let within : s.processor < a.processors = omega (arith, own, count) in
+      let last = last_is_of segments a all.0 took some all.1 s.processor within (omega (arith, high, low)) in
+      let t = last.0 in
+      let behind : t.number < s.number =
+      elim (cases_lt t.number s.number) [
+        | inl lt ↦ lt
+        | inr le ↦ (let below = last.3 in absurd (fallen.0.new (inl (omega (arith, le, below)))))
+      ] in
+      let is = last.6 in (
+        refl,
+        are_of_trace segments a s took fallen.0.trace_id fallen.0.processors,
+        (λ there. fallen.0.new ((took.keys s.processor s.number).1 there)),
+        t,
+        last.1,
+        last.2,
+        behind,
+        e,
+        last.4,
+        fallen.2,
+        last.5,
+        omega (arith, low, is),
+      )
 
   -- another content is held
   pub conflicts : IsOfState a s → (other : HoldsOther a s) → s.processor < a.processors
       → IsUnfit segments s (cases.TwoContents s.processor s.number)
-  conflicts its other within = (
-    refl,
-    are_of_trace segments a s took its.trace_id its.processors,
-    λ T of.
-        (let h = held_in_list segments a T took some of s.processor other.held within other.here in
-        (other.held, h.1, same_pair other.held s h.0 other.number, other.other)),
-  )
+  conflicts its other within =
+      let all = firsts_of segments a took in
+      let h = held_in_list segments a all.0 took some all.1 s.processor other.held within other.here in (
+        refl,
+        are_of_trace segments a s took its.trace_id its.processors,
+        other.held,
+        h.1,
+        same_pair other.held s h.0 other.number,
+        other.other,
+      )
     where
       same_pair : (t u : Content) → t.processor ≡ u.processor → t.number ≡ u.number → key_of t ≡ key_of u
       same_pair t u p n = cc
@@ -379,10 +392,10 @@ module _ (segments : List Content) (a : State) (s : Content) (took : HasTakenAll
   )
 
 -- nothing is no case
-pub no_case : (segments : List Content) (T : Trace) → segments ≡ [] → IsCaseOf segments T → ⊥
+pub no_case : (segments : List Content) (T : Trace) → segments ≡ [] → IsCaseOfFirsts segments T → ⊥
 no_case segments T none case =
     let one = some_member T.segments case.is_case.some in
-    Contains-nil one.0 (subst (λ (ss : List Content). Contains ss one.0) none ((case.members one.0).0 one.1))
+    subst (λ (ss : List Content). IsFirstOf ss one.0) none ((case.members one.0).0 one.1)
 
 -- a list of gaps without a first one is empty
 pub no_first : (gaps : List Gap) → slice_get gaps 0 ≡ None → gaps ≡ []
@@ -494,19 +507,19 @@ keeps_same a b is = record {
 }
 
 -- an analyst that took segments, and one more that doesn't fall, took all of them
-pub takes_one : (segments : List Content) (a b : State) (s : Content) (took : Took) → HasTakenAll segments a
-    → b ≡ taken_as took a s → TakeAccepted a s → IsFallen a s false
+pub takes_one : (segments : List Content) (a b : State) (s : Content) (took : Took) → HasTakenAll segments a → Fits s
+    → b ≡ taken_as took a s → TakeAccepted a s → ((took ≡ New) ↔ (HasTaken a s.processor s.number → ⊥)) → IsFallen a s false
     → ((p n : ℕ) → HasTaken b p n ↔ (HasTaken a p n ⊎ ((p ≡ s.processor) × (n ≡ s.number))))
     → ((T : Trace) → IsRight a T → Contains T.segments s → IsRight b T) → TookNext segments s a b
-takes_one segments a b s took before is accepted rising keys right = record {
+takes_one segments a b s took before fits is accepted new rising keys right = record {
   accepted = accepted;
   rising = rising;
-  kept = take_has_taken_one_more segments s took a b before is accepted keys right;
+  kept = take_has_taken_one_more segments s took a b before fits is accepted new keys right;
 }
 
 -- ---- answers
 
-module _ (segments : List Content) (a : State) (T : Trace) (folded : AreFolded (Some a) segments) (case : IsCaseOf segments T)
+module _ (segments : List Content) (a : State) (T : Trace) (folded : AreFolded (Some a) segments) (case : IsCaseOfFirsts segments T)
     (parts : List Contents) (of : AreEventsOf parts (taken_events T a)) where
   -- the parts of the analyst stand for all events of the case
   pub parts_of_case : AreEventsOf parts (all_events T.segments)

@@ -100,8 +100,8 @@ module _ (first : Option State) (new : State) (given : List Content) (n : ℕ) (
           accepted = (
             rw nothing (record {
               trace = tt;
-              content = λ T of t has. absurd (Contains-nil t has);
-              rises = λ T of fresh t has. absurd (Contains-nil t has);
+              content = λ t first. absurd first;
+              rises = λ fresh t first. absurd first;
             }),
             tt,
           );

@@ -8,6 +8,7 @@ pub mod EncodeLaws
 pub mod FewSegments
 pub mod OfProcessor
 pub mod Covered
+pub mod Collections
 pub mod FoldLaws
 pub mod FolderLaws
 pub mod FoldInputs
@@ -32,5 +33,6 @@ pub mod AfterPicking
 pub mod MomentLaws
 pub mod UntilLaws
 pub mod AnalystAnswers
+pub mod FinalAnswers
 pub mod Foldable
 mod Shared

@@ -1,6 +1,6 @@
 -- A reading that forgets (this project's own): segments are folded as they come, and no event is kept. What is kept stands for the list of
--- the segments that were taken. What is said of their contents holds where these are some of one collection, with one content a key, which
--- nothing that forgets contents can test.
+-- the segments that were taken, in the order in which they came. Of each key the first of them counts: what comes later of a key that was
+-- folded is taken for a repeat, since its content is forgotten.
 use Rattle.std.specs.Prelude.{◌≡◌, ◌≢◌, ◌<◌, ◌≤◌, ◌+◌, ◌-◌, ◌^◌, ◌⊎◌, ◌↔◌, ◌++◌, ◌∷◌, [], ⊤, ℕ, Bool, true, false, List}
 use Rattle.std.specs.Prelude.{Contains}
 use Rattle.std.specs.Prelude.{length, min, slice_get, take, Option, None, Some, Result, Err}
@@ -9,8 +9,8 @@ use Rattle.std.specs.Io.KnownBytes.{Consumes}
 use Rattle.htl_analyst.specs.Right.{IsCollection}
 use Rattle.htl_analyst.specs.States.{State}
 use Rattle.htl_analyst.specs.Keys.{HasTaken}
-use Rattle.htl_analyst.specs.TakenAll.{HasKeyOf, HasTakenAll}
-use Rattle.htl_case.specs.Cases.{IsCaseOf}
+use Rattle.htl_analyst.specs.TakenAll.{HasKeyOf, HasTakenAll, IsFirstOf}
+use Rattle.htl_case.specs.Cases.{IsCase}
 use Rattle.htl_case.specs.Faults.{key_of}
 use Rattle.htl_case.specs.declared.fault.CaseFault.{CaseFault}
 use Rattle.htl_case.specs.declared.fault.CaseFault.TheVariants as cases
@@ -52,15 +52,15 @@ pub record AreFolded (analyst : Option State) (segments : List Content) : Type 0
 
 -- ---- which segments are taken
 
--- These segments are some of those of a collection.
-pub record AreSomeOf (segments : List Content) (T : Trace) : Type 0 where
+-- The collection has just the first segment of each key.
+pub record IsCollectionOf (segments : List Content) (T : Trace) : Type 0 where
   pub collection : IsCollection T
-  pub members : AllByRecursion (Contains T.segments) segments
+  pub members : (s : Content) → Contains T.segments s ↔ IsFirstOf segments s
 
--- These segments are all of those of a collection.
-pub record AreAllOf (segments : List Content) (T : Trace) : Type 0 where
-  pub collection : IsCollection T
-  pub members : (s : Content) → Contains T.segments s ↔ Contains segments s
+-- The case has just the first segment of each key. (Where no key has two contents, it is the case of the segments.)
+pub record IsCaseOfFirsts (segments : List Content) (T : Trace) : Type 0 where
+  pub is_case : IsCase T
+  pub members : (s : Content) → Contains T.segments s ↔ IsFirstOf segments s
 
 -- no segment of the processor is missing up to this one
 abbrev pub IsUnbroken : List Content → Content → Type 0
@@ -74,11 +74,10 @@ AreOfTraceOf segments s = AllByRecursion (λ t. (t.trace_id ≡ s.trace_id) × (
 -- from then; and where its key is new, its sequences are above those of the unbroken run that there was before the reading began.
 pub record Accepts (before earlier : List Content) (s : Content) : Type 0 where
   pub trace : AreOfTraceOf (before ++ earlier) s
-  pub content : (T : Trace) → AreSomeOf (before ++ earlier) T → (t : Content) → Contains (before ++ earlier) t → key_of t ≡ key_of s
-      → (IsUnbroken (before ++ earlier) t → ⊥) → t ≢ s → ⊥
-  pub rises : (T : Trace) → AreSomeOf (before ++ earlier) T → (HasKeyOf (before ++ earlier) s.processor s.number → ⊥)
-      → (t : Content) → Contains before t → IsUnbroken before t → t.processor ≡ s.processor
-      → (e f : Event) → Contains s.events e → Contains t.events f → f.sequence < e.sequence
+  pub content : (t : Content) → IsFirstOf (before ++ earlier) t → key_of t ≡ key_of s → (IsUnbroken (before ++ earlier) t → ⊥)
+      → t ≢ s → ⊥
+  pub rises : (HasKeyOf (before ++ earlier) s.processor s.number → ⊥) → (t : Content) → IsFirstOf before t → IsUnbroken before t
+      → t.processor ≡ s.processor → (e f : Event) → Contains s.events e → Contains t.events f → f.sequence < e.sequence
 
 -- Each of these segments is accepted after the earlier ones.
 abbrev pub AreAcceptedAfter : List Content → List Content → List Content → Type 0
@@ -99,12 +98,11 @@ IsUnfit taken s (cases.OtherTrace place) = (taken ≢ []) × AllByRecursion (λ 
 IsUnfit taken s (cases.OtherProcessors place) =
     (taken ≢ []) × AllByRecursion (λ t. (t.trace_id ≡ s.trace_id) × (t.processors ≢ s.processors)) taken
 IsUnfit taken s (cases.TwoContents processor number) =
-    (key_of s ≡ (processor, number)) × AreOfTraceOf taken s
-    × ((T : Trace) → AreSomeOf taken T → (t : Content) × Contains taken t × (key_of t ≡ key_of s) × (t ≢ s))
+    (key_of s ≡ (processor, number)) × AreOfTraceOf taken s × (t : Content) × IsFirstOf taken t × (key_of t ≡ key_of s) × (t ≢ s)
 IsUnfit taken s (cases.Falling processor number) =
     (key_of s ≡ (processor, number)) × AreOfTraceOf taken s × (HasKeyOf taken processor number → ⊥)
-    × ((T : Trace) → AreSomeOf taken T → (t : Content) × Contains taken t × (t.processor ≡ s.processor) × (t.number < s.number)
-    × (e f : Event) × Contains s.events e × Contains t.events f × (e.sequence ≤ f.sequence))
+    × (t : Content) × IsFirstOf taken t × (t.processor ≡ s.processor) × (t.number < s.number)
+    × (e f : Event) × Contains s.events e × Contains t.events f × (e.sequence ≤ f.sequence)
 IsUnfit taken s fault = ⊥
 
 -- a fault that names the place of a segment names this one
@@ -139,9 +137,9 @@ pub record IsFolded (setting : Setting) (before : List Content) (inputs : List (
   pub kept : Keeps (before ++ given)
   pub some : before ++ given ≢ []
   pub segments : added.segments ≡ counted given
-  pub new : (T U : Trace) → AreAllOf before T → AreAllOf (before ++ given) U → length U.segments ≡ length T.segments + added.new
-  pub coverage : (T : Trace) → IsCaseOf (before ++ given) T → IsCoverage T added.coverage
-  pub whole : setting.complete ≡ true → (T : Trace) → IsCaseOf (before ++ given) T → IsComplete T
+  pub new : (T U : Trace) → IsCollectionOf before T → IsCollectionOf (before ++ given) U → length U.segments ≡ length T.segments + added.new
+  pub coverage : (T : Trace) → IsCaseOfFirsts (before ++ given) T → IsCoverage T added.coverage
+  pub whole : setting.complete ≡ true → (T : Trace) → IsCaseOfFirsts (before ++ given) T → IsComplete T
   pub cut : AreCut setting.form.hex inputs added.cut
 
 -- The segments that a source gave, of whose bytes this is left. A text in hexadecimal gives none before its end.
@@ -190,7 +188,7 @@ IsFoldsFault setting before inputs lefts ends taken unfit (faults.Case cases.Emp
 IsFoldsFault setting before inputs lefts ends taken unfit (faults.Case fault) = WorkersFit setting.workers × (unfit ≡ Some fault)
 IsFoldsFault setting before inputs lefts ends taken unfit (faults.Incomplete processor number) =
     WorkersFit setting.workers × (unfit ≡ None) × (setting.complete ≡ true)
-    × ((T : Trace) → IsCaseOf (before ++ taken) T → IsLeastMissing T processor number)
+    × ((T : Trace) → IsCaseOfFirsts (before ++ taken) T → IsLeastMissing T processor number)
 IsFoldsFault setting before inputs lefts ends taken unfit fault = ⊥
 
 -- Refused: of the segments before the fault those before an unfit one were taken, and `Keeps` holds of all that were taken by then.

@@ -148,6 +148,7 @@ fn most_held(analyst: &Option<Analyst<Global>>) -> u64 {
 
 /// A new analyst that has taken this segment.
 fn begun_by(alloc: Global, segment: Segment) -> Result<Analyst<Global>, NoMemory>
+    requires { Fits segment }
     ensures { IfOk result (HasTakenAll (segment ∷ [])) }
 {
     let Ok(mut analyst) = Analyst::new(alloc, segment.trace_id(), segment.processors()) else {

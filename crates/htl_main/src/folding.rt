@@ -7,13 +7,12 @@ ghost use Rattle.htl_analyst.specs.Keys.{HasTaken};
 ghost use Rattle.htl_taken.specs.Gaps.{IsGaps};
 ghost use Rattle.htl_segment.specs.Content.{Content};
 ghost use Rattle.htl_segment.specs.Traces.{Trace};
-ghost use Rattle.htl_case.specs.Cases.{IsCaseOf};
 ghost use Rattle.htl_main.specs.Completeness.{IsComplete};
 ghost use Rattle.htl_main.specs.Coverages.{IsCoverage};
 ghost use Rattle.htl_main.specs.Folders.{IsMissingOf};
 ghost use Rattle.htl_main.specs.Folders.{IsAddedToFolded, IsNotAdded, IsSymbolsFault};
-ghost use Rattle.htl_main.specs.Folding.{AreFolded, AreReadToFold};
-ghost use Rattle.htl_main.specs.Folding.{IsBeginningRefused, IsFolded, IsFoldingRefused, IsHalfKnown};
+ghost use Rattle.htl_main.specs.Folding.{AreFolded, AreReadToFold, IsBeginningRefused};
+ghost use Rattle.htl_main.specs.Folding.{IsCaseOfFirsts, IsFolded, IsFoldingRefused, IsHalfKnown};
 ghost use Rattle.htl_main.specs.Origins.{by_fault};
 ghost use Rattle.htl_main.specs.Printed.{HasSymbols};
 ghost use Rattle.htl_main.specs.Readings.{AreRead};
@@ -180,8 +179,8 @@ fn coverage_of(
     analyst: &Analyst<Global>,
 ) -> Result<Coverage, RunFault>
     ensures ok { IfOk result (λ coverage. (segments : List Content) (T : Trace)
-        → AreFolded (Some analyst.now) segments → IsCaseOf segments T → IsCoverage T coverage
-        × (complete ≡ true → IsComplete T)) }
+        → AreFolded (Some analyst.now) segments → IsCaseOfFirsts segments T
+        → IsCoverage T coverage × (complete ≡ true → IsComplete T)) }
     ensures err { IfErr result (IsMissingOf complete analyst.now) }
 {
     let gaps = analyst.gaps(alloc)?;

@@ -1,7 +1,7 @@
 //! Laws of what a run comes to. Each function's contract is the law; none does anything when it
 //! runs.
 
-ghost use Rattle.std.specs.Prelude.{◌≡◌, ◌↔◌, ℕ, Bool, Contains, List, Option, None, Some};
+ghost use Rattle.std.specs.Prelude.{◌≡◌, ◌≢◌, ◌↔◌, ℕ, Bool, Contains, List, Option, None, Some};
 ghost use Rattle.std.specs.Prelude.{Result, length};
 ghost use Rattle.std.specs.Global.{Vec};
 ghost use Rattle.htl_event.specs.Events.{Event};
@@ -15,21 +15,25 @@ ghost use Rattle.htl_taken.specs.declared.gap.Gap.{Gap};
 ghost use Rattle.htl_analyst.specs.Keys.{keys};
 ghost use Rattle.htl_analyst.specs.Right.{IsRight};
 ghost use Rattle.htl_analyst.specs.States.{State};
+ghost use Rattle.htl_analyst.specs.TakenAll.{IsFirstOf};
 ghost use Rattle.htl_case.specs.Answers.{IsAnswerOver as IsAnalystsOver};
 ghost use Rattle.htl_case.specs.Cases.{IsCaseOf};
+ghost use Rattle.htl_case.specs.Final.{IsFinalAt};
 ghost use Rattle.htl_case.specs.TakenCases.{IsTakenCase};
 ghost use Rattle.htl_case.specs.declared.question.AnalystAnswer.TheVariants as found;
 ghost use Rattle.htl_case.specs.declared.question.AnalystQuestion.TheVariants as analysts;
+ghost use Rattle.htl_report.specs.declared.answer.Answer.{Answer};
 ghost use Rattle.htl_report.specs.declared.answer.Answer.TheVariants as answers;
 ghost use Rattle.htl_report.specs.declared.summary.Totals.{Totals};
 ghost use Rattle.htl_command.specs.declared.question.InputForm.{InputForm};
 ghost use Rattle.htl_command.specs.declared.question.Job.{Job};
+ghost use Rattle.htl_command.specs.declared.question.Question.{Question};
 ghost use Rattle.htl_command.specs.declared.question.Question.TheVariants as questions;
 ghost use Rattle.htl_command.specs.declared.question.Since.TheVariants.{Sequence};
 ghost use Rattle.htl_main.specs.Analysts.{AreAnswers};
-ghost use Rattle.htl_main.specs.Answers.{Finds, IsAnswerOver};
+ghost use Rattle.htl_main.specs.Answers.{Finds, IsAnswer, IsAnswerOver};
 ghost use Rattle.htl_main.specs.Coverages.{Covers, IsCoverage};
-ghost use Rattle.htl_main.specs.Folding.{AreFolded};
+ghost use Rattle.htl_main.specs.Folding.{AreFolded, IsCaseOfFirsts};
 ghost use Rattle.htl_main.specs.Histories.{AnyCanBeCompacted, AnyHistoryLeavesAState};
 ghost use Rattle.htl_main.specs.Printed.{Printed, WorkersFit, by_workers};
 ghost use Rattle.htl_main.specs.Summaries.{AreTotals, IsSummary};
@@ -92,13 +96,22 @@ pub fn summaries_agree()
         ↔ AreAnswers T S C totals gaps processes objects }
 {}
 
-/// What was folded of segments of a trace is an analyst as the headline of `htl_case` has them: it
-/// is right about the trace, and its keys are exactly the keys of the case of these segments. So
-/// its answers over its keys are those over the case (`answers_are_of_the_case` of `htl_case`).
+/// Of segments that have a case, each is equal to the first one of its key. So what is promised of
+/// the case of first segments (`IsCaseOfFirsts`) is promised of it.
+pub fn segments_of_a_case_are_first()
+    ensures { (segments : List Content) (T : Trace) → IsCaseOf segments T
+        → IsCaseOfFirsts segments T }
+{}
+
+/// What was folded of segments, the first of each key of a trace, is an analyst as the headline of
+/// `htl_case` has them: it is right about the trace, and its keys are exactly the keys of the case
+/// of these first segments. So its answers over its keys are those over the case
+/// (`answers_are_of_the_case` of `htl_case`).
 pub fn folded_analysts_agree()
     ensures { (T : Trace) (segments : List Content) (a : State) (C : Trace) → IsTrace T
-        → ((s : Content) → Contains segments s → Contains T.segments s)
-        → AreFolded (Some a) segments → IsCaseOf segments C → IsRight a T × IsTakenCase T (keys a) C }
+        → ((s : Content) → IsFirstOf segments s → Contains T.segments s)
+        → AreFolded (Some a) segments → IsCaseOfFirsts segments C
+        → IsRight a T × IsTakenCase T (keys a) C }
 {}
 
 /// Any analyst of a trace can be compacted: there is a state that a compaction may leave.
@@ -110,6 +123,15 @@ pub fn any_can_be_compacted()
 /// it and others are merged and compacted, there is a state that this leaves.
 pub fn any_history_leaves_a_state()
     ensures { AnyHistoryLeavesAState }
+{}
+
+/// An answer as of a moment is final where no segment is missing up to it: over a case of some
+/// segments of a trace it is the answer over the whole trace, whatever the missing segments hold. So
+/// is a growth. Only a summary is not, since it also says which segments there are.
+pub fn answers_of_runs_are_final()
+    ensures { (T C : Trace) (moment : ℕ) → IsFinalAt T C moment
+        → (question : Question) (answer : Answer) → question ≢ questions.Summary
+        → IsAnswer C (Some moment) question answer ↔ IsAnswer T (Some moment) question answer }
 {}
 
 /// Inputs have one coverage, and a summary reports the same.

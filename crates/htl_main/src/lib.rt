@@ -23,8 +23,8 @@
 //! segments are taken and folded), `folded_answers.rt` (answers over what was folded), `dumping.rt`
 //! and `encoding.rt` (the runs of `dump` and `encode`), `fault.rt` (the faults, their lines and
 //! statuses), `refused.rt` (a fault and the two segments it is about), `laws.rt` (a run has one
-//! outcome, inputs have one coverage, runs and analysts give the same answers and summaries, and
-//! there are analysts of every history).
+//! outcome, inputs have one coverage, runs and analysts give the same answers and summaries, the
+//! segments of a case are the first of their keys, and there are analysts of every history).
 //!
 //! `specs/` is read in the order of `specs/Lib`: `Inputs` (which segments the inputs encode, and
 //! which input is refused first), `CutInputs` (which of them end within a segment), `Completeness`

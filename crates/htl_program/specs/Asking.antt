@@ -14,7 +14,7 @@ use Rattle.htl_dialogue.specs.declared.dialogue.DialogueFault.TheVariants.{Quest
 use Rattle.htl_main.specs.Adding.{IsAdded, IsAddingRefused}
 use Rattle.htl_main.specs.Coverages.{Covers}
 use Rattle.htl_main.specs.CutInputs.{AreCut}
-use Rattle.htl_main.specs.Folding.{IsBeginningRefused, IsFolded, IsFoldingRefused, IsHalfKnown}
+use Rattle.htl_main.specs.Folding.{IsBeginningRefused, IsCaseOfFirsts, IsFolded, IsFoldingRefused, IsHalfKnown}
 use Rattle.htl_main.specs.Inputs.{DecodeAll}
 use Rattle.htl_main.specs.Loading.{in_setting}
 use Rattle.htl_main.specs.Origins.{IsBetween, by_fault}
@@ -57,10 +57,11 @@ pub data Taken : Type 0 where
   inputs : List (List ℕ) → Taken
   segments : List Content → Taken
 
--- This is what a run over segments prints that are a case: the text of the definition's value over all of them.
+-- This is what a run prints over the first segment of each key, where these are a case: the text of the definition's value over all of
+-- them.
 abbrev pub IsFoldsText : Option (List ℕ) → List Content → Job → List ℕ → Type 0
 IsFoldsText symbols taken job text =
-    (T : Trace) → IsCaseOf taken T → (table : List Range) × HasSymbols symbols table × IsText T table job text
+    (T : Trace) → IsCaseOfFirsts taken T → (table : List Range) × HasSymbols symbols table × IsText T table job text
 
 abbrev pub IsTextOver : Setting → Option (List ℕ) → Option Taken → Job → List ℕ → Type 0
 IsTextOver setting symbols None job text = ⊤

@@ -1,6 +1,5 @@
 -- For the clauses of private functions: what is kept answers the lines of a dialogue, before files are read and after.
 use Rattle.std.specs.Prelude.{◌≡◌, ◌⊎◌, ⊤, ℕ, Bool, true, false, List, IfErr, IfOk, None, Some, Option, Result, map}
-use Rattle.htl_case.specs.Cases.{IsCaseOf}
 use Rattle.htl_command.specs.Needs.{needs_events}
 use Rattle.htl_command.specs.declared.question.Job.{Job}
 use Rattle.htl_command.specs.declared.question.Setting.{Setting}
@@ -8,7 +7,7 @@ use Rattle.htl_dialogue.specs.Dialogues.{Answers, answers_by}
 use Rattle.htl_dialogue.specs.declared.saying.Said.{Said}
 use Rattle.htl_dialogue.specs.declared.saying.Said.TheVariants as said
 use Rattle.htl_main.specs.Coverages.{IsCoverage}
-use Rattle.htl_main.specs.Folding.{AreFolded}
+use Rattle.htl_main.specs.Folding.{AreFolded, IsCaseOfFirsts}
 use Rattle.htl_main.specs.Loading.{AreLoadedOf}
 use Rattle.htl_main.specs.Origins.{by_fault}
 use Rattle.htl_main.specs.Printed.{HasSymbols, IsText}
@@ -42,7 +41,7 @@ IsOfForm forgets other = ⊤
 abbrev pub HasTextIn : Kept → Job → List ℕ → Type 0
 HasTextIn (Case loaded) job text = IsCoverage loaded.case loaded.coverage → IsText loaded.case loaded.symbols job text
 HasTextIn (State folded) job text =
-    (taken : List Content) (T : Trace) → AreFolded folded.analyst taken → IsCaseOf taken T → IsText T folded.symbols job text
+    (taken : List Content) (T : Trace) → AreFolded folded.analyst taken → IsCaseOfFirsts taken T → IsText T folded.symbols job text
 
 -- a state can't tell that there is no event
 abbrev pub HasSubjectIn : Kept → Job → Bool → Type 0

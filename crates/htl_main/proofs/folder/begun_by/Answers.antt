@@ -8,4 +8,5 @@ returns-in-Ok-take c =
     let is = c.in-Ok-take.ensures in
     let begun = c.in-Ok.ensures in
     take_has_taken_one_more [] c.args.segment c.in-Ok-take.field-0 c.in-Ok.analyst c.take.new.self
-    (new_has_taken_none c.trace_id.result c.processors.result c.in-Ok.analyst begun.state begun.keys begun.right) is.state is.accepted is.keys is.right
+    (new_has_taken_none c.trace_id.result c.processors.result c.in-Ok.analyst begun.state begun.keys begun.right) c.requires is.state
+    is.accepted is.new is.keys is.right

@@ -16,8 +16,8 @@ returns-then-is_fallen-clause-keeps c = keeps_same c.args.analyst.now c.args.ana
 pub returns-in-Ok-clause-taken : goal.returns-in-Ok-clause-taken
 returns-in-Ok-clause-taken c = λ segments some took.
     let is = c.in-Ok.ensures in
-    takes_one segments c.args.analyst.now c.take.new.self c.args.segment c.in-Ok.field-0 took is.state is.accepted
-    (rw c.if-is_fallen.false at c.is_fallen.ensures.is) is.keys is.right
+    takes_one segments c.args.analyst.now c.take.new.self c.args.segment c.in-Ok.field-0 took c.if-is_fallen.ensures.fits is.state is.accepted
+    is.new (rw c.if-is_fallen.false at c.is_fallen.ensures.is) is.keys is.right
 
 pub returns-in-Ok-clause-keeps : goal.returns-in-Ok-clause-keeps
 returns-in-Ok-clause-keeps c =

@@ -6,12 +6,12 @@ use Rattle.htl_command.specs.declared.question.Moment.{Moment}
 use Rattle.htl_command.specs.declared.question.Moment.TheVariants.{Sequence, Complete}
 use Rattle.htl_main.specs.CaseOutlines.{IsMissed}
 use Rattle.htl_main.specs.Completeness.{IsComplete, IsLeastMissing}
-use Rattle.htl_main.specs.Moments.{IsCompleteUntil, IsMomentOf, is_above}
+use Rattle.htl_main.specs.Moments.{IsCompleteUntil, IsNamedMoment, is_above}
 use Rattle.htl_main.specs.declared.coverage.Missed.{Missed}
 use Rattle.htl_main.proofs.OneSummary.{one_complete}
 
 -- a job's moment over a trace is one
-pub one_moment : (T : Trace) (named : Option Moment) (a b : Option ℕ) → IsMomentOf T named a → IsMomentOf T named b → a ≡ b
+pub one_moment : (T : Trace) (named : Option Moment) (a b : Option ℕ) → IsNamedMoment T named a → IsNamedMoment T named b → a ≡ b
 one_moment T None a b p q = p ∙ sym q
 one_moment T (Some (Sequence n)) a b p q = p ∙ sym q
 one_moment T (Some Complete) a b p q = p.2 ∙ ap (λ (n : ℕ). Some n) (one_complete T p.0 q.0 p.1 q.1) ∙ sym q.2

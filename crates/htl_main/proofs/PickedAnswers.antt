@@ -30,7 +30,7 @@ use Rattle.htl_main.specs.Answers.{IsAnswerOver, IsSince, IsSinceIfGiven}
 use Rattle.htl_main.specs.Picked.{interest_of, widened, Serves, TellsOfNoHandle}
 use Rattle.htl_main.specs.Picking.{is_of_open_handles, IsPickedAsOf}
 use Rattle.htl_main.specs.Questions.{IsOfParts}
-use Rattle.htl_main.specs.Moments.{IsMomentOf}
+use Rattle.htl_main.specs.Moments.{IsNamedMoment}
 use Rattle.htl_main.specs.Subjects.{HasSubject, is_about, names_handle, names_object}
 
 -- ---- questions
@@ -243,7 +243,7 @@ module _ (question : Question) (interest : Interest) (es own : List Event) (serv
 
 -- what is said of the picked events up to a moment is said of those of the trace, unless none is found and only open handles are wanted
 pub subject_until : (job : Job) (T : Trace) (until : Option ℕ) (interest : Interest) (own : List Event) (found : Bool)
-    → IsMomentOf T job.until until → Serves job.question interest
+    → IsNamedMoment T job.until until → Serves job.question interest
     → IsPermutation (wanted interest (counted_events until (all_events T.segments))) own
     → found ≡ list_any (is_about job.question) own → (found ≡ true) ⊎ (is_of_open_handles interest ≡ false)
     → HasSubject T job found
@@ -263,7 +263,7 @@ subject_until job T until interest own found named serves moved is told =
 
 -- where none of the picked events up to a moment is found, and only open handles are wanted, no event that counts tells of them
 pub tells_of_no_handle : (job : Job) (segments : List Content) (T : Trace) (until : Option ℕ) (interest : Interest) (own : List Event)
-    → IsCaseOf segments T → IsMomentOf T job.until until → Serves job.question interest
+    → IsCaseOf segments T → IsNamedMoment T job.until until → Serves job.question interest
     → IsPermutation (wanted interest (counted_events until (all_events T.segments))) own
     → list_any (is_about job.question) own ≡ false → is_of_open_handles interest ≡ true → TellsOfNoHandle interest segments job
 tells_of_no_handle job segments T until interest own case named serves moved none opens =

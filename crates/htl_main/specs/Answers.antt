@@ -21,7 +21,7 @@ use Rattle.htl_command.specs.declared.question.Question.TheVariants as questions
 use Rattle.htl_command.specs.declared.question.Since.{Since}
 use Rattle.htl_command.specs.declared.question.Since.TheVariants.{Snapshot, Sequence}
 use Rattle.htl_main.specs.Inputs.{DecodeAll}
-use Rattle.htl_main.specs.Moments.{IsMomentOf}
+use Rattle.htl_main.specs.Moments.{IsNamedMoment}
 use Rattle.htl_main.specs.Summaries.{IsSummary}
 
 -- since when handles count: a sequence, or the mark of the process
@@ -90,7 +90,7 @@ has_finding (Summary totals gaps processes objects) =
 -- whether the answer to the job's question over a trace finds something
 abbrev pub FindsOver : Trace → Job → Bool → Type 0
 FindsOver T job found =
-    (until : Option ℕ) × IsMomentOf T job.until until
+    (until : Option ℕ) × IsNamedMoment T job.until until
     × (answer : Answer) × IsAnswer T until job.question answer × (found ≡ has_finding answer)
 
 -- whether the answer over the case of decoded segments finds something

@@ -7,10 +7,10 @@ use Rattle.htl_command.specs.declared.question.Moment.TheVariants.{Sequence, Com
 use Rattle.htl_main.specs.Completeness.{IsComplete}
 
 -- The moment that is named: a sequence, or what the trace is complete to. Where none is named, all events count.
-abbrev pub IsMomentOf : Trace → Option Moment → Option ℕ → Type 0
-IsMomentOf T None until = until ≡ None
-IsMomentOf T (Some (Sequence n)) until = until ≡ Some n
-IsMomentOf T (Some Complete) until = (n : ℕ) × IsCompleteTo T n × (until ≡ Some n)
+abbrev pub IsNamedMoment : Trace → Option Moment → Option ℕ → Type 0
+IsNamedMoment T None until = until ≡ None
+IsNamedMoment T (Some (Sequence n)) until = until ≡ Some n
+IsNamedMoment T (Some Complete) until = (n : ℕ) × IsCompleteTo T n × (until ≡ Some n)
 
 -- the moment is above a sequence, as the end of the trace is
 abbrev pub is_above : Option Moment → ℕ → Bool

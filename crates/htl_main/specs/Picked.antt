@@ -16,7 +16,7 @@ use Rattle.htl_main.specs.Answers.{Finds}
 use Rattle.htl_main.specs.Coverages.{Covers}
 use Rattle.htl_main.specs.CutInputs.{AreCut}
 use Rattle.htl_main.specs.Inputs.{DecodeAll}
-use Rattle.htl_main.specs.Moments.{IsMomentOf}
+use Rattle.htl_main.specs.Moments.{IsNamedMoment}
 use Rattle.htl_main.specs.Subjects.{ReportsSubject}
 use Rattle.htl_main.specs.declared.completed.Completed.{Completed}
 use Rattle.htl_main.specs.declared.picked_run.Lacking.{Lacking}
@@ -58,7 +58,7 @@ pub record TellsOfNoHandle (interest : Interest) (segments : List Content) (job 
   pub trace : Trace
   pub case_of : IsCaseOf segments trace
   pub until : Option ℕ
-  pub named : IsMomentOf trace job.until until
+  pub named : IsNamedMoment trace job.until until
   pub process : ℕ
   pub about : interest ≡ OpenHandles process
   pub none : wanted interest (counted_events until (all_events trace.segments)) ≡ []

@@ -19,7 +19,7 @@ use Rattle.htl_command.specs.declared.question.Job.{Job}
 use Rattle.htl_main.specs.Answers.{IsAnswer}
 use Rattle.htl_main.specs.Completeness.{IsLeastMissing}
 use Rattle.htl_main.specs.Inputs.{DecodeAll, IsReportedOfInput, StopsAtInput}
-use Rattle.htl_main.specs.Moments.{IsCompleteUntil, IsMomentOf}
+use Rattle.htl_main.specs.Moments.{IsCompleteUntil, IsNamedMoment}
 use Rattle.htl_main.specs.Subjects.{HasSubject}
 use Rattle.htl_main.specs.declared.fault.RunFault.{RunFault}
 use Rattle.htl_main.specs.declared.fault.RunFault.TheVariants.{Workers, Segment, Hex, Case, Incomplete, NoSubject, Symbols}
@@ -33,7 +33,7 @@ lines_of_answer format table until top answer = text_of table until top answer
 -- the lines of the answer to the job's question over a trace, of which events count up to the job's moment
 abbrev pub IsText : Trace → List Range → Job → List ℕ → Type 0
 IsText T table job lines =
-    (until : Option ℕ) × IsMomentOf T job.until until
+    (until : Option ℕ) × IsNamedMoment T job.until until
     × (answer : Answer) × IsAnswer T until job.question answer × (lines ≡ lines_of_answer job.format table until job.top answer)
 
 -- the table of symbols, which has no range where none is given

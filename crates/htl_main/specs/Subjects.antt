@@ -14,7 +14,7 @@ use Rattle.htl_command.specs.declared.question.Job.{Job}
 use Rattle.htl_command.specs.declared.question.Question.{Question}
 use Rattle.htl_command.specs.declared.question.Question.TheVariants as questions
 use Rattle.htl_main.specs.Inputs.{DecodeAll}
-use Rattle.htl_main.specs.Moments.{IsMomentOf}
+use Rattle.htl_main.specs.Moments.{IsNamedMoment}
 
 -- the kinds of events that name a handle
 abbrev pub names_handle : Kind → Bool
@@ -45,7 +45,7 @@ is_about (questions.Trace process handle) e = names_handle e.kind && ((e.process
 -- whether an event of a trace that counts is about the job's question
 abbrev pub HasSubject : Trace → Job → Bool → Type 0
 HasSubject T job found =
-    (until : Option ℕ) × IsMomentOf T job.until until
+    (until : Option ℕ) × IsNamedMoment T job.until until
     × (found ≡ list_any (is_about job.question) (counted_events until (all_events T.segments)))
 
 -- whether, in the case of decoded segments, an event that counts is about the job's question

@@ -16,7 +16,7 @@ ghost use Rattle.htl_main.specs.Printed.{WorkersFit};
 ghost use Rattle.htl_main.specs.Reads.{NeverWrite};
 ghost use Rattle.htl_main.specs.Readings.{AreRead};
 
-use crate::casing::case_of;
+use crate::cases::case_of;
 use crate::coverage::Coverage;
 use crate::cut_inputs::CutInputs;
 use crate::decoded::Decoded;

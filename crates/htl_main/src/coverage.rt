@@ -29,7 +29,7 @@ impl Coverage {
     ghost use Rattle.std.specs.Prelude.{◌≡◌, ◌&&◌, ◌==◌, not};
     ghost use Rattle.htl_segment.specs.Traces.{Trace};
     ghost use Rattle.htl_main.specs.Coverages.{IsCoverage};
-    ghost use Rattle.htl_main.specs.Moments.{IsMomentOf, is_above};
+    ghost use Rattle.htl_main.specs.Moments.{IsNamedMoment, is_above};
 
     /// Whether a gap may change an answer as of the moment: there is a gap, and the moment is above
     /// the sequence up to which no segment is missing. Where no moment is named, the answer is as
@@ -42,7 +42,7 @@ impl Coverage {
 
     /// The named moment as a sequence, or none if no moment is named: then all events count.
     pub(crate) fn moment(self, named: Option<Moment>) -> Option<u64>
-        ensures { (T : Trace) → IsCoverage T self → IsMomentOf T named result }
+        ensures { (T : Trace) → IsCoverage T self → IsNamedMoment T named result }
     {
         match named? {
             Moment::Sequence(sequence) => Some(sequence),

@@ -13,7 +13,7 @@
 //! before a question is answered), `printing.rt` (the run over bytes in memory, and the steps of
 //! all runs), `adding.rt` (more sources, added to what was loaded), `sources.rt` and `inputs.rt`
 //! (the segments of sources and of inputs in memory), `decoded.rt` (which input each segment is
-//! of), `casing.rt` and `pairing.rt` (the case of all segments, or the two that a fault is about),
+//! of), `cases.rt` and `pairing.rt` (the case of all segments, or the two that a fault is about),
 //! `origin.rt` (where these two came from), `coverage.rt` (what a case misses of its trace),
 //! `cut_inputs.rt` (which inputs end within a segment), `answering.rt` (the answer over a case),
 //! `unfolded.rt` (segments as they are, over which a run answers), `summarizing.rt` (the summary of
@@ -43,7 +43,7 @@
 
 mod adding;
 mod answering;
-mod casing;
+mod cases;
 mod completed;
 mod coverage;
 mod cut_inputs;

@@ -14,7 +14,7 @@ ghost use Rattle.htl_main.specs.Reads.{NeverWrite};
 ghost use Rattle.htl_main.specs.Sources.{IsSourcesCause};
 ghost use Rattle.htl_main.specs.Loading.{AreLoaded, AreLoadedOf, in_setting};
 
-use crate::casing::case_of;
+use crate::cases::case_of;
 use crate::coverage::{Coverage, Missed};
 use crate::cut_inputs::CutInputs;
 use crate::fault::RunFault;
@@ -41,12 +41,12 @@ pub struct Loaded {
 
 impl Loaded {
     ghost use Rattle.htl_main.specs.Coverages.{IsCoverage};
-    ghost use Rattle.htl_main.specs.Moments.{IsMomentOf};
+    ghost use Rattle.htl_main.specs.Moments.{IsNamedMoment};
 
     /// The named moment as a sequence, or none if no moment is named: then all events count.
     pub(crate) fn moment(&self, named: Option<Moment>) -> Option<u64>
         ensures { IsCoverage self.now.case self.now.coverage
-            → IsMomentOf self.now.case named result }
+            → IsNamedMoment self.now.case named result }
     {
         self.coverage.moment(named)
     }

@@ -11,7 +11,7 @@ ghost use Rattle.htl_command.specs.declared.question.Question.TheVariants as que
 ghost use Rattle.htl_main.specs.Answers.{IsAnswer};
 ghost use Rattle.htl_main.specs.CaseOutlines.{IsMissed};
 ghost use Rattle.htl_main.specs.Causes.{IsCauseAfter};
-ghost use Rattle.htl_main.specs.Moments.{IsMomentOf};
+ghost use Rattle.htl_main.specs.Moments.{IsNamedMoment};
 ghost use Rattle.htl_main.specs.Picked.{Serves, TellsOfNoHandle};
 ghost use Rattle.htl_main.specs.Picking.{EndsAnswer, IsPickedAsOf, IsPickedFor, ReportsOf};
 ghost use Rattle.htl_main.specs.Picking.{is_of_open_handles};
@@ -87,10 +87,10 @@ pub(crate) fn answered_of_picks(
 fn subject_of_picks(job: &Job, interest: Interest, case: &PickedCase) -> Option<bool>
     requires { Serves job.now.question interest }
     ensures some { IfSome result (λ has_subject. (until : Option ℕ) (segments : List Content)
-        (is : IsPickedAsOf interest until case.now segments) → IsMomentOf is.trace job.now.until until
+        (is : IsPickedAsOf interest until case.now segments) → IsNamedMoment is.trace job.now.until until
         → HasSubject is.trace job.now has_subject) }
     ensures none { IfNone result ((until : Option ℕ) (segments : List Content)
-        (is : IsPickedAsOf interest until case.now segments) → IsMomentOf is.trace job.now.until until
+        (is : IsPickedAsOf interest until case.now segments) → IsNamedMoment is.trace job.now.until until
         → TellsOfNoHandle interest segments job.now) }
 {
     let has_subject = any_list_about(job.question, case.lists());

@@ -20,7 +20,7 @@ ghost use Rattle.htl_main.specs.Printing.{EndsOver, PrintsOver};
 ghost use Rattle.htl_main.specs.Subjects.{HasSubject, ReportsSubject};
 
 use crate::answering::answer;
-use crate::casing::case_of;
+use crate::cases::case_of;
 use crate::completed::{Completed, has_finding, has_subject};
 use crate::coverage::{Missed, is_above};
 use crate::fault::RunFault;

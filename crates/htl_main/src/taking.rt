@@ -18,7 +18,7 @@ ghost use Rattle.htl_main.specs.Readings.{AreRead};
 ghost use Rattle.htl_main.specs.Reads.{IsRead, NamesOnly, NeverRead, NeverWrite};
 ghost use Rattle.htl_main.specs.Sources.{IsReportedAt, IsReportedOfSource};
 
-use crate::casing::unknown;
+use crate::cases::unknown;
 use crate::cut_inputs::{CutInputs, check_end, with_input};
 use crate::fault::RunFault;
 use crate::folder::Folder;

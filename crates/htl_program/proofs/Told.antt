@@ -2,10 +2,10 @@
 use Rattle.std.proofs.Common.{◌≡◌, ◌++◌, ◌∷◌, [], List, append_assoc, refl}
 use Rattle.std.specs.Prelude.{Option, Some, None}
 use Rattle.htl_command.specs.declared.command.Command.{Command}
-use Rattle.htl_program.specs.Sayings.{Hears, HearsRun, Saying, begun, over}
+use Rattle.htl_program.specs.Messages.{Hears, HearsRun, Message, begun, over}
 
 -- a person that is told of the beginning and then of the end was told of the run
-pub run_told : (old within new : Option (List Saying)) (command : Command) → Hears old within (begun command) → Hears within new over
+pub run_told : (old within new : Option (List Message)) (command : Command) → Hears old within (begun command) → Hears within new over
     → HearsRun command old new
 run_told None within new command first last = tt
 run_told (Some said) within new command first last =

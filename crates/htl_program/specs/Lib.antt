@@ -8,7 +8,7 @@ pub mod Outcomes
 pub mod Statuses
 pub mod AskedAbout
 pub mod Parts
-pub mod Sayings
+pub mod Messages
 pub mod Words
 pub mod Programs
 -- What only private contracts cite.

@@ -25,8 +25,8 @@ use Rattle.htl_main.specs.declared.refused.Refused.{Refused}
 use Rattle.htl_program.specs.Asking.{before_dialogue}
 use Rattle.htl_program.specs.Opened.{Known, Opened, files_of}
 use Rattle.htl_program.specs.Outcomes.{IsAnswered, IsConversed, IsDumped, IsEncoded, Talk, talk}
-use Rattle.htl_program.specs.Sayings.{Hears, HearsAll, HearsRun, Saying, alone, cut_noted, fault, fault_said, no_memory, notes_said}
-use Rattle.htl_program.specs.Sayings.{stop_said, text, unwritten}
+use Rattle.htl_program.specs.Messages.{Hears, HearsAll, HearsRun, Message, alone, cut_noted, fault, fault_said, no_memory, notes_said}
+use Rattle.htl_program.specs.Messages.{stop_said, text, unwritten}
 use Rattle.htl_program.specs.Statuses.{conversion_status, dialogue_status, end_status}
 use Rattle.htl_program.specs.Words.{explained}
 use Rattle.htl_program.specs.declared.ask_fault.AskFault.{AskFault}
@@ -37,9 +37,9 @@ use Rattle.htl_program.specs.declared.console.Console.{Console}
 pub record Told : Type 0 where
   pub out : Option (List ℕ)
   pub write_failed : Bool
-  pub heard : Option (List Saying)
+  pub heard : Option (List Message)
 
-abbrev pub told : {O P : Type 0} → (O → Option (List ℕ)) → (O → Bool) → (P → Option (List Saying)) → Console O P → Told
+abbrev pub told : {O P : Type 0} → (O → Option (List ℕ)) → (O → Bool) → (P → Option (List Message)) → Console O P → Told
 told contents has_failed heard console = record {
   out = contents console.out;
   write_failed = has_failed console.out;
@@ -47,12 +47,12 @@ told contents has_failed heard console = record {
 }
 
 -- The fault that ended a run is said, once, and in words where these are wanted. A failed write may go unsaid.
-abbrev pub SaysFault : Bool → Option (List Saying) → Option (List Saying) → Command → Refused → Type 0
+abbrev pub SaysFault : Bool → Option (List Message) → Option (List Message) → Command → Refused → Type 0
 SaysFault in_words old new command refused =
     HearsAll old new (fault_said in_words command refused) ⊎ ((refused.fault ≡ faults.Write) × (new ≡ old))
 
 -- how a question's end is said, once its run is over
-abbrev pub SaysAnswer : Bool → Option (List Saying) → Option (List Saying) → Command → Run → Result Completed Refused → Type 0
+abbrev pub SaysAnswer : Bool → Option (List Message) → Option (List Message) → Command → Run → Result Completed Refused → Type 0
 SaysAnswer in_words old new command run (Ok completed) = HearsAll old new (notes_said in_words run.job completed)
 SaysAnswer in_words old new command run (Err refused) = SaysFault in_words old new command refused
 
@@ -61,17 +61,17 @@ pub record DoesAnswer {R : Type 0} (in_words : Bool) (world : Known) (inputs : O
   pub ended : Result Completed Refused
   pub is : IsAnswered world (files_of inputs) run old.out new.out new.write_failed ended
   pub status_is : status ≡ end_status run.job.exit_code (by_fault ended)
-  pub after_run : Option (List Saying)
+  pub after_run : Option (List Message)
   pub hears_run : HearsRun command old.heard after_run
   pub said : SaysAnswer in_words after_run new.heard command run ended
 
 -- how a conversion's end is said: nothing, if it ended well
-abbrev pub SaysConversion : {S : Type 0} → Bool → Option (List Saying) → Option (List Saying) → Command → Result S RunFault → Type 0
+abbrev pub SaysConversion : {S : Type 0} → Bool → Option (List Message) → Option (List Message) → Command → Result S RunFault → Type 0
 SaysConversion in_words old new command (Ok done) = new ≡ old
 SaysConversion in_words old new command (Err reported) = SaysFault in_words old new command (alone reported)
 
 -- the same of a dump: which inputs end within a segment, where they may
-abbrev pub SaysDump : Bool → Option (List Saying) → Option (List Saying) → Command → Result (Option CutInputs) RunFault → Type 0
+abbrev pub SaysDump : Bool → Option (List Message) → Option (List Message) → Command → Result (Option CutInputs) RunFault → Type 0
 SaysDump in_words old new command (Ok cut) = HearsAll old new (cut_noted in_words cut)
 SaysDump in_words old new command (Err reported) = SaysFault in_words old new command (alone reported)
 
@@ -80,7 +80,7 @@ pub record DoesDump {R A : Type 0} (in_words : Bool) (world : Known) (inputs : O
   pub ended : Result (Option CutInputs) RunFault
   pub is : IsDumped world (files_of inputs) form files old.out new.out new.write_failed ended
   pub status_is : status ≡ conversion_status ended
-  pub after_run : Option (List Saying)
+  pub after_run : Option (List Message)
   pub hears_run : HearsRun command old.heard after_run
   pub said : SaysDump in_words after_run new.heard command ended
 
@@ -89,7 +89,7 @@ pub record DoesEncode {R A : Type 0} (in_words : Bool) (world : Known) (inputs :
   pub ended : Result (Unit {0}) RunFault
   pub is : IsEncoded world (files_of inputs) hex files old.out new.out new.write_failed ended
   pub status_is : status ≡ conversion_status ended
-  pub after_run : Option (List Saying)
+  pub after_run : Option (List Message)
   pub hears_run : HearsRun command old.heard after_run
   pub said : SaysConversion in_words after_run new.heard command ended
 
@@ -112,13 +112,14 @@ Explains old new bytes status =
     ⊎ ((status ≡ 6) × (new.out ≡ old.out) × Hears old.heard new.heard (fault (alone faults.Memory)))
 
 -- Segments are made of text, but their bytes aren't shown to a person.
-abbrev pub Encodes : {R A : Type 0} → Bool → Bool → Known → Opened R → Told → Told → Command → Bool → List (String A) → ℕ → Type 0
-Encodes true in_words world inputs old new command hex files status =
+abbrev pub EncodesOrRefuses : {R A : Type 0} → Bool → Bool → Known → Opened R → Told → Told → Command → Bool → List (String A) → ℕ → Type 0
+EncodesOrRefuses true in_words world inputs old new command hex files status =
     (why : ParseFault) × IsUsageWith ⊤ why × Refuses old new why status
-Encodes false in_words world inputs old new command hex files status = DoesEncode in_words world inputs old new command hex files status
+EncodesOrRefuses false in_words world inputs old new command hex files status =
+    DoesEncode in_words world inputs old new command hex files status
 
 -- how a dialogue's end is said, once it is over: nothing, if it ended well
-abbrev pub SaysDialogue : {S : Type 0} → Bool → Option (List Saying) → Option (List Saying) → Command → Result S AskFault → Type 0
+abbrev pub SaysDialogue : {S : Type 0} → Bool → Option (List Message) → Option (List Message) → Command → Result S AskFault → Type 0
 SaysDialogue in_words old new command (Ok done) = new ≡ old
 SaysDialogue in_words old new command (Err (asks.Run refused)) = SaysFault in_words old new command refused
 SaysDialogue in_words old new command (Err (asks.Dialogue stopped)) =
@@ -178,7 +179,7 @@ pub record DoesConverse {S R : Type 0} (in_words : Bool) (speaker : Spoken S) (w
       IsUnread inputs questions world.standard × (new.out ≡ old.out) × (listening ≡ speaker.before))
   pub after : speaker.after ≡ speaker.left listening (inputs.has_ended questions)
   pub status_is : status ≡ dialogue_status speaker.counts_wrong ended
-  pub after_run : Option (List Saying)
+  pub after_run : Option (List Message)
   pub hears_run : HearsRun command old.heard after_run
   pub said : SaysDialogue in_words after_run new.heard command ended
 
@@ -191,7 +192,7 @@ Does sees in_words speaker world inputs old new (wish.Explain reported) status =
 Does sees in_words speaker world inputs old new (wish.Dump form files) status =
     DoesDump in_words world inputs old new (wish.Dump form files) form files.items status
 Does sees in_words speaker world inputs old new (wish.Encode hex files) status =
-    Encodes (not hex && sees) in_words world inputs old new (wish.Encode hex files) hex files.items status
+    EncodesOrRefuses (not hex && sees) in_words world inputs old new (wish.Encode hex files) hex files.items status
 Does sees in_words speaker world inputs old new (wish.Ask of) status =
     DoesConverse in_words speaker world inputs old new (wish.Ask of) of status
 

@@ -4,7 +4,7 @@
 ghost use Rattle.std.specs.Prelude.{◌≡◌, ◌&&◌, ◌||◌, false, not};
 ghost use Rattle.htl_program.specs.Opened.{known, opened};
 ghost use Rattle.htl_program.specs.Programs.{DoesAnswer, DoesConverse, DoesDump, DoesEncode};
-ghost use Rattle.htl_program.specs.Programs.{Encodes, spoken, told};
+ghost use Rattle.htl_program.specs.Programs.{EncodesOrRefuses, spoken, told};
 
 use crate::answering::answer;
 use crate::console::Console;
@@ -107,7 +107,7 @@ pub(crate) fn do_encode<W: World, O: Output, P: Person>(
     console: &mut Console<O, P>,
 ) -> u8
     requires { O.has_failed console.old.out ≡ false }
-    ensures { Encodes (not hex && P.sees_output console.old.person)
+    ensures { EncodesOrRefuses (not hex && P.sees_output console.old.person)
         (P.is_watching console.old.person || line.now.notes)
         (known W.holds W.is_absent W.standard world.now)
         (opened W.Input.remaining W.Input.has_ended W.Input.has_failed W.Input.good_reads

@@ -8,11 +8,11 @@ use htl_main::{Coverage, CutInputs, Refused};
 /// Who reads the messages beside the output. The implementation chooses their words.
 pub trait Person {
     ghost use Rattle.std.specs.Prelude.{◌≡◌, Bool, List, Option};
-    ghost use Rattle.htl_program.specs.Sayings.{Hears, Saying, absence, begun, cut, fault, gaps};
-    ghost use Rattle.htl_program.specs.Sayings.{meaning, over, refusal, stop, stop_meaning, unwritten};
+    ghost use Rattle.htl_program.specs.Messages.{Hears, Message, absence, begun, cut, fault, gaps};
+    ghost use Rattle.htl_program.specs.Messages.{meaning, over, refusal, stop, stop_meaning, unwritten};
 
     // What the person was told, where that is known.
-    ghost heard: { Self → Option (List Saying) };
+    ghost heard: { Self → Option (List Message) };
 
     // Whether a person is shown the bytes that go to standard output.
     ghost sees_output: { Self → Bool };

@@ -3,8 +3,8 @@
 ghost use Rattle.std.specs.Prelude.{◌≡◌};
 ghost use Rattle.htl_program.specs.Programs.{SaysAnswer, SaysConversion, SaysDialogue, SaysDump};
 ghost use Rattle.htl_program.specs.Programs.{SaysFault};
-ghost use Rattle.htl_program.specs.Sayings.{HearsAll, absent_subject, alone as alone_of, fault_said};
-ghost use Rattle.htl_program.specs.Sayings.{cut_said, notes_said, stop_said};
+ghost use Rattle.htl_program.specs.Messages.{HearsAll, absent_subject, alone as alone_of, fault_said};
+ghost use Rattle.htl_program.specs.Messages.{cut_said, notes_said, stop_said};
 
 use crate::ask_fault::AskFault;
 use crate::output::Output;

@@ -3,8 +3,8 @@ use Rattle.std.proofs.Common.{◌∙◌, List, subst}
 use Rattle.htl_segment.specs.Content.{Content}
 use Rattle.htl_main.specs.Origins.{IsBetweenOf}
 use Rattle.htl_main.proofs.CaseRefused.{between_of_case}
-use Rattle.htl_main.proofs.casing.case_of.Goals.{in-Ok-kept, in-Err-kept}
-use Rattle.htl_main.proofs.casing.case_of.Goals as goal
+use Rattle.htl_main.proofs.cases.case_of.Goals.{in-Ok-kept, in-Err-kept}
+use Rattle.htl_main.proofs.cases.case_of.Goals as goal
 
 pub returns-clause-between : goal.returns-clause-between
 returns-clause-between c = λ form inputs decoded are.

@@ -18,41 +18,41 @@ use Rattle.htl_main.specs.declared.refused.Refused.{Refused}
 use Rattle.htl_program.specs.AskedAbout.{subject_of_question}
 use Rattle.htl_program.specs.declared.subject.Subject.{Subject}
 
--- One thing that a person is told: that the run of a command begins, and that it has ended; a text as it stands; that memory was refused;
+-- A message to a person: that the run of a command begins, and that it has ended; a text as it stands; that memory was refused;
 -- that a text could not be written; the fault that ended a run, and the same in words, by what its command names; that what was asked
 -- about has no event; that segments are missing; which inputs end within a segment; why the replies of a dialogue stopped, and the same in
 -- words.
-pub data Saying : Type 0 where
-  begun : Command → Saying
-  over : Saying
-  text : List ℕ → Saying
-  no_memory : Saying
-  unwritten : Saying
-  fault : Refused → Saying
-  meaning : Command → Refused → Saying
-  absence : Subject → Saying
-  gaps : Coverage → Saying
-  cut : CutInputs → Saying
-  stop : DialogueFault → Saying
-  stop_meaning : DialogueFault → Saying
+pub data Message : Type 0 where
+  begun : Command → Message
+  over : Message
+  text : List ℕ → Message
+  no_memory : Message
+  unwritten : Message
+  fault : Refused → Message
+  meaning : Command → Refused → Message
+  absence : Subject → Message
+  gaps : Coverage → Message
+  cut : CutInputs → Message
+  stop : DialogueFault → Message
+  stop_meaning : DialogueFault → Message
 
 -- a fault that is about no two segments
 abbrev pub alone : RunFault → Refused
 alone reported = record { fault = reported; between = Nothing }
 
 -- what is said of arguments that are refused
-abbrev pub refusal : ParseFault → Saying
+abbrev pub refusal : ParseFault → Message
 refusal (Help help) = text (string_bytes help)
 refusal (Usage why) = text (string_bytes why)
 refusal Memory = no_memory
 
 -- what is said of the fault that ended the run of a command, and whether in words too
-abbrev pub fault_said : Bool → Command → Refused → List Saying
+abbrev pub fault_said : Bool → Command → Refused → List Message
 fault_said true command refused = fault refused ∷ meaning command refused ∷ []
 fault_said false command refused = fault refused ∷ []
 
 -- the same where the replies of a dialogue stopped
-abbrev pub stop_said : Bool → DialogueFault → List Saying
+abbrev pub stop_said : Bool → DialogueFault → List Message
 stop_said true stopped = stop stopped ∷ stop_meaning stopped ∷ []
 stop_said false stopped = stop stopped ∷ []
 
@@ -61,7 +61,7 @@ abbrev pub absent_subject : Question → Bool → Option Subject
 absent_subject question true = None
 absent_subject question false = subject_of_question question
 
-abbrev pub absence_said : Option Subject → List Saying
+abbrev pub absence_said : Option Subject → List Message
 absence_said None = []
 absence_said (Some subject) = absence subject ∷ []
 
@@ -69,34 +69,34 @@ absence_said (Some subject) = absence subject ∷ []
 abbrev pub is_touched : Coverage → Option Moment → Bool
 is_touched coverage until = not (coverage.gaps == 0) && is_above until coverage.complete_to
 
-abbrev pub gaps_said : Coverage → Option Moment → List Saying
+abbrev pub gaps_said : Coverage → Option Moment → List Message
 gaps_said coverage until = if is_touched coverage until then gaps coverage ∷ [] else []
 
 -- some inputs end within a segment
-abbrev pub cut_said : Option CutInputs → List Saying
+abbrev pub cut_said : Option CutInputs → List Message
 cut_said None = []
 cut_said (Some inputs) = cut inputs ∷ []
 
 -- what is said beside the text of segments, where words are wanted
-abbrev pub cut_noted : Bool → Option CutInputs → List Saying
+abbrev pub cut_noted : Bool → Option CutInputs → List Message
 cut_noted false inputs = []
 cut_noted true inputs = cut_said inputs
 
 -- what is said beside an answer, where words are wanted
-abbrev pub notes_said : Bool → Job → Completed → List Saying
+abbrev pub notes_said : Bool → Job → Completed → List Message
 notes_said false job completed = []
 notes_said true job completed =
     absence_said (absent_subject job.question completed.has_subject)
     ++ (gaps_said completed.coverage job.until ++ cut_said completed.cut)
 
 -- These things were said, one after the other, and nothing else.
-abbrev pub HearsAll : Option (List Saying) → Option (List Saying) → List Saying → Type 0
+abbrev pub HearsAll : Option (List Message) → Option (List Message) → List Message → Type 0
 HearsAll old new sayings = IfSome old (λ said. new ≡ Some (said ++ sayings))
 
 -- This was said, and nothing else.
-abbrev pub Hears : Option (List Saying) → Option (List Saying) → Saying → Type 0
+abbrev pub Hears : Option (List Message) → Option (List Message) → Message → Type 0
 Hears old new saying = HearsAll old new (saying ∷ [])
 
 -- It was said that the run of the command begins and then that it has ended, and nothing else.
-abbrev pub HearsRun : Command → Option (List Saying) → Option (List Saying) → Type 0
+abbrev pub HearsRun : Command → Option (List Message) → Option (List Message) → Type 0
 HearsRun command old new = HearsAll old new (begun command ∷ over ∷ [])

@@ -1,5 +1,5 @@
 -- Each of the two segments has an origin, since the parts have each.
-use Rattle.htl_main.proofs.casing.between.Goals as goal
+use Rattle.htl_main.proofs.cases.between.Goals as goal
 
 pub returns-in-Some-Some : goal.returns-in-Some-Some
 returns-in-Some-Some c = λ form inputs are.

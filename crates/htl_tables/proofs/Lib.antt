@@ -15,3 +15,7 @@ pub mod ChosenKeys
 pub mod Sequences
 pub mod Moments
 pub mod NotingLaws
+pub mod SortedRows
+pub mod MissingRows
+pub mod PlacedRows
+pub mod PlacingSteps

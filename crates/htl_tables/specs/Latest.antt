@@ -30,3 +30,11 @@ noted events process base = fold (with_event process base) None events
 -- one row of two that have one key
 abbrev pub later_of : Event → Event → Event
 later_of x y = if nat_lt x.sequence y.sequence then y else x
+
+-- two tables that are about to be joined
+pub record Joining : Type 0 where
+  pub older : List Event
+  pub newer : List Event
+
+abbrev pub joining : List Event → List Event → Joining
+joining older newer = record { older = older; newer = newer }

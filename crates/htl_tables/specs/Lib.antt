@@ -10,3 +10,4 @@ pub mod RowOrder
 pub mod Moments
 pub mod SortKeys
 pub mod FirstKeys
+pub mod Placing

@@ -2,7 +2,9 @@
 
 use crate::by_handle::ByHandle;
 use crate::candidates::candidates_in;
+use crate::joining::Joining;
 use crate::of_process::of_process;
+use crate::placing::{append_copies, missing};
 use crate::sort_key::{SortKey, drop_first, events_of, handles_in};
 use htl_event::{EventList, NoMemory, SharedEvent, base};
 use htl_sorted::{merge, search};
@@ -15,7 +17,7 @@ const BLOCK: usize = 32;
 /// The latest open or close of each base handle of each process.
 #[derive(Drop)]
 pub struct Latest<A: Allocator> {
-    rows: Vec<SharedEvent, A>,
+    pub(crate) rows: Vec<SharedEvent, A>,
 }
 
 impl<A: Allocator> Model for Latest<A> {
@@ -33,7 +35,7 @@ impl<A: Allocator> Model for Latest<A> {
 
 impl<A: Allocator> Latest<A> {
     ghost use Rattle.std.specs.Prelude.{◌≡◌, ◌≢◌, ◌==◌, ◌↔◌, ℕ, [], filter};
-    ghost use Rattle.std.specs.Prelude.{IsNone, OnOk, OnErr, IsTrue};
+    ghost use Rattle.std.specs.Prelude.{IfOk, IfErr, IsNone, OnOk, OnErr, IsTrue};
     ghost use Rattle.htl_event.specs.Handles.{ByBase};
     ghost use Rattle.std.specs.Option.{option_copied};
     ghost use Rattle.htl_event.specs.Slots.{base_of};
@@ -114,6 +116,24 @@ impl<A: Allocator> Latest<A> {
         ensures equal { IsTrue result ↔ (self.now ≡ other.now) }
     {
         self.rows() == other.rows()
+    }
+
+    /// Gets all memory that a join with the other table takes. Where it is refused, this table comes
+    /// back.
+    pub fn prepare(self, newer: Latest<A>) -> Result<Joining<A>, Latest<A>>
+        ensures ok { IfOk result (λ joining. (joining.older ≡ self) × (joining.newer ≡ newer)) }
+        ensures err { IfErr result (λ table. table ≡ self) }
+    {
+        let mut rows = self.rows;
+        let count = rows.len();
+        let places = missing(&rows, &newer.rows);
+        match append_copies(&mut rows, &newer.rows[..places]) {
+            Ok(()) => Ok(Joining::new(rows, count, newer.rows)),
+            Err(_) => {
+                rows.truncate(count);
+                Err(Latest { rows })
+            }
+        }
     }
 }
 

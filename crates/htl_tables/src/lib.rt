@@ -1,7 +1,8 @@
 //! Tables that keep the greatest sequence of each key: the latest open or close of a handle, the
 //! latest snapshot of a process and its last exit.
 //!
-//! Files, in reading order: `latest.rt` and `greatest.rt` (the tables), `by_handle.rt` and
+//! Files, in reading order: `latest.rt` and `greatest.rt` (the tables), `joining.rt` and
+//! `placing.rt` (a join that was prepared, and how its rows are placed), `by_handle.rt` and
 //! `by_process.rt` (the two kinds of row), `of_process.rt` (the rows of one process),
 //! `candidates.rt`, `hints.rt` and `sort_key.rt` (the events of a list that may be the latest of
 //! their handles), `laws.rt` (what follows from the contracts).
@@ -16,10 +17,13 @@ mod by_process;
 mod candidates;
 mod greatest;
 mod hints;
+mod joining;
 mod latest;
 pub mod laws;
 mod of_process;
+mod placing;
 mod sort_key;
 
 pub use greatest::{EventKind, Exits, Greatest, Marks, ProcessExits, Snapshots};
+pub use joining::Joining;
 pub use latest::Latest;

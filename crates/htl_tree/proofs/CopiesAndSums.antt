@@ -188,14 +188,16 @@ summed_nonempty a b c h sum some =
     let positive : IsPositive (plus_count (tally w.path w.slot a) (tally w.path w.slot b)) = omega (arith, w.counts) in
     nonempty_from c w.path w.slot (subst IsPositive (sym is) positive)
 
-joined_count : (o p : Option Count) → unwrap_or (joined_at plus_count o p) zero_count
+-- a slot's count in merged lists is the sum of its counts in both
+pub joined_count : (o p : Option Count) → unwrap_or (joined_at plus_count o p) zero_count
     ≡ plus_count (unwrap_or o zero_count) (unwrap_or p zero_count)
 joined_count None None = refl
 joined_count None (Some d) = zero_left d
 joined_count (Some c) None = zero_right c
 joined_count (Some c) (Some d) = refl
 
-joined_positive : (o p : Option Count) (v : Count) → ((c : Count) → o ≡ Some c → IsPositive c)
+-- where the counts of both lists are positive, those of the merged list are
+pub joined_positive : (o p : Option Count) (v : Count) → ((c : Count) → o ≡ Some c → IsPositive c)
     → ((d : Count) → p ≡ Some d → IsPositive d) → joined_at plus_count o p ≡ Some v → IsPositive v
 joined_positive None None v g h e = cc
 joined_positive None (Some d) v g h e = h v e

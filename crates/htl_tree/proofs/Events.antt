@@ -19,7 +19,7 @@ use Rattle.htl_event.specs.Stacks.{outer}
 use Rattle.htl_event.specs.Tallies.{zero_count, plus_count, count_where, has_stack, tally, under, IsPositive}
 use Rattle.htl_event.proofs.Counts.{count_where-append}
 use Rattle.htl_sorted.specs.Entries.{Each}
-use Rattle.htl_tree.specs.Trees.{Tree, key_cmp, add_one, sum_where, count_under, IsTree, HasTally}
+use Rattle.htl_tree.specs.Trees.{Tree, key_cmp, count_at, add_one, sum_where, count_under, IsTree, HasTally}
 use Rattle.htl_tree.proofs.CountAdded.{add_one_positive}
 use Rattle.htl_tree.proofs.TreesAsLists.{key_total, key_same}
 use Rattle.htl_tree.proofs.CopiesAndSums.{zero_left}
@@ -232,3 +232,15 @@ pub tally_one_more : (events : List Event) (e : Event) (slot : Slot) (sign : Sig
 tally_one_more events e slot sign is s k =
     tally_push events e s k ∙ ap (plus_count (tally events s k))
     (one_event (has_stack k) e s (slot, sign) is ∙ ap (λ b. cond b (add_one sign zero_count) zero_count) (sym (here_is s slot k e.stack)))
+
+-- ---- many events more
+
+-- what more events count is counted too
+pub tally_with : (s t : Tree) (rows : List Row) (events more : List Event) → HasTally t events
+    → ((slot : Slot) (stack : List ℕ) → sum_at rows slot stack ≡ tally more slot stack)
+    → ((slot : Slot) (stack : List ℕ) → count_at s slot stack ≡ plus_count (count_at t slot stack) (sum_at rows slot stack))
+    → HasTally s (events ++ more)
+tally_with s t rows events more before rest counts slot stack =
+    counts slot stack ∙ ap (λ c. plus_count c (sum_at rows slot stack)) (before slot stack)
+    ∙ ap (plus_count (tally events slot stack)) (rest slot stack)
+    ∙ sym (count_where-append (has_stack stack) events more slot)

@@ -20,5 +20,8 @@ pub mod Positions
 pub mod Depth
 pub mod Roots
 pub mod RowGroups
+pub mod CountsRemoved
+pub mod RowsRemoved
+pub mod GroupsRemoved
 pub mod Between
 pub mod SlotSums

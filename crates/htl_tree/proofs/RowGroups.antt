@@ -1,4 +1,4 @@
--- Rows are put in groups of one stack, whose order doesn't matter, and a tree can count a group more.
+-- Rows are put in groups of one stack, whose order doesn't matter. A tree can count a group more, and can be had back.
 use Rattle.std.proofs.Common.{◌≡◌, ℕ, ◌+◌, ◌<◌, ◌≤◌, ◌≢◌, List, []}
 use Rattle.std.proofs.Common.{◌∷◌, ◌++◌, reverse, length, get_or, take, drop, Option, Some, None}
 use Rattle.std.proofs.Common.{true, false, cond, nat_eq, unwrap_or, append-nil, take-add, refl, sym, ◌∙◌, ap, subst, arith}
@@ -27,7 +27,8 @@ use Rattle.htl_sorted.specs.Entries.{Each}
 use Rattle.htl_sorted.proofs.Finds.{each_found, all_keys_from_found, key_found}
 use Rattle.htl_tree.specs.declared.row.Row.{Row}
 use Rattle.htl_tree.specs.Trees.{Tree, key_cmp, count_at, total_count, IsTree, AllShort}
-use Rattle.htl_tree.specs.Nodes.{Position, tally, rows, tree_at, IsNormal, IsNormalTop}
+use Rattle.htl_tree.specs.declared.node.Node.{Node}
+use Rattle.htl_tree.specs.Nodes.{Position, tally, rows, tree_at, tree_of, IsNormal, IsNormalTop, IsNormalRoot}
 use Rattle.htl_tree.specs.Rows.{entries_of, sum_at, slot_sum, AreShort, IsGroup, IsGained, IsChain, WithRows}
 use Rattle.htl_tree.proofs.CountAdded.{nonempty_from}
 use Rattle.htl_tree.proofs.TreesAsLists.{key_total, key_same, nothing_is_tree}
@@ -36,7 +37,7 @@ use Rattle.htl_tree.proofs.RowsOneMore.{no_row}
 use Rattle.htl_tree.proofs.CopiesAndSums.{zero_right}
 use Rattle.htl_tree.proofs.SumsFromTally.{sum_at-append}
 use Rattle.htl_tree.proofs.Events.{side, side_adds, side_zero, same_sides}
-use Rattle.htl_tree.proofs.Roots.{root_from, all_inward, count_tree, tally_tree, sorted_tree, positive_tree, top_is_tree}
+use Rattle.htl_tree.proofs.Roots.{root_from, all_inward, count_tree, tally_tree, sorted_tree, positive_tree, top_is_tree, equal_trees}
 
 abbrev Entry : Type 0
 Entry = (List ℕ × Slot) × Count
@@ -301,3 +302,19 @@ group_more gs new one n len rows rest left is its so_far within groups group = (
 -- a group at the front of the rows that are left ends within all rows
 pub rest_within : (n len : ℕ) (rows rest : List Row) → rest ≡ drop n rows → n ≤ length rows → len ≤ length rest → n + len ≤ length rows
 rest_within n len rows rest left within more = omega (arith, ap length left, length-drop n rows)
+
+-- ---- groups taken out again
+
+-- what is added to two counts with equal sums was added to equal counts
+plus_cancel : (a b c : Count) → plus_count a c ≡ plus_count b c → a ≡ b
+plus_cancel a b c same = same_sides a b (λ sign.
+    let sides : side sign a + side sign c ≡ side sign b + side sign c =
+    sym (side_adds sign a c) ∙ ap (side sign) same ∙ side_adds sign b c in
+    omega (arith, sides))
+
+-- a tree with rows is that of one tree only
+pub tree_before_rows : {A : Type 0} (with_them a b : Option (Node A)) (rows : List Row) → IsNormalRoot a → IsNormalRoot b
+    → WithRows (tree_of with_them) (tree_of a) rows → WithRows (tree_of with_them) (tree_of b) rows → tree_of a ≡ tree_of b
+tree_before_rows with_them a b rows g h left right = equal_trees a b g h (λ slot stack.
+    plus_cancel (count_at (tree_of a) slot stack) (count_at (tree_of b) slot stack) (sum_at (entries_of rows) slot stack)
+    (sym (left slot stack) ∙ right slot stack))

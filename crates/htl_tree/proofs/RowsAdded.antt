@@ -1,6 +1,6 @@
 -- A position to which rows were added, there or further in, counts these more at one path and else the same.
 use Rattle.std.proofs.Common.{◌≡◌, ℕ, zero, suc, ◌+◌, ◌<◌, ◌≤◌, ◌≢◌, List, [], ◌∷◌, ◌++◌, length, get_or, take, Option}
-use Rattle.std.proofs.Common.{Some, None, true, false, cond, unwrap_or, refl, sym, inl, inr, ◌∙◌, ap, subst, arith}
+use Rattle.std.proofs.Common.{Some, None, Result, MatchResult, true, false, cond, unwrap_or, refl, sym, inl, inr, ◌∙◌, ap, subst, arith}
 use Rattle.std.specs.Cmp.{tied_itself, nat_cmp_total}
 use Rattle.std.specs.Ordering.{nat_cmp, is_eq, eq_by_cmp}
 use Rattle.std.specs.declared.cmp.Ordering.TheVariants.{Less, Equal, Greater}
@@ -14,8 +14,8 @@ use Rattle.htl_event.specs.OrderLaws.{slot_total, slot_same}
 use Rattle.htl_event.specs.declared.slot.Slot.{Slot}
 use Rattle.htl_event.specs.declared.slot.Count.{Count}
 use Rattle.htl_event.specs.Tallies.{zero_count, plus_count, total_of, IsPositive}
-use Rattle.htl_sorted.specs.Entries.{Each}
-use Rattle.htl_sorted.proofs.Finds.{find_put_other, each_put}
+use Rattle.htl_sorted.specs.Entries.{IsSorted, Each, joined_at}
+use Rattle.htl_sorted.proofs.Finds.{find_put_other, each_put, each_found, each_from_found}
 use Rattle.htl_tree.specs.declared.node.Node.{Node}
 use Rattle.htl_tree.specs.declared.row.Row.{Row}
 use Rattle.htl_tree.specs.Nodes.{Position, tally, tally_of, no_tally, counts, children, count_in, at_child, IsNonEmpty, IsNormal, NormalAt}
@@ -26,8 +26,9 @@ use Rattle.htl_tree.proofs.FilterBits.{filters_also}
 use Rattle.htl_tree.proofs.FiltersOfPositions.{has_left, filters_end, filters_on, filters_before}
 use Rattle.htl_tree.proofs.Positions.{find_before}
 use Rattle.htl_tree.proofs.CountAdded.{normal_here, normal_counts, normal_with_child, tally_child, tally_else, nonempty_from}
-use Rattle.htl_tree.proofs.CountAdded.{put_before, normal_after}
-use Rattle.htl_tree.proofs.CopiesAndSums.{zero_left, zero_right}
+use Rattle.htl_tree.proofs.CountAdded.{put_before, normal_after, kept_below, nonempty_child, match_result}
+use Rattle.htl_tree.proofs.Entered.{entered_kept}
+use Rattle.htl_tree.proofs.CopiesAndSums.{zero_left, zero_right, joined_count, joined_positive}
 use Rattle.htl_tree.proofs.SumsFromTally.{plus_assoc}
 
 -- ---- one row more
@@ -100,6 +101,21 @@ gained_more rows row old mid new h some is =
           ∙ ap (plus_count (count_in old slot)) (sym (slot_sum-append slot rows (row ∷ [])));
     }
 
+-- counts merged with those of rows gained the rows
+pub gained_merged : (rows : List Row) (old more sums : List (Slot × Count)) → Each IsPositive old → Gained rows [] more
+    → IsSorted slot_cmp sums
+    → ((slot : Slot) → find slot_cmp slot sums ≡ joined_at plus_count (find slot_cmp slot old) (find slot_cmp slot more))
+    → Gained rows old sums
+gained_merged rows old more sums positive gained sorted values = record {
+  sorted = sorted;
+  positive = each_from_found slot_cmp slot_total IsPositive sums sorted (λ s v found.
+      joined_positive (find slot_cmp s old) (find slot_cmp s more) v (λ x is. each_found slot_cmp IsPositive s x old positive is)
+      (λ y is. each_found slot_cmp IsPositive s y more gained.positive is) (sym (values s) ∙ found));
+  counts = λ slot. ap (λ (o : Option Count). unwrap_or o zero_count) (values slot)
+      ∙ joined_count (find slot_cmp slot old) (find slot_cmp slot more)
+      ∙ ap (plus_count (count_in old slot)) (gained.counts slot ∙ sym (zero_left (slot_sum slot rows)));
+}
+
 -- ---- a node with more
 
 module _ {A : Type 0} (n m : Position A) (rows : List Row) where
@@ -150,6 +166,16 @@ module _ {A : Type 0} (n m : Position A) (rows : List Row) where
       normal = normal_with_child n m f c o w k h new.normal (filled path no_tally new.counts);
       counts = adds_below path (rw none new.counts);
     }
+
+-- rows that were added below a child, or refused
+pub rows_stepped : {A : Type 0} (n m : Position A) → IsNormal n → (rows : List Row) → (slot : Slot) × IsPositive (slot_sum slot rows)
+    → (f : ℕ) (old new : Position A) → find nat_cmp f (children n) ≡ Some old → counts m ≡ counts n → (HasFilters new → HasFilters m)
+    → children m ≡ put nat_cmp f new (children n) → (path : List ℕ) → {X E : Type 0} (r : Result X E)
+    → MatchResult r (λ _. IsGained path rows old new) (λ _. IsKept old new)
+    → MatchResult r (λ _. IsGained (f ∷ path) rows n m) (λ _. IsKept n m)
+rows_stepped n m h rows some f old new found o w k path r result = match_result r result
+    (λ x gained. gained_below n m rows some f new o w k h old found path gained)
+    (λ x kept. kept_below n m f new o w k h old found kept (nonempty_child n h f old found))
 
 -- ---- chains
 
@@ -236,6 +262,14 @@ module _ {A : Type 0} (rows : List Row) (some : (slot : Slot) × IsPositive (slo
       gained : IsGained (frames n ++ rest) rows (top n) (top m)
       gained = subst (λ l. IsGained (frames n ++ rest) rows (top n) (l, m)) (sym same)
           (gained_before (frames n) n m kept.normal rest inner)
+
+  -- rows that were added inside such a node, or refused
+  pub rows_entered : (old : Position A) (n m : Node A) → IsKept old (top n) → frames m ≡ frames n → (path rest : List ℕ)
+      → path ≡ frames n ++ rest → {X E : Type 0} (r : Result X E)
+      → MatchResult r (λ _. IsGained rest rows (inside n) (inside m)) (λ _. IsKept (inside n) (inside m))
+      → MatchResult r (λ _. IsGained path rows old (top m)) (λ _. IsKept old (top m))
+  rows_entered old n m kept same path rest is r result = match_result r result
+      (λ x gained. entered_gained old n m kept same path rest is gained) (λ x again. entered_kept old n kept m same again)
 
   chain_before : (fs : List ℕ) (m : Node A) (path : List ℕ) → IsChain path rows (inside m) → IsChain (fs ++ path) rows (fs, m)
   chain_before [] m path new = new

@@ -125,18 +125,20 @@ module _ (weight : List ℕ × Slot → Count → ℕ) (zero : (k : List ℕ × 
       → ((slot : Slot) (stack : List ℕ) → count_at t slot stack ≡ sum_at xs slot stack) → weigh t ≡ weigh xs
   weigh_rows t h xs p same = ap weigh (is_built t h xs p same) ∙ weigh_built xs
 
-sum_rows : (s t u : Tree) → IsTree t → IsTree u → IsSumTally s t u → (slot : Slot) (stack : List ℕ)
-    → count_at s slot stack ≡ sum_at (t ++ u) slot stack
-sum_rows s t u g h sum slot stack = sum slot stack
-    ∙ sym (ap (λ d. plus_count (sum_at t slot stack) d) (sum_at_tree u h.ordered slot stack)
-    ∙ ap (λ d. plus_count d (count_at u slot stack)) (sum_at_tree t g.ordered slot stack)) ∙ sym (sum_at-append t u slot stack)
+-- where one tree counts what another and rows count together, its total is the sum of their totals
+pub total_with : (s t : Tree) (xs : List Row) → IsTree s → IsTree t → Each IsPositive xs
+    → ((slot : Slot) (stack : List ℕ) → count_at s slot stack ≡ plus_count (count_at t slot stack) (sum_at xs slot stack))
+    → total_count s ≡ total_count t + total_count xs
+total_with s t xs f g p counts =
+    weigh_rows (λ k c. total_of c) (λ k. refl) (λ k c d. omega arith) s f (t ++ xs) (each-append IsPositive t xs g.positive p)
+    (λ slot stack. counts slot stack
+    ∙ ap (λ d. plus_count d (sum_at xs slot stack)) (sym (sum_at_tree t g.ordered slot stack)) ∙ sym (sum_at-append t xs slot stack))
+    ∙ sum_by-append (λ (row : Row). total_of row.1) t xs
 
 -- the total of a sum is the sum of the totals
 pub total_sum : (s t u : Tree) → IsTree s → IsTree t → IsTree u → IsSumTally s t u → total_count s ≡ total_count t + total_count u
-total_sum s t u f g h sum =
-    weigh_rows (λ k c. total_of c) (λ k. refl) (λ k c d. omega arith) s f (t ++ u) (each-append IsPositive t u g.positive h.positive)
-    (sum_rows s t u g h sum)
-    ∙ sum_by-append (λ (row : Row). total_of row.1) t u
+total_sum s t u f g h sum = total_with s t u f g h.positive (λ slot stack. sum slot stack
+    ∙ ap (plus_count (count_at t slot stack)) (sym (sum_at_tree u h.ordered slot stack)))
 
 -- a sum has no stack that neither side has
 pub sum_short : (s t u : Tree) → IsSorted key_cmp s → Each IsPositive s → IsTree t → IsTree u → IsSumTally s t u → AllShort s

@@ -6,3 +6,4 @@ pub use Rattle.htl_sorted.specs.Entries
 pub mod Filters
 pub mod Nodes
 pub mod Rows
+pub mod Removed

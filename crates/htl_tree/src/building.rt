@@ -1,44 +1,46 @@
-//! Builds the tree of rows. The rows are gathered by stack, and each stack is put into the tree by
-//! one descent.
+//! Adds rows to a tree. The rows are gathered by stack, and each stack is put into the tree by one
+//! descent.
 
 ghost use Rattle.std.specs.Prelude.{◌≡◌, ℕ, List, ◌+◌, ◌<◌, ◌≤◌, ◌^◌};
-ghost use Rattle.std.specs.Prelude.{length, take, true, IfOk, OnOk};
+ghost use Rattle.std.specs.Prelude.{length, take, true, IfOk, MatchResult};
 ghost use Rattle.std.specs.Borrow.{Bor};
 ghost use Rattle.std.specs.List.{flat_map, AllByRecursion};
 ghost use Rattle.htl_event.specs.declared.slot.Slot.{Slot};
 ghost use Rattle.htl_event.specs.Tallies.{total_of};
-ghost use Rattle.htl_tree.specs.Trees.{count_at};
+ghost use Rattle.htl_tree.specs.Trees.{count_at, total_count};
 ghost use Rattle.htl_tree.specs.declared.row.Row.{Row};
 ghost use Rattle.htl_tree.specs.Nodes.{tree_of, IsNormalRoot};
 ghost use Rattle.htl_tree.specs.Rows.{entries_of, sum_at, AreRows, AreShort, IsGroup, WithRows};
 
 use crate::node::Node;
+use crate::removing::remove_groups;
 use crate::row::Row;
 use crate::sorting::sort_rows;
 use htl_event::NoMemory;
 use std::alloc::Allocator;
 use std::cmp::Ordering;
 
-/// The root of the tree that counts what the rows count. Rows of one stack come together by their
-/// fingerprints, and stacks are compared once for each of these groups.
-pub fn root_of<A: Allocator + Clone>(
+/// Adds what the rows count to the tree. Where memory is refused, the tree stays the same. Rows of
+/// one stack come together by their fingerprints, and stacks are compared once for each of these
+/// groups.
+pub fn add_rows_to_root<A: Allocator + Clone>(
+    root: &mut Option<Node<A>>,
     alloc: &A,
     rows: &mut Vec<Row<'_>, A>,
     total: u64,
-) -> Result<Option<Node<A>>, NoMemory>
-    requires { AreRows rows.old.items total }
-    ensures normal { IfOk result (λ root. IsNormalRoot root) }
-    ensures counts { IfOk result (λ root. (slot : Slot) (stack : List ℕ)
-        → count_at (tree_of root) slot stack ≡ sum_at (entries_of rows.old.items) slot stack) }
+) -> Result<(), NoMemory>
+    requires normal { IsNormalRoot root.old }
+    requires rows { AreRows rows.old.items total }
+    requires fits { total_count (tree_of root.old) + total < 2 ^ 64 }
+    ensures { MatchResult result
+        (λ _. IsNormalRoot root.new
+        × WithRows (tree_of root.new) (tree_of root.old) rows.old.items)
+        (λ _. IsNormalRoot root.new × (tree_of root.new ≡ tree_of root.old)) }
 {
     sort_rows(rows);
     let mut groups = groups_of(alloc.clone()?, rows)?;
     groups.sort_unstable_by(|a, b| by_stack(a, b));
-    let mut root = None;
-    for group in &groups {
-        add_group(&mut root, alloc, group)?;
-    }
-    Ok(root)
+    add_groups(root, alloc, &groups)
 }
 
 /// Puts groups in stack order. Groups of one stack are in the order of their first slots.
@@ -95,7 +97,35 @@ fn have_one_stack(one: &Row<'_>, other: &Row<'_>) -> bool
     one.fingerprint == other.fingerprint && other.stack == one.stack
 }
 
-/// Adds the counts of the rows of one stack.
+/// Adds the counts of all groups. Where memory is refused, those that were added are taken out
+/// again.
+fn add_groups<A: Allocator + Clone>(
+    root: &mut Option<Node<A>>,
+    alloc: &A,
+    groups: &[&[Row<'_>]],
+) -> Result<(), NoMemory>
+    requires normal { IsNormalRoot root.old }
+    requires groups { AllByRecursion (λ (group : Bor (List Row)). IsGroup group.now) groups.now }
+    requires rows { AllByRecursion (λ (group : Bor (List Row)). AreShort group.now) groups.now }
+    requires fits { (slot : Slot) (stack : List ℕ)
+        → total_of (count_at (tree_of root.old) slot stack) + total_of (sum_at
+        (entries_of (flat_map (λ (group : Bor (List Row)). group.now) groups.now)) slot stack)
+        < 2 ^ 64 }
+    ensures { MatchResult result
+        (λ _. IsNormalRoot root.new × WithRows (tree_of root.new) (tree_of root.old)
+        (flat_map (λ (group : Bor (List Row)). group.now) groups.now))
+        (λ _. IsNormalRoot root.new × (tree_of root.new ≡ tree_of root.old)) }
+{
+    for (place, group) in groups.iter().enumerate() {
+        if let Err(refused) = add_group(root, alloc, group) {
+            remove_groups(root, &groups[..place]);
+            return Err(refused);
+        }
+    }
+    Ok(())
+}
+
+/// Adds the counts of the rows of one stack. Where memory is refused, the tree stays the same.
 fn add_group<A: Allocator + Clone>(
     root: &mut Option<Node<A>>,
     alloc: &A,
@@ -107,8 +137,10 @@ fn add_group<A: Allocator + Clone>(
     requires fits { (slot : Slot) (stack : List ℕ)
         → total_of (count_at (tree_of root.old) slot stack)
         + total_of (sum_at (entries_of group.now) slot stack) < 2 ^ 64 }
-    ensures { OnOk result (IsNormalRoot root.new
-        × WithRows (tree_of root.new) (tree_of root.old) group.now) }
+    ensures { MatchResult result
+        (λ _. IsNormalRoot root.new
+        × WithRows (tree_of root.new) (tree_of root.old) group.now)
+        (λ _. IsNormalRoot root.new × (tree_of root.new ≡ tree_of root.old)) }
 {
     let stack = group[0].stack;
     if let Some(root) = root {

@@ -2,6 +2,7 @@
 
 ghost use Rattle.std.specs.Prelude.{◌≡◌, List, ◌+◌, ◌<◌, ◌≤◌, ◌^◌, [], ◌∷◌, ◌++◌};
 ghost use Rattle.std.specs.Prelude.{length, true, false, IfOk, OnOk};
+ghost use Rattle.std.specs.List.{flat_map};
 ghost use Rattle.htl_event.specs.Events.{Event};
 ghost use Rattle.htl_tree.specs.Trees.{total_count};
 ghost use Rattle.htl_tree.specs.Rows.{entries_of, AreRows, HaveTally, IsOneMore};
@@ -9,7 +10,7 @@ ghost use Rattle.htl_tree.specs.Rows.{entries_of, AreRows, HaveTally, IsOneMore}
 use crate::hints::RowHints;
 use crate::node::{ZERO, add_one};
 use crate::row::Row;
-use htl_event::{NoMemory, SharedEvent, Sign, Slot};
+use htl_event::{EventList, NoMemory, SharedEvent, Sign, Slot, number_of_events};
 use std::alloc::Allocator;
 
 /// Rows that count events, and the number of these events.
@@ -21,8 +22,26 @@ pub struct Counting<'a, A: Allocator> {
 }
 
 impl<'a, A: Allocator> Counting<'a, A> {
+    /// Counts the events of all lists.
+    pub fn of<R: EventList>(alloc: &A, lists: &'a [R]) -> Result<Self, NoMemory>
+    where
+        A: Clone,
+        requires { length (flat_map R.events_of lists.now) < 2 ^ 64 }
+        ensures rows { IfOk result (λ counting. AreRows counting.rows.items counting.total) }
+        ensures tally { IfOk result (λ counting.
+            HaveTally counting.rows.items (flat_map R.events_of lists.now)) }
+        ensures total { IfOk result (λ counting.
+            counting.total ≤ length (flat_map R.events_of lists.now)) }
+    {
+        let mut counting = Counting::new(alloc, number_of_events(lists).unwrap_or(0))?;
+        for list in lists {
+            counting.count_all(list.events())?;
+        }
+        Ok(counting)
+    }
+
     /// No row yet, and hints for this many events.
-    pub fn new(alloc: &A, events: usize) -> Result<Self, NoMemory>
+    fn new(alloc: &A, events: usize) -> Result<Self, NoMemory>
     where
         A: Clone,
         ensures rows { IfOk result (λ counting. AreRows counting.rows.items counting.total) }
@@ -38,7 +57,7 @@ impl<'a, A: Allocator> Counting<'a, A> {
     }
 
     /// Counts these events.
-    pub fn count_all(&mut self, events: &'a [SharedEvent]) -> Result<(), NoMemory>
+    fn count_all(&mut self, events: &'a [SharedEvent]) -> Result<(), NoMemory>
         requires rows { AreRows self.old.rows.items self.old.total }
         requires room { self.old.total + length events.now < 2 ^ 64 }
         ensures rows { OnOk result (AreRows self.new.rows.items self.new.total) }

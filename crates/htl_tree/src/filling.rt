@@ -1,17 +1,19 @@
 //! Puts the rows of one stack into a node, all their counts by one descent.
 
-ghost use Rattle.std.specs.Prelude.{◌≡◌, ◌+◌, ◌<◌, ◌^◌, length, reverse, IfOk, OnOk};
+ghost use Rattle.std.specs.Prelude.{◌≡◌, ◌+◌, ◌<◌, ◌^◌, [], length, reverse};
+ghost use Rattle.std.specs.Prelude.{IfOk, OnOk, OnErr, MatchResult};
 ghost use Rattle.std.specs.FinMap.Entries.{put};
 ghost use Rattle.htl_event.specs.declared.slot.Slot.{Slot};
 ghost use Rattle.htl_event.specs.SlotOrder.{slot_cmp};
 ghost use Rattle.htl_event.specs.Tallies.{plus_count, total_of, IsPositive};
 ghost use Rattle.htl_sorted.specs.Entries.{IsSorted, Each};
-ghost use Rattle.htl_tree.specs.Nodes.{top, tally, count_in, IsNormal};
+ghost use Rattle.htl_tree.specs.Nodes.{top, tally, count_in, IsNormal, IsKept};
 ghost use Rattle.htl_tree.specs.Rows.{entries_of, slot_sum, Gained, IsGained, IsChain};
 
 use crate::filters::filters_of;
 use crate::node::{Node, find_frame, find_slot, insert_child, sum_of};
 use crate::row::Row;
+use crate::sums::plus_counts;
 use htl_event::{Count, NoMemory, Slot};
 use std::alloc::Allocator;
 
@@ -24,20 +26,21 @@ impl<A: Allocator + Clone> Node<A> {
         requires fits { (slot : Slot) → total_of (slot_sum slot rows.now) < 2 ^ 64 }
         ensures { IfOk result (λ node. IsChain (reverse stack.now) rows.now (top node)) }
     {
-        let mut counts = Vec::new(alloc.clone()?);
-        add_to_counts(&mut counts, rows)?;
+        let counts = counts_of(alloc.clone()?, rows)?;
         Node::leaf(alloc, counts, stack)
     }
 
-    /// Adds the counts of the rows at the end of the stack.
+    /// Adds the counts of the rows at the end of the stack. Where memory is refused, the node
+    /// counts what it did.
     pub fn add_rows(&mut self, stack: &[u64], rows: &[Row<'_>]) -> Result<(), NoMemory>
         requires normal { IsNormal (top self.old) }
         requires some { 0 < length rows.now }
         requires positive { Each IsPositive (entries_of rows.now) }
         requires fits { (slot : Slot) → total_of (tally (reverse stack.now) slot (top self.old))
             + total_of (slot_sum slot rows.now) < 2 ^ 64 }
-        ensures { OnOk result
-            (IsGained (reverse stack.now) rows.now (top self.old) (top self.new)) }
+        ensures { MatchResult result
+            (λ _. IsGained (reverse stack.now) rows.now (top self.old) (top self.new))
+            (λ _. IsKept (top self.old) (top self.new)) }
     {
         let stack = self.enter(stack)?;
         match stack.split_last() {
@@ -49,9 +52,9 @@ impl<A: Allocator + Clone> Node<A> {
             Some((frame, rest)) => match find_frame(&self.children, *frame) {
                 Ok(i) => {
                     let child = &mut self.children[i].1;
-                    child.add_rows(rest, rows)?;
+                    let added = child.add_rows(rest, rows);
                     self.filters |= child.filters;
-                    Ok(())
+                    added
                 }
                 Err(i) => {
                     let child = Node::chain(self.children.allocator(), rest, rows)?;
@@ -65,8 +68,9 @@ impl<A: Allocator + Clone> Node<A> {
     }
 }
 
-/// Adds the counts of the rows, slot by slot. Room for all is made at once.
-fn add_to_counts<A: Allocator>(
+/// Adds the counts of the rows, slot by slot. Where memory is refused, the counts stay the same.
+/// The rows are counted in a list of their own, which is merged with the old one in one pass.
+fn add_to_counts<A: Allocator + Clone>(
     counts: &mut Vec<(Slot, Count), A>,
     rows: &[Row<'_>],
 ) -> Result<(), NoMemory>
@@ -75,15 +79,31 @@ fn add_to_counts<A: Allocator>(
     requires rows { Each IsPositive (entries_of rows.now) }
     requires fits { (slot : Slot) → total_of (count_in counts.old.items slot)
         + total_of (slot_sum slot rows.now) < 2 ^ 64 }
-    ensures { OnOk result (Gained rows.now counts.old.items counts.new.items) }
+    ensures ok { OnOk result (Gained rows.now counts.old.items counts.new.items) }
+    ensures err { OnErr result (counts.new.items ≡ counts.old.items) }
 {
+    let alloc = counts.allocator().clone()?;
+    let more = counts_of(alloc.clone()?, rows)?;
     if counts.is_empty() {
-        counts.reserve_exact(rows.len())?;
+        *counts = more;
+        return Ok(());
     }
-    for row in rows {
-        add_count(counts, row.slot, row.count)?;
-    }
+    let sums = plus_counts(alloc, counts, &more)?;
+    *counts = sums;
     Ok(())
+}
+
+/// The counts of the rows by slot. Room for all is made at once.
+fn counts_of<A: Allocator>(alloc: A, rows: &[Row<'_>]) -> Result<Vec<(Slot, Count), A>, NoMemory>
+    requires rows { Each IsPositive (entries_of rows.now) }
+    requires fits { (slot : Slot) → total_of (slot_sum slot rows.now) < 2 ^ 64 }
+    ensures { IfOk result (λ counts. Gained rows.now [] counts.items) }
+{
+    let mut counts = Vec::with_capacity(alloc, rows.len())?;
+    for row in rows {
+        add_count(&mut counts, row.slot, row.count)?;
+    }
+    Ok(counts)
 }
 
 /// Adds this count to the slot's.

@@ -8,12 +8,12 @@
 //! `root.rt` (the same calls on an optional root), `node.rt` (a node, which keeps all frames up to
 //! the next fork, and adding), `filters.rt` (the slots that may be counted from a node on, as one
 //! number), `cursor.rt` (a position in the tree, where each step is one frame, and look-up),
-//! `order.rt` (the order of the two lists of a node). The tree of many events is made by
-//! rows that hints find and one descent for each stack: `counting.rt`, `hints.rt`, `row.rt`,
-//! `sorting.rt` (rows of one fingerprint brought together), `building.rt`, `filling.rt`. Then
-//! `sums.rt` (copy and plus), `compare.rt` (equality), `prefix.rt` (the prefix tally),
-//! `listing.rt` and `slot_sums.rt` (lists of counts, and their sums by slot), `laws.rt` (the
-//! canonical form).
+//! `order.rt` (the order of the two lists of a node). Many events are counted by rows that hints
+//! find and one descent for each stack: `counting.rt`, `hints.rt`, `row.rt`, `sorting.rt` (rows of
+//! one fingerprint brought together), `building.rt`, `filling.rt`, `removing.rt` (where memory is
+//! refused). Then `sums.rt` (copy and plus), `compare.rt` (equality), `prefix.rt` (the prefix
+//! tally), `listing.rt` and `slot_sums.rt` (lists of counts, and their sums by slot), `laws.rt`
+//! (the canonical form).
 //!
 //! `specs/Trees` and `specs/HasSlot` have the words of public contracts, the other files of `specs/`
 //! those of private ones.
@@ -31,6 +31,7 @@ mod listing;
 mod node;
 mod order;
 mod prefix;
+mod removing;
 mod root;
 mod row;
 mod slot_sums;

@@ -98,7 +98,8 @@ fn common_len(left: &[u64], right: &[u64]) -> usize
     len
 }
 
-fn plus_counts<A: Allocator>(
+/// The sums of both sides' counts, slot by slot.
+pub fn plus_counts<A: Allocator>(
     alloc: A,
     left: &[(Slot, Count)],
     right: &[(Slot, Count)],

@@ -1,6 +1,6 @@
 //! The tree and its public calls.
 
-use crate::building::root_of;
+use crate::building::add_rows_to_root;
 use crate::counting::Counting;
 use crate::listing::without_slot;
 use crate::node::{Node, ZERO};
@@ -10,7 +10,7 @@ use crate::root::{
 };
 use crate::slot_sums::{add_up, sort_by_slot};
 use crate::slots::Slots;
-use htl_event::{Count, EventList, NoMemory, SharedStack, Sign, Slot, Stack, number_of_events};
+use htl_event::{Count, EventList, NoMemory, SharedStack, Sign, Slot, Stack};
 use std::alloc::{Allocator, Global};
 use std::marker::Model;
 
@@ -34,7 +34,7 @@ impl<A: Allocator> Model for StackTree<A> {
 }
 
 impl<A: Allocator> StackTree<A> {
-    ghost use Rattle.std.specs.Prelude.{◌≡◌, List, ◌+◌, ◌<◌, ◌≤◌, ◌^◌, []};
+    ghost use Rattle.std.specs.Prelude.{◌≡◌, List, ◌++◌, ◌+◌, ◌<◌, ◌≤◌, ◌^◌, []};
     ghost use Rattle.std.specs.Prelude.{◌↔◌, length, IsTrue, IfOk, OnOk, OnErr};
     ghost use Rattle.htl_tree.specs.Trees.{count_at, count_under, total_count};
     ghost use Rattle.htl_tree.specs.Trees.{with_one, IsTree, IsSameTally};
@@ -64,13 +64,27 @@ impl<A: Allocator> StackTree<A> {
         ensures total { IfOk result (λ tree.
             total_count tree ≤ length (flat_map R.events_of lists.now)) }
     {
-        let mut counting = Counting::new(&alloc, number_of_events(lists).unwrap_or(0))?;
-        for list in lists {
-            counting.count_all(list.events())?;
-        }
-        let (mut rows, total) = counting.into_rows();
-        let root = root_of(&alloc, &mut rows, total)?;
-        Ok(StackTree { alloc, total, root })
+        let mut tree = StackTree::new(alloc);
+        tree.count(lists)?;
+        Ok(tree)
+    }
+
+    /// Counts the events of all lists too, whatever their order. Where memory is refused, what was
+    /// counted of them is taken out again.
+    pub fn count<R: EventList>(&mut self, lists: &[R]) -> Result<(), NoMemory>
+    where
+        A: Clone,
+        requires { total_count self.old + length (flat_map R.events_of lists.now) < 2 ^ 64 }
+        ensures tally { OnOk result ((events : List Event) → HasTally self.old events
+            → HasTally self.new (events ++ flat_map R.events_of lists.now)) }
+        ensures total { OnOk result (total_count self.new
+            ≤ total_count self.old + length (flat_map R.events_of lists.now)) }
+        ensures err { OnErr result (self.new ≡ self.old) }
+    {
+        let (mut rows, total) = Counting::of(&self.alloc, lists)?.into_rows();
+        add_rows_to_root(&mut self.root, &self.alloc, &mut rows, total)?;
+        self.total += total;
+        Ok(())
     }
 
     /// The sum of all counts.

@@ -28,6 +28,7 @@ fn try_latest(trials: &mut Trials<'_, HostRuntime>) {
     trials.changes("Latest::note", noting_handles, note_handle);
     trials.reads("Latest::join", two_latest, join_handles);
     trials.reads("Latest::join_process", two_latest, join_process);
+    trials.reads("Latest::prepare", two_latest, join_in_place);
     trials.reads("Latest::copy", latest, copy_handles);
 }
 
@@ -126,6 +127,14 @@ fn join_handles(_alloc: Global, (one, two): &(Handles, Handles)) -> Result<Handl
 /// Joins a copy of the first table.
 fn join_process(_alloc: Global, (one, two): &(Handles, Handles)) -> Result<Handles, Refusal> {
     answered(one.copy()?.join_process(two, PROCESS))
+}
+
+/// Joins copies of the tables, in the memory of the first copy.
+fn join_in_place(_alloc: Global, (one, two): &(Handles, Handles)) -> Result<Handles, Refusal> {
+    match one.copy()?.prepare(two.copy()?) {
+        Ok(joining) => Ok(joining.join()),
+        Err(_) => Err(Refusal::Memory),
+    }
 }
 
 fn join_moments<K: EventKind>(

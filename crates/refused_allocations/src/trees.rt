@@ -1,13 +1,17 @@
 //! Calls on stack trees.
 
 use allocation_trials::{Equal, Refusal, Trials, answered, both};
-use htl_event::{Count, SharedStack, Sign, Slot, number_of_events};
-use htl_samples::{SMALL, stack};
+use htl_event::{Count, SharedEvent, SharedStack, Sign, Slot, number_of_events};
+use htl_samples::{SMALL, shared_events, stack};
 use htl_segment::Segment;
 use htl_tree::{Slots, StackTree};
 use std::alloc::Global;
+use std::slice;
 
 type Tree = StackTree<Global>;
+
+/// A tree, and events that aren't counted in it yet.
+type Counting = (Tree, Equal<Vec<SharedEvent>>);
 
 /// An object and a tag of the generated trace.
 const OBJECT: u64 = 0x1010;
@@ -26,6 +30,7 @@ fn try_trees(trials: &mut Trials<'_, HostRuntime>) {
     trials.reads("StackTree::of", segments, tree_of);
     trials.changes("StackTree::add, the first", empty_tree, add);
     trials.changes("StackTree::add, a branch", tree, add);
+    trials.changes("StackTree::count", counting, count);
     trials.reads("StackTree::plus", two_trees, sum);
     trials.reads("StackTree::copy", tree, copy);
 }
@@ -68,6 +73,21 @@ fn add(_alloc: Global, tree: &mut Tree) -> Result<Equal<()>, Refusal> {
         return Err(Refusal::Other);
     }
     Equal::of(tree.add(SLOT, Sign::Plus, &stack(&[0x70, 0x60, 0x50])))
+}
+
+/// Events of a stack, of one that branches off it, and of one that begins with it.
+fn counting(alloc: Global) -> Result<Counting, Refusal> {
+    let lines = "O 997 0x44 [0x30 0x20 0x10], C 998 0x44 [0x40 0x20 0x10], \
+        O 999 0x44 [0x50 0x30 0x20 0x10]";
+    both(tree(alloc), Equal::of(shared_events(alloc, lines)))
+}
+
+fn count(_alloc: Global, (tree, events): &mut Counting) -> Result<Equal<()>, Refusal> {
+    let lists = slice::from_ref(&events.0);
+    match number_of_events(lists) {
+        Some(more) if tree.fits(more as u64) => Equal::of(tree.count(lists)),
+        _ => Err(Refusal::Other),
+    }
 }
 
 fn sum(_alloc: Global, (one, two): &(Tree, Tree)) -> Result<Tree, Refusal> {

@@ -209,6 +209,17 @@ fn two_joined(rt: HostRuntime) {
     }
 }
 
+/// The join of copies of two tables, which was prepared.
+fn joined_in_place(
+    first: &Latest<Global>,
+    second: &Latest<Global>,
+) -> Result<Latest<Global>, NoMemory> {
+    match first.copy()?.prepare(second.copy()?) {
+        Ok(joining) => Ok(joining.join()),
+        Err(_) => Err(NoMemory),
+    }
+}
+
 /// The join of two tables is the first or the second, and so is what was gathered of both.
 fn are_joined(
     rt: &impl Abort,
@@ -220,6 +231,7 @@ fn are_joined(
     let joined = if stays { first } else { second };
     assert_is(rt, first.same(second), false);
     is_same(rt, first.join(second), joined);
+    is_same(rt, joined_in_place(first, second), joined);
     is_same(rt, gathered, joined);
 }
 

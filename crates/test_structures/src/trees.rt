@@ -9,6 +9,7 @@ use htl_samples::stack;
 use htl_tree::{Slots, StackTree};
 use std::alloc::{Allocator, Global};
 use std::process::Abort;
+use std::slice;
 
 const SLOT: Slot = Slot::Tagged {
     object: 0x1000,
@@ -369,7 +370,23 @@ fn try_of<A: Allocator + Clone>(
     StackTree::of(alloc, runs)
 }
 
-// The tree that is made at once is that of the events one by one.
+// The tree that counts one run after the other, if there is memory.
+fn try_count<A: Allocator + Clone>(
+    rt: &impl Abort,
+    alloc: A,
+    runs: &[Vec<SharedEvent>],
+) -> Result<StackTree<A>, NoMemory> {
+    let mut tree = StackTree::new(alloc);
+    for run in runs {
+        let lists = slice::from_ref(run);
+        let more = number_of_events(lists).expect(rt, "a number of 64 bits");
+        assert!(rt; tree.fits(more as u64));
+        tree.count(lists)?;
+    }
+    Ok(tree)
+}
+
+// The tree that is made at once, or run by run, is that of the events one by one.
 fn is_made_as_noted<A: Allocator + Clone + Copy>(
     rt: &impl Abort,
     alloc: A,
@@ -378,6 +395,7 @@ fn is_made_as_noted<A: Allocator + Clone + Copy>(
     let noted = noted(rt, alloc, runs);
     assert_is(rt, noted.total() > 40, true);
     assert_is(rt, is_same(try_of(rt, alloc, runs), &noted), true);
+    assert_is(rt, is_same(try_count(rt, alloc, runs), &noted), true);
 }
 
 #[test]

@@ -1,14 +1,14 @@
 -- All rows of a group have its first row's stack.
 use Rattle.std.proofs.Common.{◌+◌, ◌<◌, ◌^◌}
-use Rattle.std.proofs.Common.{get_or, Some, sym, ap, subst, arith}
-use Rattle.std.proofs.lemmas.Result.{on_ok_weaker}
+use Rattle.std.proofs.Common.{get_or, Some, sym, ap, ◌∙◌, subst, arith}
 use Rattle.htl_event.specs.Tallies.{total_of}
 use Rattle.htl_tree.specs.Trees.{count_at}
 use Rattle.htl_tree.specs.Nodes.{top, tree_of, IsNormalRoot}
 use Rattle.htl_tree.specs.Rows.{entries_of, sum_at, slot_sum, WithRows}
 use Rattle.htl_tree.proofs.RowsOneMore.{no_row}
 use Rattle.htl_tree.proofs.RowGroups.{gained_tree, chain_tree, group_sum, first_alike, first_short}
-use Rattle.htl_tree.proofs.Roots.{count_tree}
+use Rattle.htl_tree.proofs.CountAdded.{match_result}
+use Rattle.htl_tree.proofs.Roots.{count_tree, kept_tree}
 use Rattle.htl_tree.proofs.building.add_group.Goals as goal
 
 pub add_rows-requires-clause-fits : goal.add_rows-requires-clause-fits
@@ -30,10 +30,12 @@ returns-in-Some g c =
     let rows = c.args.group.now in
     let stack = (get_or rows 0 no_row).stack.now in
     let h : IsNormalRoot (Some c.in-Some.root) = subst (λ r. IsNormalRoot r) c.in-Some.is c.requires.normal in
-    on_ok_weaker c.add_rows.result (λ gained.
-    let now = gained_tree (top c.in-Some.root) (top c.add_rows.new.self) h stack (first_short rows c.requires.group c.requires.rows) rows
+    match_result c.add_rows.result c.add_rows.ensures
+    (λ x gained. let now = gained_tree (top c.in-Some.root) (top c.add_rows.new.self) h stack
+    (first_short rows c.requires.group c.requires.rows) rows
     c.requires.group.some c.requires.rows.positive (first_alike rows c.requires.group) gained in
-    (now.0, subst (λ r. WithRows (tree_of (Some c.add_rows.new.self)) (tree_of r) rows) (sym c.in-Some.is) now.1)) c.add_rows.ensures
+    (now.0, subst (λ r. WithRows (tree_of (Some c.add_rows.new.self)) (tree_of r) rows) (sym c.in-Some.is) now.1))
+    (λ x kept. let now = kept_tree (top c.in-Some.root) (top c.add_rows.new.self) h kept in (now.0, now.1 ∙ ap (λ r. tree_of r) (sym c.in-Some.is)))
 
 pub chain-requires-clause-fits : goal.chain-requires-clause-fits
 chain-requires-clause-fits g c slot =

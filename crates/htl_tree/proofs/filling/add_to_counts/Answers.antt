@@ -1,29 +1,17 @@
--- The counts gain one row more.
-use Rattle.std.proofs.Common.{List, take, get_or, refl, sym, ap, subst, arith}
-use Rattle.std.proofs.lemmas.List.{take_more}
-use Rattle.htl_event.specs.Tallies.{total_of}
-use Rattle.htl_tree.specs.declared.row.Row.{Row}
-use Rattle.htl_tree.specs.Rows.{Gained}
-use Rattle.htl_tree.proofs.RowsAdded.{sum_room, gained_more}
-use Rattle.htl_tree.proofs.RowsOneMore.{no_row, row_positive}
+-- Counts that are merged with those of the rows gained the rows.
+use Rattle.std.proofs.Common.{ap, ◌∙◌}
+use Rattle.std.specs.FinMap.Entries.{find}
+use Rattle.htl_event.specs.SlotOrder.{slot_cmp}
+use Rattle.htl_event.specs.Tallies.{plus_count}
+use Rattle.htl_sorted.specs.Entries.{joined_at}
+use Rattle.htl_tree.proofs.RowsAdded.{gained_merged}
 use Rattle.htl_tree.proofs.filling.add_to_counts.Goals as goal
 
-pub add_count-requires-clause-fits : goal.add_count-requires-clause-fits
-add_count-requires-clause-fits g c =
-    let rows = c.args.rows.now in
-    let i = c.loop-row.row-index in
-    let row : Row = get_or rows i no_row in
-    let room = sum_room rows i no_row row.slot c.loop-row-test.true refl in
-    let now = ap total_of (c.loop-row.invariant.counts row.slot) in
-    let fits = c.requires.fits row.slot in
-    omega (arith, room, now, fits)
-
-pub loop-row-preserved : goal.loop-row-preserved
-loop-row-preserved g c =
-    let rows = c.args.rows.now in
-    let i = c.loop-row.row-index in
-    let row : Row = get_or rows i no_row in
-    subst (λ (l : List Row). Gained l c.args.counts.now.items c.add_count.new.counts.items)
-    (sym (take_more rows i no_row c.loop-row-test.true))
-    (gained_more (take i rows) row c.args.counts.now.items c.loop-row.counts.items c.add_count.new.counts.items c.loop-row.invariant
-    (row_positive rows i c.requires.rows c.loop-row-test.true) c.in_ok-add_count.ensures)
+pub returns-clause-ok : goal.returns-clause-ok
+returns-clause-ok g c =
+    let old = c.args.counts.now.items in
+    let more = c.in_ok-more.more.items in
+    gained_merged c.args.rows.now old more c.in_ok-sums.sums.items c.requires.positive c.in_ok-more.ensures c.in_ok-sums.ensures.sorted
+    (λ slot. c.in_ok-sums.ensures.values slot
+    ∙ ap (λ es. joined_at plus_count (find slot_cmp slot es) (find slot_cmp slot c.deref-2.result.now)) c.deref.ensures.value
+    ∙ ap (λ es. joined_at plus_count (find slot_cmp slot old) (find slot_cmp slot es)) c.deref-2.ensures.value)

@@ -11,11 +11,8 @@ use Rattle.htl_tree.proofs.node.Node.chain.Goals as goal
 pub returns : goal.returns
 returns g c =
     let rows = c.args.rows.now in
-    let gained : Gained rows [] c.add_to_counts.new.counts.items =
-    subst (λ (l : List (Slot × Count)). Gained rows l c.add_to_counts.new.counts.items) c.new-counts.ensures.items
-    c.in_ok-add_to_counts.ensures in
     if_parts (λ n. IsChain (reverse c.args.stack.now) rows (top n)) _ _ c.leaf.result
     c.leaf.ensures.frames c.leaf.ensures.counts c.leaf.ensures.children c.leaf.ensures.filters
     (λ n first counts children filtered. subst (λ l. IsChain l rows (top n)) first
     (chain_top rows (some_slot rows c.requires.some c.requires.positive) n (chain_end (inside n) rows (ap tops children)
-    (subst (λ (l : List (Slot × Count)). Gained rows [] l) (sym counts) gained) filtered)))
+    (subst (λ (l : List (Slot × Count)). Gained rows [] l) (sym counts) c.in_ok-counts.ensures) filtered)))

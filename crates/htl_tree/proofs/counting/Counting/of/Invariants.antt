@@ -2,7 +2,7 @@
 use Rattle.std.proofs.Common.{◌≤◌, take, length}
 use Rattle.std.specs.List.{flat_map}
 use Rattle.htl_tree.specs.Rows.{AreRows, HaveTally}
-use Rattle.htl_tree.proofs.tree.StackTree.of.Given as goal
+use Rattle.htl_tree.proofs.counting.Counting.of.Given as goal
 
 abbrev pub invariant-loop-list : goal.invariant-loop-list
 invariant-loop-list g l = record {

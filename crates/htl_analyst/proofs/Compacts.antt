@@ -39,7 +39,7 @@ nothing_to_fold a p is lt none =
           ∙ ap (λ (x : Part). state a.trace_id a.processors (slice_set a.taken p q) (slice_set a.parts p x)) held
           ∙ ap (λ (ps : List Numbers). state a.trace_id a.processors ps (slice_set a.parts p k)) (set-get_or a.taken p no_numbers)
           ∙ ap (λ (ks : List Part). state a.trace_id a.processors a.taken ks) (set-get_or a.parts p no_part));
-      joins = λ events zero old.
+      joins = λ events old.
           let empty : events ++ run_of a p ≡ events = ap (λ (n : ℕ). events ++ all_events (take n k.held)) none ∙ append-nil events in
           subst (IsFolded k.folded) (sym empty) old;
       bounded = λ most old. IsWithin-above most (most + 4096 * run_length a p) k.folded old (omega arith);

@@ -23,7 +23,6 @@ use Rattle.htl_analyst.specs.StepParts.{run_length, run_of, settled_with, IsComp
 use Rattle.htl_analyst.proofs.Lists.{all-drop, all-take, length-take-le}
 use Rattle.htl_analyst.proofs.Held.{number}
 use Rattle.htl_analyst.proofs.Runs.{IsRunFrom, events_of-run, run_taken, run_has}
-use Rattle.htl_analyst.proofs.Fresh.{run_events-0}
 use Rattle.htl_taken.proofs.Members.{Contains-drop}
 use Rattle.htl_analyst.proofs.Updates.{place-set_other, part-set_same, part-set_other, IsState-updated, IsRight-updated}
 use Rattle.htl_taken.proofs.NumberSets.{numbers_at-set_same}
@@ -134,22 +133,17 @@ module _ (a : State) (p : ℕ) (is : IsState a) (lt : p < a.processors) (folded 
               (s.0, at_member (Contains T.segments) (take k hs) s.0 run_in_trace s.1, s.2, s.3)
         ]
 
-    none_below : q.front ≡ 0 → run_events T p q.front ≡ []
-    none_below e = ap (λ (f : ℕ). run_events T p f) e ∙ run_events-0 p T.segments
-
     -- what is right about a processor stays so where its run is folded and its front moved
-    pub IsRightAt-settled : ((events : List Event) → (q.front ≡ 0 → events ≡ []) → IsFolded (folded_at a.parts p) events
-        → IsFolded folded (events ++ run_of a p))
+    pub IsRightAt-settled : ((events : List Event) → IsFolded (folded_at a.parts p) events → IsFolded folded (events ++ run_of a p))
         → IsRightAt T p (settled q) (part (drop k hs) folded)
     IsRightAt-settled joins = record {
       complete = complete;
       held = all-drop (Contains T.segments) k hs old.held;
-      folded = subst (IsFolded folded) (sym grown) (joins (run_events T p q.front) none_below old.folded);
+      folded = subst (IsFolded folded) (sym grown) (joins (run_events T p q.front) old.folded);
     }
 
     pub IsRight-settled : IsWithin (4096 * reach_of q) folded
-        → ((events : List Event) → (q.front ≡ 0 → events ≡ []) → IsFolded (folded_at a.parts p) events
-        → IsFolded folded (events ++ run_of a p))
+        → ((events : List Event) → IsFolded (folded_at a.parts p) events → IsFolded folded (events ++ run_of a p))
         → IsRight (settled_with a p folded) T
     IsRight-settled bounded joins =
         IsRight-updated a p (settled q) (part (drop k hs) folded) is lt T right (settled_part bounded) (IsRightAt-settled joins)

@@ -4,7 +4,6 @@ pub mod Updates
 pub mod Takes
 pub mod Holds
 pub mod Fresh
-pub mod Joined
 pub mod Runs
 pub mod Folds
 pub mod Counted

@@ -15,7 +15,7 @@ use Rattle.htl_taken.proofs.Reaching.{reach_from-ge}
 use Rattle.htl_analyst.specs.States.{Folded, Part, no_part, part_at, held_at, State, state}
 use Rattle.htl_analyst.specs.Keys.{HasTaken}
 use Rattle.htl_analyst.specs.Right.{IsPart, IsState, IsRightAt, IsRight}
-use Rattle.htl_analyst.specs.StepParts.{run_length, CanFold, IsFoldedWith, IsRunFolded, IsWorked, IsFurtherAt, IsFurther, run_at, moved}
+use Rattle.htl_analyst.specs.StepParts.{run_length, CanFold, IsRunFolded, IsWorked, IsFurtherAt, IsFurther, run_at, moved}
 use Rattle.htl_analyst.proofs.Held.{length-numbers}
 use Rattle.htl_analyst.proofs.Folds.{run_within, run_few, totals_fit, settled_part, within_reach, IsRightAt-settled}
 use Rattle.htl_analyst.proofs.Counted.{size-settled, sum_by-agree}
@@ -31,22 +31,13 @@ can_fold id count p q k is = record {
   fits = totals_fit id count p q k is;
 }
 
--- the run and the fold that were read of the state's fields are those of the state
+-- the run that was read of the state's fields is that of the state
 module _ {old : State} (a : State) (p reach front : ℕ) where
   -- the distance of a reach and a front that were read of the state is the length of the run
   pub run_read : old ≡ a → reach ≡ reach_of (numbers_at old.taken p) → front ≡ front_at old.taken p → reach - front ≡ run_length a p
   run_read is r f =
       ap (λ (n : ℕ). n - front) r ∙ ap (λ (n : ℕ). reach_of (numbers_at old.taken p) - n) f
       ∙ ap (λ (x : State). run_length x p) is
-
-module _ {old : State} (a : State) (p reach front : ℕ) (k : Part) (d : Folded) where
-  -- a fold of what was read of the state is the fold of the processor's run
-  pub fold_read : old ≡ a → reach ≡ reach_of (numbers_at old.taken p) → front ≡ front_at old.taken p → k ≡ part_at a.parts p
-      → IsFoldedWith front (reach - front) k d → IsFoldedWith (front_at a.taken p) (run_length a p) (part_at a.parts p) d
-  fold_read is r f ek w =
-      subst (λ (n : ℕ). IsFoldedWith n (run_length a p) (part_at a.parts p) d) (f ∙ ap (λ (x : State). front_at x.taken p) is)
-      (subst (λ (n : ℕ). IsFoldedWith front n (part_at a.parts p) d) (run_read a p reach front is r f)
-      (subst (λ (l : Part). IsFoldedWith front (reach - front) l d) ek w))
 
 -- ---- the fronts
 
@@ -66,11 +57,11 @@ further_at id count p q k l is worked =
           let held : length l.held ≡ length k.held = ap (λ (x : Part). length x.held) kept in
           inl (rw (le-ltb (length l.held) (length q.loose) (omega (arith, held, same, len))) refl, kept)
       | inr f ↦
-          let held : length l.held ≡ length (drop (run_at q) k.held) = ap (λ (x : Part). length x.held) f.is in
+          let held : length l.held ≡ length (drop (run_at q) k.held) = ap (λ (x : Part). length x.held) f.1.is in
           let rest = length-drop (run_at q) k.held in
           let within = run_within id count p q k is in
-          let some = f.some in
-          inr (rw (lt-ltb (length l.held) (length q.loose) (omega (arith, held, rest, within, some, same, len))) refl, f)
+          let some = f.0 in
+          inr (rw (lt-ltb (length l.held) (length q.loose) (omega (arith, held, rest, within, some, same, len))) refl, f.1)
     ]
 
 -- ---- the state
@@ -100,7 +91,7 @@ module _ (a b : State) (is : IsState a) (f : IsFurther a b) where
   -- a processor that isn't there has nothing before and after
   everywhere : (p : ℕ) → ((numbers_at b.taken p ≡ numbers_at a.taken p) × (part_at b.parts p ≡ part_at a.parts p))
       ⊎ ((p < a.processors) × (numbers_at b.taken p ≡ settled (numbers_at a.taken p))
-      × IsRunFolded (numbers_at a.taken p) (part_at a.parts p) (part_at b.parts p))
+      × IsRunFolded (run_at (numbers_at a.taken p)) (part_at a.parts p) (part_at b.parts p))
   everywhere p =
       elim (cases_lt p a.processors) [
         | inl lt ↦ elim (f.each p lt) [ inl kept ↦ inl kept | inr more ↦ inr (lt, more.0, more.1) ]
@@ -121,7 +112,7 @@ module _ (a b : State) (is : IsState a) (f : IsFurther a b) where
         | inl kept ↦ rw (kept.0, kept.1) (is.each p lt)
         | inr more ↦
             let d = more.2.folded in
-            rw (more.1, more.2.is) (settled_part a p is lt d (within_reach a p is lt d more.2.with_run.bounded))
+            rw (more.1, more.2.is) (settled_part a p is lt d (within_reach a p is lt d more.2.bounded))
       ]
 
   -- a state some of whose runs were folded and whose fronts moved over them is a state
@@ -142,7 +133,7 @@ module _ (a b : State) (is : IsState a) (f : IsFurther a b) where
   right_further T right p lt =
       elim (everywhere p) [
         | inl kept ↦ rw (kept.0, kept.1) (right.each p lt)
-        | inr more ↦ rw (more.1, more.2.is) (IsRightAt-settled a p is lt more.2.folded T right more.2.with_run.joins)
+        | inr more ↦ rw (more.1, more.2.is) (IsRightAt-settled a p is lt more.2.folded T right more.2.joins)
       ]
 
   IsRight-further : (T : Trace) → IsRight a T → IsRight b T

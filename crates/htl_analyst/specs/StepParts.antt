@@ -46,8 +46,7 @@ settled_with a p folded =
 pub record IsCompactedAt (a b : State) (p : ℕ) : Type 0 where
   pub folded : Folded
   pub is : b ≡ settled_with a p folded
-  pub joins : (events : List Event) → (front_at a.taken p ≡ 0 → events ≡ []) → IsFolded (folded_at a.parts p) events
-      → IsFolded folded (events ++ run_of a p)
+  pub joins : (events : List Event) → IsFolded (folded_at a.parts p) events → IsFolded folded (events ++ run_of a p)
   pub bounded : (most : ℕ) → IsWithin most (folded_at a.parts p) → IsWithin (most + 4096 * run_length a p) folded
 
 -- ---- of a compaction by several workers
@@ -65,22 +64,16 @@ pub record CanFold (run : ℕ) (k : Part) : Type 0 where
   pub bounded : IsWithin most k.folded
   pub fits : most + 4096 * run < 2 ^ 64
 
--- the fold of what was folded and of the first held segments, of these alone where the front is 0
-pub record IsFoldedWith (front run : ℕ) (k : Part) (folded : Folded) : Type 0 where
-  pub joins : (events : List Event) → (front ≡ 0 → events ≡ []) → IsFolded k.folded events
-      → IsFolded folded (events ++ all_events (take run k.held))
+-- the first `run` held segments are folded in the part, and no longer held
+pub record IsRunFolded (run : ℕ) (k l : Part) : Type 0 where
+  pub folded : Folded
+  pub is : l ≡ part (drop run k.held) folded
+  pub joins : (events : List Event) → IsFolded k.folded events → IsFolded folded (events ++ all_events (take run k.held))
   pub bounded : (most : ℕ) → IsWithin most k.folded → IsWithin (most + 4096 * run) folded
 
--- the part's run, which is not empty, is folded in it
-pub record IsRunFolded (q : Numbers) (k l : Part) : Type 0 where
-  pub some : 0 < run_at q
-  pub folded : Folded
-  pub is : l ≡ part (drop (run_at q) k.held) folded
-  pub with_run : IsFoldedWith q.front (run_at q) k folded
-
--- a part that a worker had: its run is folded, or it is as it was
+-- a part that a worker had: its run, which is not empty, is folded, or it is as it was
 abbrev pub IsWorked : Numbers → Part → Part → Type 0
-IsWorked q k l = (l ≡ k) ⊎ IsRunFolded q k l
+IsWorked q k l = (l ≡ k) ⊎ ((0 < run_at q) × IsRunFolded (run_at q) k l)
 
 -- the front moved if the run was folded in the part, which then holds fewer segments than there are loose numbers
 abbrev pub moved : Numbers → Part → Numbers
@@ -88,7 +81,7 @@ moved q l = if nat_lt (length l.held) (length q.loose) then settled q else q
 
 -- of one processor: the run is folded and the front moved over it, or nothing changed
 abbrev pub IsFurtherAt : Numbers → Part → Numbers → Part → Type 0
-IsFurtherAt q k r l = ((r ≡ q) × (l ≡ k)) ⊎ ((r ≡ settled q) × IsRunFolded q k l)
+IsFurtherAt q k r l = ((r ≡ q) × (l ≡ k)) ⊎ ((r ≡ settled q) × IsRunFolded (run_at q) k l)
 
 -- the runs of some processors are folded, and their fronts moved over them
 pub record IsFurther (a b : State) : Type 0 where

@@ -5,7 +5,6 @@ ghost use Rattle.htl_analyst.specs.States.{part_at};
 ghost use Rattle.htl_analyst.specs.StepParts.{CanFold, IsWorked, run_at, moved};
 
 use crate::analyst::Analyst;
-use crate::folded::Folded;
 use crate::part::Part;
 use htl_event::NoMemory;
 use htl_segment::Segment;
@@ -14,11 +13,9 @@ use std::alloc::{Allocator, Global};
 use std::thread::{Threads, for_each_mut};
 
 impl<A: Allocator + Clone> Analyst<A> {
-    ghost use Rattle.std.specs.Prelude.{◌≡◌, ◌<◌, ◌+◌, ◌*◌, ℕ, OnOk, OnErr};
+    ghost use Rattle.std.specs.Prelude.{◌≡◌, ◌<◌, OnOk, OnErr};
     ghost use Rattle.htl_analyst.specs.Compactions.{Compacts};
-    ghost use Rattle.htl_analyst.specs.States.{folded_at};
-    ghost use Rattle.htl_analyst.specs.Right.{IsWithin};
-    ghost use Rattle.htl_analyst.specs.StepParts.{IsCompactedAt, run_length, settled_with};
+    ghost use Rattle.htl_analyst.specs.StepParts.{IsCompactedAt};
 
     /// Moves every front to the least number that wasn't taken. The held segments below it are
     /// folded and dropped. After out of memory some fronts may have moved, and the keys are as
@@ -43,21 +40,9 @@ impl<A: Allocator + Clone> Analyst<A> {
         if run == 0 {
             return Ok(());
         }
-        let folded = self.part(processor).folded_with(front, run)?;
-        self.settle(processor, run, folded);
-        Ok(())
-    }
-
-    /// Moves the front of one processor to its reach, and keeps the fold of all segments below it.
-    fn settle(&mut self, processor: u16, run: usize, folded: Folded<A>)
-        requires here { processor < self.old.processors }
-        requires run { run ≡ run_length self.old processor }
-        requires bounded { (most : ℕ) → IsWithin most (folded_at self.old.parts processor)
-            → IsWithin (most + 4096 * run_length self.old processor) folded }
-        ensures { self.new ≡ settled_with self.old processor folded }
-    {
+        self.parts[usize::from(processor)].fold(run)?;
         self.taken.settle(processor);
-        self.parts[usize::from(processor)].settle(run, folded);
+        Ok(())
     }
 }
 
@@ -122,9 +107,8 @@ fn fold_part(taken: &Taken<Global>, processor: u16, part: &mut Part<Global>)
     if run == 0 {
         return;
     }
-    if let Ok(folded) = part.folded_with(front, run) {
-        part.settle(run, folded);
-    }
+    // A part for whose run there is no memory is left to `compact`.
+    let _ = part.fold(run);
 }
 
 /// Moves the fronts over the runs that were folded.
@@ -151,32 +135,20 @@ fn move_front(taken: &mut Taken<Global>, part: &Part<Global>, processor: u16)
 }
 
 impl<A: Allocator + Clone> Part<A> {
-    ghost use Rattle.std.specs.Prelude.{◌≡◌, ◌≤◌, length, drop, IfOk};
-    ghost use Rattle.htl_analyst.specs.States.{part};
-    ghost use Rattle.htl_analyst.specs.StepParts.{CanFold, IsFoldedWith};
+    ghost use Rattle.std.specs.Prelude.{◌≡◌, OnOk, OnErr};
+    ghost use Rattle.htl_analyst.specs.StepParts.{CanFold, IsRunFolded};
 
-    /// The fold of the part with its first held segments folded too. Where the front is 0 nothing
-    /// was folded before.
-    fn folded_with(&self, front: u32, run: usize) -> Result<Folded<A>, NoMemory>
-        requires { CanFold run self.now }
-        ensures { IfOk result (IsFoldedWith front run self.now) }
+    /// Folds the first held segments, and drops them. Where memory is refused, the part stays as it
+    /// was.
+    fn fold(&mut self, run: usize) -> Result<(), NoMemory>
+        requires { CanFold run self.old }
+        ensures ok { OnOk result (IsRunFolded run self.old self.new) }
+        ensures err { OnErr result (self.new ≡ self.old) }
     {
         let alloc = self.held.allocator().clone()?;
-        let newer = Folded::of(alloc, &self.held()[..run])?;
-        if front == 0 {
-            return Ok(newer);
-        }
-        let both = self.folded().joined(&newer)?;
-        Ok(both)
-    }
-
-    /// Keeps a fold in which the first held segments are, and drops these.
-    fn settle(&mut self, run: usize, folded: Folded<A>)
-        requires { run ≤ length self.old.held }
-        ensures { self.new ≡ part (drop run self.old.held) folded }
-    {
-        self.folded = folded;
+        self.folded.fold(alloc, &self.held[..run])?;
         drop_front(&mut self.held, run);
+        Ok(())
     }
 }
 

@@ -6,6 +6,7 @@ use htl_tables::{Exits, Latest, Marks};
 use htl_tree::StackTree;
 use std::alloc::Allocator;
 use std::marker::Model;
+use std::mem;
 
 /// Counts by stack, the latest event of each handle, the mark and the last exit of each process,
 /// the greatest sequence, and the number of events.
@@ -97,7 +98,8 @@ impl<A: Allocator> Folded<A> {
 }
 
 impl<A: Allocator + Clone> Folded<A> {
-    ghost use Rattle.std.specs.Prelude.{◌≡◌, ◌++◌, ◌<◌, ◌+◌, ◌^◌, ℕ, List, length, IfOk};
+    ghost use Rattle.std.specs.Prelude.{◌≡◌, ◌++◌, ◌<◌, ◌+◌, ◌^◌, ℕ, List, length};
+    ghost use Rattle.std.specs.Prelude.{IfOk, OnOk, OnErr};
     ghost use Rattle.htl_event.specs.Events.{Event};
     ghost use Rattle.htl_segment.specs.Traces.{all_events};
     ghost use Rattle.htl_tree.specs.Trees.{total_count};
@@ -118,40 +120,38 @@ impl<A: Allocator + Clone> Folded<A> {
         })
     }
 
-    /// The fold of the segments' events.
-    pub fn of(alloc: A, segments: &[Segment]) -> Result<Folded<A>, NoMemory>
-        requires { length (all_events segments.now) < 2 ^ 64 }
-        ensures folded { IfOk result (λ f. IsFolded f (all_events segments.now)) }
-        ensures bounded { IfOk result (IsWithin (length (all_events segments.now))) }
+    /// Folds the segments' events too. Where memory is refused, the fold stays as it was. The tree
+    /// counts them last: nothing can be refused after that.
+    pub fn fold(&mut self, alloc: A, segments: &[Segment]) -> Result<(), NoMemory>
+        requires counts { total_count self.old.tree + length (all_events segments.now) < 2 ^ 64 }
+        requires events { self.old.events + length (all_events segments.now) < 2 ^ 64 }
+        ensures folded { OnOk result ((events : List Event) → IsFolded self.old events
+            → IsFolded self.new (events ++ all_events segments.now)) }
+        ensures bounded { OnOk result ((most : ℕ) → IsWithin most self.old
+            → IsWithin (most + length (all_events segments.now)) self.new) }
+        ensures err { OnErr result (self.new ≡ self.old) }
     {
-        Ok(Folded {
-            tree: StackTree::of(alloc.clone()?, segments)?,
-            latest: Latest::of(alloc.clone()?, segments)?,
-            marks: Marks::of(alloc.clone()?, segments)?,
-            exits: Exits::of(alloc, segments)?,
-            last_sequence: greatest_sequence(segments),
-            events: events_in(segments),
-        })
-    }
-
-    /// The fold of the events of both.
-    pub fn joined(&self, other: &Folded<A>) -> Result<Folded<A>, NoMemory>
-        requires counts { total_count self.now.tree + total_count other.now.tree < 2 ^ 64 }
-        requires events { self.now.events + other.now.events < 2 ^ 64 }
-        ensures folded { IfOk result (λ f. (events more : List Event)
-            → IsFolded self.now events → IsFolded other.now more
-            → IsFolded f (events ++ more)) }
-        ensures bounded { IfOk result (λ f. (most more : ℕ)
-            → IsWithin most self.now → IsWithin more other.now → IsWithin (most + more) f) }
-    {
-        Ok(Folded {
-            tree: self.tree.plus(&other.tree)?,
-            latest: self.latest.join(&other.latest)?,
-            marks: self.marks.join(&other.marks)?,
-            exits: self.exits.join(&other.exits)?,
-            last_sequence: self.last_sequence.max(other.last_sequence),
-            events: self.events + other.events,
-        })
+        let newer = Latest::of(alloc.clone()?, segments)?;
+        let marks = self.marks.join(&Marks::of(alloc.clone()?, segments)?)?;
+        let exits = self.exits.join(&Exits::of(alloc.clone()?, segments)?)?;
+        let older = mem::replace(&mut self.latest, Latest::new(alloc));
+        let joining = match older.prepare(newer) {
+            Ok(joining) => joining,
+            Err(latest) => {
+                self.latest = latest;
+                return Err(NoMemory);
+            }
+        };
+        if let Err(refused) = self.tree.count(segments) {
+            self.latest = joining.back();
+            return Err(refused);
+        }
+        self.latest = joining.join();
+        self.marks = marks;
+        self.exits = exits;
+        self.last_sequence = self.last_sequence.max(greatest_sequence(segments));
+        self.events += events_in(segments);
+        Ok(())
     }
 
     /// An equal value, under clones of the allocator.

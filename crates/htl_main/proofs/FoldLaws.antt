@@ -261,14 +261,13 @@ module _ (segments : List Content) (a : State) (T : Trace) (took : HasTakenAll s
             (at.0, (all.members at.0).0 at.1, own, low, found.0, at.3, found.2)
       ]
 
--- Segments from before were folded as far as they could be, and others taken since: one more is accepted that the analyst takes.
-
 -- what an analyst took is of the trace of each segment of its trace
 are_of_trace : (segments : List Content) (a : State) (s : Content) → HasTakenAll segments a → s.trace_id ≡ a.trace_id
     → s.processors ≡ a.processors → AreOfTraceOf segments s
 are_of_trace segments a s took id count = each_member (λ t. (t.trace_id ≡ s.trace_id) × (t.processors ≡ s.processors)) segments
     (λ t has. (let ids = at_member (AreIdsOf a) segments t took.ids has in (ids.0 ∙ sym id, ids.1 ∙ sym count)))
 
+-- Segments from before were folded as far as they could be, and others taken since: one more is accepted that the analyst takes.
 module _ (before earlier : List Content) (a : State) where
   -- an unbroken run from before is below the fronts
   front_above : (first : Option State) → AreFolded first before → KeepsAll first (Some a) → (t : Content) → IsFirstOf before t

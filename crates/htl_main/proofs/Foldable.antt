@@ -311,7 +311,7 @@ compacted_at a p is lt =
       record {
         folded = fold.0;
         is = refl;
-        joins = λ events zero old. fold.1.joins events old;
+        joins = fold.1.joins;
         bounded = λ most old.
             let count = old.counts in
             let events = old.events in

@@ -89,13 +89,13 @@ notes_said true job completed =
     absence_said (absent_subject job.question completed.has_subject)
     ++ (gaps_said completed.coverage job.until ++ cut_said completed.cut)
 
--- These things were said, one after the other, and nothing else.
+-- These messages were given, one after the other, and nothing else.
 abbrev pub HearsAll : Option (List Message) → Option (List Message) → List Message → Type 0
-HearsAll old new sayings = IfSome old (λ said. new ≡ Some (said ++ sayings))
+HearsAll old new messages = IfSome old (λ said. new ≡ Some (said ++ messages))
 
--- This was said, and nothing else.
+-- This message was given, and nothing else.
 abbrev pub Hears : Option (List Message) → Option (List Message) → Message → Type 0
-Hears old new saying = HearsAll old new (saying ∷ [])
+Hears old new message = HearsAll old new (message ∷ [])
 
 -- It was said that the run of the command begins and then that it has ended, and nothing else.
 abbrev pub HearsRun : Command → Option (List Message) → Option (List Message) → Type 0

@@ -12,7 +12,7 @@ use Rattle.htl_taken.proofs.Members.{Contains-drop}
 use Rattle.htl_taken.proofs.NumberSets.{numbers_at-past}
 use Rattle.htl_taken.proofs.Numbers.{Has-settled}
 use Rattle.htl_taken.proofs.Reaching.{reach_from-ge}
-use Rattle.htl_analyst.specs.States.{Folded, Part, no_part, part_at, held_at, State, state}
+use Rattle.htl_analyst.specs.States.{Part, no_part, part_at, held_at, State, state}
 use Rattle.htl_analyst.specs.Keys.{HasTaken}
 use Rattle.htl_analyst.specs.Right.{IsPart, IsState, IsRightAt, IsRight}
 use Rattle.htl_analyst.specs.StepParts.{run_length, CanFold, IsRunFolded, IsWorked, IsFurtherAt, IsFurther, run_at, moved}

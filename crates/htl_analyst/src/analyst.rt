@@ -6,7 +6,6 @@ use crate::MAX_PROCESSORS;
 use crate::fault::AnalystFault;
 use crate::part::Part;
 use htl_event::NoMemory;
-use htl_segment::Segment;
 use htl_taken::Taken;
 use std::alloc::Allocator;
 use std::marker::Model;

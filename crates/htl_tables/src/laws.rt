@@ -1,4 +1,5 @@
-//! Laws of tables. Each function's contract is the law; none does anything when it runs.
+//! Laws of tables. Each function's contract is the law. Two of them make the table that they are
+//! about, and the others do nothing when they run.
 
 ghost use Rattle.std.specs.Prelude.{ℕ, List, IfOk, Contains, flat_map};
 ghost use Rattle.htl_event.specs.Events.{Event};

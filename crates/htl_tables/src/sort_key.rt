@@ -59,8 +59,8 @@ impl SortKey {
     }
 }
 
-/// A place in half the memory, as sort keys have it. A greater place is refused as out of memory: the
-/// events before it alone would take hundreds of gigabytes.
+/// The place as a `u32`, which takes half the memory in a sort key. A greater place is refused as
+/// out of memory: the events before it alone would take hundreds of gigabytes.
 pub(crate) fn place_of(index: usize) -> Result<u32, AllocError>
     ensures { IfOk result (λ place. place ≡ index) }
 {
@@ -90,7 +90,7 @@ pub(crate) fn events_of<'a, R: EventList, A: Allocator>(
     let mut events = Vec::with_capacity(alloc, keys.len())?;
     for key in keys {
         let event = key.event(lists);
-        if opens_or_closes(event) {
+        if may_open_or_close(event) {
             events.push(event)?;
         }
     }
@@ -106,9 +106,9 @@ pub(crate) fn drop_first<A: Allocator>(keys: &mut Vec<SortKey, A>, count: usize)
     keys.shrink_to_fit();
 }
 
-/// True of an event that opens or closes a handle. Both ends of the event are read, since both are
-/// needed next.
-fn opens_or_closes(event: &SharedEvent) -> bool
+/// True of each event that opens or closes a handle, and of some others. Both ends of the event are
+/// read, since both are needed next.
+fn may_open_or_close(event: &SharedEvent) -> bool
     ensures { opens_or_closes event.now.kind ≡ true → result ≡ true }
 {
     event.kind.opens_or_closes() | (event.tag != [0; 4])

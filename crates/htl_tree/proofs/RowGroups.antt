@@ -29,7 +29,7 @@ use Rattle.htl_tree.specs.declared.row.Row.{Row}
 use Rattle.htl_tree.specs.Trees.{Tree, key_cmp, count_at, total_count, IsTree, AllShort}
 use Rattle.htl_tree.specs.declared.node.Node.{Node}
 use Rattle.htl_tree.specs.Nodes.{Position, tally, rows, tree_at, tree_of, IsNormal, IsNormalTop, IsNormalRoot}
-use Rattle.htl_tree.specs.Rows.{entries_of, sum_at, slot_sum, AreShort, IsGroup, IsGained, IsChain, WithRows}
+use Rattle.htl_tree.specs.Rows.{entries_of, sum_at, slot_sum, AreShort, IsGroup, IsGained, IsLeafOfRows, WithRows}
 use Rattle.htl_tree.proofs.CountAdded.{nonempty_from}
 use Rattle.htl_tree.proofs.TreesAsLists.{key_total, key_same, nothing_is_tree}
 use Rattle.htl_tree.proofs.RowsAdded.{some_slot}
@@ -237,11 +237,11 @@ gained_tree n m h stack short rs some each alike gained =
     (λ p slot other. gained.counts.elsewhere p slot other ∙ tally_tree n h.normal p slot)
 
 -- a group that makes a root
-pub chain_tree : {A : Type 0} (m : Position A) (stack : List ℕ) → length stack ≤ 64 → (rs : List Row) → 0 < length rs
-    → Each IsPositive (entries_of rs) → AllByRecursion (λ (row : Row). row.stack.now ≡ stack) rs → IsChain (reverse stack) rs m
+pub leaf_tree : {A : Type 0} (m : Position A) (stack : List ℕ) → length stack ≤ 64 → (rs : List Row) → 0 < length rs
+    → Each IsPositive (entries_of rs) → AllByRecursion (λ (row : Row). row.stack.now ≡ stack) rs → IsLeafOfRows (reverse stack) rs m
     → IsNormalTop m × WithRows (tree_at m) [] rs
-chain_tree m stack short rs some each alike chain =
-    group_tree m chain.normal [] nothing_is_tree stack short rs some each alike chain.counts.here chain.counts.elsewhere
+leaf_tree m stack short rs some each alike leaf =
+    group_tree m leaf.normal [] nothing_is_tree stack short rs some each alike leaf.counts.here leaf.counts.elsewhere
 
 -- what a slot gains of a group
 pub group_sum : (rows : List Row) (stack : List ℕ) → AllByRecursion (λ (row : Row). row.stack.now ≡ stack) rows → (slot : Slot)

@@ -21,7 +21,7 @@ use Rattle.htl_tree.specs.declared.row.Row.{Row}
 use Rattle.htl_tree.specs.Nodes.{Position, tally, tally_of, no_tally, counts, children, count_in, at_child, IsNonEmpty, IsNormal, NormalAt}
 use Rattle.htl_tree.specs.Filters.{HasFiltersOf, HaveFilters}
 use Rattle.htl_tree.specs.Nodes.{frames, filters, top, inside, HasFilters, IsKept}
-use Rattle.htl_tree.specs.Rows.{entries_of, slot_sum, Gained, AddsRows, IsGained, IsChain}
+use Rattle.htl_tree.specs.Rows.{entries_of, slot_sum, Gained, AddsRows, IsGained, IsLeafOfRows}
 use Rattle.htl_tree.proofs.FilterBits.{filters_also}
 use Rattle.htl_tree.proofs.FiltersOfPositions.{has_left, filters_end, filters_on, filters_before}
 use Rattle.htl_tree.proofs.Positions.{find_before}
@@ -161,7 +161,7 @@ module _ {A : Type 0} (n m : Position A) (rows : List Row) where
     }
 
     -- a new child that counts rows at a path adds these at the path with the child's frame before it
-    pub gained_branch : find nat_cmp f (children n) ≡ None → (path : List ℕ) → IsChain path rows c → IsGained (f ∷ path) rows n m
+    pub gained_branch : find nat_cmp f (children n) ≡ None → (path : List ℕ) → IsLeafOfRows path rows c → IsGained (f ∷ path) rows n m
     gained_branch none path new = record {
       normal = normal_with_child n m f c o w k h new.normal (filled path no_tally new.counts);
       counts = adds_below path (rw none new.counts);
@@ -177,12 +177,12 @@ rows_stepped n m h rows some f old new found o w k path r result = match_result 
     (λ x gained. gained_below n m rows some f new o w k h old found path gained)
     (λ x kept. kept_below n m f new o w k h old found kept (nonempty_child n h f old found))
 
--- ---- chains
+-- ---- leaves
 
 -- a node without children, whose counts are those of rows, counts these rows at its own place and nothing else
-pub chain_end : {A : Type 0} (m : Position A) (rows : List Row) → children m ≡ [] → Gained rows [] (counts m) → HaveFilters (filters m) (counts m)
-    → IsChain [] rows m
-chain_end {A} m rows k gained filtered = record {
+pub leaf_end : {A : Type 0} (m : Position A) (rows : List Row) → children m ≡ [] → Gained rows [] (counts m) → HaveFilters (filters m) (counts m)
+    → IsLeafOfRows [] rows m
+leaf_end {A} m rows k gained filtered = record {
   normal = record { everywhere = at };
   counts = record { here = gained.counts; elsewhere = elsewhere };
 }
@@ -201,9 +201,9 @@ chain_end {A} m rows k gained filtered = record {
     elsewhere [] t differs = absurd (differs refl)
     elsewhere (f ∷ p) t differs = rw k refl
 
-pub chain_on : {A : Type 0} (m c : Position A) (f : ℕ) (path : List ℕ) (rows : List Row) → (slot : Slot) × IsPositive (slot_sum slot rows)
-    → counts m ≡ [] → children m ≡ (f, c) ∷ [] → HasFiltersOf (filters m) (filters c) → IsChain path rows c → IsChain (f ∷ path) rows m
-chain_on m c f path rows some o k w child = record {
+pub leaf_under : {A : Type 0} (m c : Position A) (f : ℕ) (path : List ℕ) (rows : List Row) → (slot : Slot) × IsPositive (slot_sum slot rows)
+    → counts m ≡ [] → children m ≡ (f, c) ∷ [] → HasFiltersOf (filters m) (filters c) → IsLeafOfRows path rows c → IsLeafOfRows (f ∷ path) rows m
+leaf_under m c f path rows some o k w child = record {
   normal = record { everywhere = at };
   counts = record { here = λ s. here path s ∙ child.counts.here s; elsewhere = elsewhere };
 }
@@ -271,11 +271,11 @@ module _ {A : Type 0} (rows : List Row) (some : (slot : Slot) × IsPositive (slo
   rows_entered old n m kept same path rest is r result = match_result r result
       (λ x gained. entered_gained old n m kept same path rest is gained) (λ x again. entered_kept old n kept m same again)
 
-  chain_before : (fs : List ℕ) (m : Node A) (path : List ℕ) → IsChain path rows (inside m) → IsChain (fs ++ path) rows (fs, m)
-  chain_before [] m path new = new
-  chain_before (f ∷ fs) m path new =
-      chain_on (f ∷ fs, m) (fs, m) f (fs ++ path) rows some refl refl (λ s is. is) (chain_before fs m path new)
+  leaf_before : (fs : List ℕ) (m : Node A) (path : List ℕ) → IsLeafOfRows path rows (inside m) → IsLeafOfRows (fs ++ path) rows (fs, m)
+  leaf_before [] m path new = new
+  leaf_before (f ∷ fs) m path new =
+      leaf_under (f ∷ fs, m) (fs, m) f (fs ++ path) rows some refl refl (λ s is. is) (leaf_before fs m path new)
 
   -- a node that counts rows at its own place counts them at the end of its frames, seen from their top
-  pub chain_top : (m : Node A) → IsChain [] rows (inside m) → IsChain (frames m) rows (top m)
-  chain_top m new = subst (λ l. IsChain l rows (top m)) (append-nil (frames m)) (chain_before (frames m) m [] new)
+  pub leaf_top : (m : Node A) → IsLeafOfRows [] rows (inside m) → IsLeafOfRows (frames m) rows (top m)
+  leaf_top m new = subst (λ l. IsLeafOfRows l rows (top m)) (append-nil (frames m)) (leaf_before (frames m) m [] new)

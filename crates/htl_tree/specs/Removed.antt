@@ -28,7 +28,7 @@ pub record Lost (rows : List Row) (old new : List (Slot × Count)) : Type 0 wher
   pub sorted : IsSorted slot_cmp new
   pub counts : (slot : Slot) → count_in old slot ≡ plus_count (count_in new slot) (slot_sum slot rows)
 
--- What the rows count at the path was taken out of the node. Where nothing is left inside it, its inside is in normal form, too.
+-- What the rows count at the path was taken out of the node. Its inside is in normal form, also where nothing is left there.
 pub record IsLess {A : Type 0} (path : List ℕ) (rows : List Row) (old new : Node A) : Type 0 where
   pub normal : IsNormal (inside new)
   pub counts : AddsRows path rows (tally_of (top new)) (tally_of (top old))

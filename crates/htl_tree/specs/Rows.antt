@@ -75,7 +75,7 @@ pub record IsGained {A : Type 0} (path : List ℕ) (rows : List Row) (old new : 
   pub counts : AddsRows path rows (tally_of old) (tally_of new)
 
 -- a node that counts the rows at the end of the path, and nothing else
-pub record IsChain {A : Type 0} (path : List ℕ) (rows : List Row) (node : Position A) : Type 0 where
+pub record IsLeafOfRows {A : Type 0} (path : List ℕ) (rows : List Row) (node : Position A) : Type 0 where
   pub normal : IsNormal node
   pub counts : AddsRows path rows no_tally (tally_of node)
 

@@ -146,7 +146,7 @@ fn add_group<A: Allocator + Clone>(
     if let Some(root) = root {
         return root.add_rows(stack, group);
     }
-    let chain = Node::chain(alloc, stack, group)?;
-    *root = Some(chain);
+    let leaf = Node::leaf_of_rows(alloc, stack, group)?;
+    *root = Some(leaf);
     Ok(())
 }

@@ -8,7 +8,7 @@ ghost use Rattle.htl_event.specs.SlotOrder.{slot_cmp};
 ghost use Rattle.htl_event.specs.Tallies.{plus_count, total_of, IsPositive};
 ghost use Rattle.htl_sorted.specs.Entries.{IsSorted, Each};
 ghost use Rattle.htl_tree.specs.Nodes.{top, tally, count_in, IsNormal, IsKept};
-ghost use Rattle.htl_tree.specs.Rows.{entries_of, slot_sum, Gained, IsGained, IsChain};
+ghost use Rattle.htl_tree.specs.Rows.{entries_of, slot_sum, Gained, IsGained, IsLeafOfRows};
 
 use crate::filters::filters_of;
 use crate::node::{Node, find_frame, find_slot, insert_child, sum_of};
@@ -20,11 +20,11 @@ use std::alloc::Allocator;
 impl<A: Allocator + Clone> Node<A> {
     /// A node that counts these rows at the end of the stack, and nothing else. Its vectors have no
     /// room to spare.
-    pub fn chain(alloc: &A, stack: &[u64], rows: &[Row<'_>]) -> Result<Self, NoMemory>
+    pub fn leaf_of_rows(alloc: &A, stack: &[u64], rows: &[Row<'_>]) -> Result<Self, NoMemory>
         requires some { 0 < length rows.now }
         requires positive { Each IsPositive (entries_of rows.now) }
         requires fits { (slot : Slot) → total_of (slot_sum slot rows.now) < 2 ^ 64 }
-        ensures { IfOk result (λ node. IsChain (reverse stack.now) rows.now (top node)) }
+        ensures { IfOk result (λ node. IsLeafOfRows (reverse stack.now) rows.now (top node)) }
     {
         let counts = counts_of(alloc.clone()?, rows)?;
         Node::leaf(alloc, counts, stack)
@@ -57,7 +57,7 @@ impl<A: Allocator + Clone> Node<A> {
                     added
                 }
                 Err(i) => {
-                    let child = Node::chain(self.children.allocator(), rest, rows)?;
+                    let child = Node::leaf_of_rows(self.children.allocator(), rest, rows)?;
                     let filters = child.filters;
                     insert_child(&mut self.children, i, *frame, child)?;
                     self.filters |= filters;

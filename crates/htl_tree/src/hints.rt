@@ -23,7 +23,8 @@ const MAX_CELLS: usize = 0x10_0000;
 const NOWHERE: usize = usize::MAX;
 
 impl<A: Allocator> RowHints<A> {
-    /// No hint yet. The number of cells is a power of two, and no more than there are events.
+    /// No hint yet. The number of cells is a power of two, and no more than there are events, but at
+    /// least one.
     pub fn new(alloc: A, events: usize) -> Result<Self, NoMemory> {
         let len = (events.min(MAX_CELLS) / 2 + 1).next_power_of_two();
         Ok(RowHints {

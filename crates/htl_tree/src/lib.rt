@@ -13,7 +13,7 @@
 //! one fingerprint brought together), `building.rt`, `filling.rt`, `removing.rt` (where memory is
 //! refused). Then `sums.rt` (copy and plus), `compare.rt` (equality), `prefix.rt` (the prefix
 //! tally), `listing.rt` and `slot_sums.rt` (lists of counts, and their sums by slot), `laws.rt`
-//! (the canonical form).
+//! (the canonical form, and what a slot's rows and their sum are).
 //!
 //! `specs/Trees` and `specs/HasSlot` have the words of public contracts, the other files of `specs/`
 //! those of private ones.

@@ -8,7 +8,7 @@ use crate::row::Row;
 use std::alloc::Allocator;
 use std::cmp::Ordering;
 
-/// The number of buckets. A bucket of a million rows still has few enough to be sorted in the
+/// The number of buckets. Of a million rows each bucket has few enough to be sorted in the
 /// processor's nearest memory.
 const BUCKETS: usize = 1024;
 

@@ -34,7 +34,7 @@ impl<A: Allocator> Model for StackTree<A> {
 }
 
 impl<A: Allocator> StackTree<A> {
-    ghost use Rattle.std.specs.Prelude.{◌≡◌, List, ◌++◌, ◌+◌, ◌<◌, ◌≤◌, ◌^◌, []};
+    ghost use Rattle.std.specs.Prelude.{◌≡◌, ℕ, List, ◌++◌, ◌+◌, ◌<◌, ◌≤◌, ◌^◌, []};
     ghost use Rattle.std.specs.Prelude.{◌↔◌, length, IsTrue, IfOk, OnOk, OnErr};
     ghost use Rattle.htl_tree.specs.Trees.{count_at, count_under, total_count};
     ghost use Rattle.htl_tree.specs.Trees.{with_one, IsTree, IsSameTally};
@@ -42,7 +42,7 @@ impl<A: Allocator> StackTree<A> {
     ghost use Rattle.htl_tree.specs.Trees.{ListsSums, ListsSlots};
     ghost use Rattle.std.specs.List.{flat_map};
     ghost use Rattle.htl_event.specs.Events.{Event};
-    ghost use Rattle.htl_event.specs.Tallies.{under};
+    ghost use Rattle.htl_event.specs.Tallies.{plus_count, tally, under};
 
     /// An empty tree. It takes no memory before the first count.
     pub fn new(alloc: A) -> Self
@@ -75,6 +75,10 @@ impl<A: Allocator> StackTree<A> {
     where
         A: Clone,
         requires { total_count self.old + length (flat_map R.events_of lists.now) < 2 ^ 64 }
+        ensures counts { OnOk result ((slot : Slot) (stack : List ℕ) → count_at self.new slot stack
+            ≡ plus_count (count_at self.old slot stack)
+            (tally (flat_map R.events_of lists.now) slot stack)) }
+        // What was the tally of some events is that of all of them.
         ensures tally { OnOk result ((events : List Event) → HasTally self.old events
             → HasTally self.new (events ++ flat_map R.events_of lists.now)) }
         ensures total { OnOk result (total_count self.new

@@ -10,7 +10,7 @@ use Rattle.htl_tables.proofs.ChosenKeys.{touches-opens}
 use Rattle.htl_tables.proofs.EventsOfKeys.{one_more}
 use Rattle.htl_tables.proofs.FirstKeys.{key_is}
 use Rattle.htl_tables.proofs.sort_key.events_of.Goals as goal
-use Rattle.htl_tables.proofs.sort_key.events_of.Goals.{then-opens_or_closes+in_ok-push, else-opens_or_closes}
+use Rattle.htl_tables.proofs.sort_key.events_of.Goals.{then-may_open_or_close+in_ok-push, else-may_open_or_close}
 
 abbrev no_key : SortKey
 no_key = record { process = 0; base = 0; sequence = record { 0 = 0 }; list = 0; index = 0 }
@@ -34,13 +34,13 @@ loop-key-preserved g c =
     let all = c.loop-key.invariant.1 in
     let opens = touches-opens c.args.chosen e.now
     (key_is g.R.EventList.events_of c.args.lists.now (touches c.args.chosen) key e.now here c.event-event.ensures).passes in
-    elim c.if-opens_or_closes.branch [
-      | then-opens_or_closes+in_ok-push w ↦ (
+    elim c.if-may_open_or_close.branch [
+      | then-may_open_or_close+in_ok-push w ↦ (
         rw (w.events-is, w.in_ok-push.ensures.items)
             (one_more g.R.EventList.events_of c.args.lists.now keys events key e are
             (rw all (slice_get-get_or keys n no_key c.loop-key-test.true)) c.event-event.ensures),
         rw (w.events-is, w.in_ok-push.ensures.items, length-append events (e ∷ [])) (omega (arith, all)),
       )
-      | else-opens_or_closes w ↦ absurd (both_ways c.opens_or_closes.result w.if-opens_or_closes.false
-          (c.opens_or_closes.ensures opens))
+      | else-may_open_or_close w ↦ absurd (both_ways c.may_open_or_close.result w.if-may_open_or_close.false
+          (c.may_open_or_close.ensures opens))
     ]

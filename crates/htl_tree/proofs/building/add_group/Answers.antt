@@ -6,7 +6,7 @@ use Rattle.htl_tree.specs.Trees.{count_at}
 use Rattle.htl_tree.specs.Nodes.{top, tree_of, IsNormalRoot}
 use Rattle.htl_tree.specs.Rows.{entries_of, sum_at, slot_sum, WithRows}
 use Rattle.htl_tree.proofs.RowsOneMore.{no_row}
-use Rattle.htl_tree.proofs.RowGroups.{gained_tree, chain_tree, group_sum, first_alike, first_short}
+use Rattle.htl_tree.proofs.RowGroups.{gained_tree, leaf_tree, group_sum, first_alike, first_short}
 use Rattle.htl_tree.proofs.CountAdded.{match_result}
 use Rattle.htl_tree.proofs.Roots.{count_tree, kept_tree}
 use Rattle.htl_tree.proofs.building.add_group.Goals as goal
@@ -37,8 +37,8 @@ returns-in-Some g c =
     (now.0, subst (λ r. WithRows (tree_of (Some c.add_rows.new.self)) (tree_of r) rows) (sym c.in-Some.is) now.1))
     (λ x kept. let now = kept_tree (top c.in-Some.root) (top c.add_rows.new.self) h kept in (now.0, now.1 ∙ ap (λ r. tree_of r) (sym c.in-Some.is)))
 
-pub chain-requires-clause-fits : goal.chain-requires-clause-fits
-chain-requires-clause-fits g c slot =
+pub leaf_of_rows-requires-clause-fits : goal.leaf_of_rows-requires-clause-fits
+leaf_of_rows-requires-clause-fits g c slot =
     let rows = c.args.group.now in
     let stack = (get_or rows 0 no_row).stack.now in
     let fits = c.requires.fits slot stack in
@@ -49,6 +49,6 @@ pub returns : goal.returns
 returns g c =
     let rows = c.args.group.now in
     let stack = (get_or rows 0 no_row).stack.now in
-    let now = chain_tree (top c.in_ok-chain.chain) stack (first_short rows c.requires.group c.requires.rows) rows c.requires.group.some
-    c.requires.rows.positive (first_alike rows c.requires.group) c.in_ok-chain.ensures in
-    (now.0, subst (λ r. WithRows (tree_of (Some c.in_ok-chain.chain)) (tree_of r) rows) (sym c.in_default.is) now.1)
+    let now = leaf_tree (top c.in_ok-leaf.leaf) stack (first_short rows c.requires.group c.requires.rows) rows c.requires.group.some
+    c.requires.rows.positive (first_alike rows c.requires.group) c.in_ok-leaf.ensures in
+    (now.0, subst (λ r. WithRows (tree_of (Some c.in_ok-leaf.leaf)) (tree_of r) rows) (sym c.in_default.is) now.1)

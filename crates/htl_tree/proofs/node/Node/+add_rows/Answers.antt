@@ -49,8 +49,8 @@ add_rows-added-requires g t c κs within =
     λ slot. subst (λ k. total_of k + total_of (slot_sum slot c.args.rows.now) < 2 ^ 64) (child.counts slot) (c.requires.fits slot) in
     search rules
 
-pub chain-requires-clause-fits : goal.chain-requires-clause-fits
-chain-requires-clause-fits g t c slot = let fits = c.requires.fits slot in omega (arith, fits)
+pub leaf_of_rows-requires-clause-fits : goal.leaf_of_rows-requires-clause-fits
+leaf_of_rows-requires-clause-fits g t c slot = let fits = c.requires.fits slot in omega (arith, fits)
 
 pub returns-in_ok-add_to_counts-in-None : goal.returns-in_ok-add_to_counts-in-None
 returns-in_ok-add_to_counts-in-None g t c =

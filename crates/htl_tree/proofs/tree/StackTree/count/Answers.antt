@@ -1,7 +1,8 @@
 -- With the rows of the events, the tree counts these events too.
-use Rattle.std.proofs.Common.{◌≡◌, ◌+◌, sym, ap, subst, arith}
+use Rattle.std.proofs.Common.{◌≡◌, ◌∙◌, ◌+◌, sym, ap, subst, arith}
 use Rattle.std.specs.List.{flat_map}
-use Rattle.htl_tree.specs.Trees.{total_count, HasTally}
+use Rattle.htl_event.specs.Tallies.{plus_count, tally}
+use Rattle.htl_tree.specs.Trees.{count_at, total_count, HasTally}
 use Rattle.htl_tree.specs.Nodes.{tree_of}
 use Rattle.htl_tree.specs.Rows.{entries_of, WithRows}
 use Rattle.htl_tree.proofs.Roots.{root_is_tree}
@@ -37,6 +38,13 @@ invariant_of-self-2 g c =
       counted = omega (arith, sum, is, rows, its);
       fits = omega (arith, is, all, its, c.in_ok-of.ensures.total, c.requires);
     }
+
+pub returns-clause-counts : goal.returns-clause-counts
+returns-clause-counts g c slot stack =
+    let events = flat_map g.R.EventList.events_of c.args.lists.now in
+    added g (goal.at.returns-clause-counts g c).In_ok-add_rows_to_root slot stack
+    ∙ ap (plus_count (count_at (tree_of c.self.inside.root) slot stack)) (c.in_ok-of.ensures.tally slot stack)
+    ∙ ap (λ t. plus_count (count_at t slot stack) (tally events slot stack)) c.self.view_is
 
 pub returns-clause-tally : goal.returns-clause-tally
 returns-clause-tally g c events tallied =

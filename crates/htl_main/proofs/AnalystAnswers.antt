@@ -78,7 +78,7 @@ folded_analysts_agree T segments a C trace each folded case =
           segments = λ s h. each s ((case.members s).0 h);
         };
         keys = λ p n.
-            let both = all_keys segments a C took some (all_of_case segments a C took some case) p n in
+            let both = all_keys segments a C took some (all_of_case segments C case) p n in
             (λ t. both.0 (keys_taken a p n t), λ key. taken_keys a p n (both.1 key));
       },
     )

@@ -2,18 +2,19 @@
 use Rattle.std.proofs.Common.{◌≡◌, ◌⊎◌, ◌∙◌, ℕ, List, [], ◌∷◌, refl, sym, ap, subst, inl, inr}
 use Rattle.std.specs.Prelude.{Contains, ◌↔◌}
 use Rattle.std.specs.List.{AllByRecursion}
-use Rattle.htl_event.proofs.Members.{Contains-cases, Contains-here, Contains-nil, Contains-there, at_member, each_member}
+use Rattle.htl_event.proofs.Members.{Contains-cases, Contains-here, Contains-nil, Contains-there, at_member, each_member, some_member}
 use Rattle.htl_segment.specs.Content.{Content, Fits}
 use Rattle.htl_segment.specs.Rising.{IsKeyBefore}
 use Rattle.htl_segment.specs.Traces.{AreInOrder, IsBefore, Trace, trace}
 use Rattle.htl_analyst.specs.States.{State}
 use Rattle.htl_analyst.specs.TakenAll.{HasTakenAll, IsFirstOf}
 use Rattle.htl_analyst.proofs.Firsts.{first_of_key, is_member}
-use Rattle.htl_analyst.proofs.Held.{keys_differ, one_segment}
+use Rattle.htl_analyst.proofs.Held.{collection_of, keys_differ, one_segment}
 use Rattle.htl_case.specs.Cases.{IsCaseOf}
 use Rattle.htl_case.specs.Faults.{key_of}
 use Rattle.htl_case.proofs.KeyOrder.{before_before, cases_key}
-use Rattle.htl_main.specs.Folding.{IsCaseOfFirsts, IsCollectionOf}
+use Rattle.htl_command.specs.declared.question.Question.{Question}
+use Rattle.htl_main.specs.Folding.{IsAskedOver, IsCaseOfFirsts, IsCollectionOf}
 
 -- ---- a segment in place of that of its key
 
@@ -172,3 +173,14 @@ case_of_firsts segments T case = record {
         let found = first_of_key segments s.processor s.number (s, (case.members s).0 has, refl, refl) in
         let there = (case.members found.0).1 (is_member segments found.0 found.1) in
         subst (IsFirstOf segments) (one_segment T.segments case.is_case.trace.in_order found.0 s there has found.2 found.3) found.1
+
+-- every question can be asked over a case
+pub case_asked : (segments : List Content) (T : Trace) → IsCaseOf segments T → (question : Question) → IsAskedOver question segments T
+case_asked segments T case question =
+    let firsts = case_of_firsts segments T case in
+    let one = some_member T.segments case.is_case.some in
+    record {
+      some = λ none. subst (λ (ss : List Content). IsFirstOf ss one.0) none ((firsts.members one.0).0 one.1);
+      all = record { collection = collection_of T case.is_case.trace; members = firsts.members };
+      case = λ ordered. case.is_case;
+    }

@@ -116,43 +116,43 @@ module _ (segments : List Content) (a : State) (T : Trace) (took : HasTakenAll s
       ∙ count_all (key_is_in (keys a)) T.segments
       (λ s h. taken_keys a s.processor s.number ((all_keys s.processor s.number).1 (s, h, refl, refl)))
 
--- ---- a case of them
+-- a case of first segments is a collection of them
+pub all_of_case : (segments : List Content) (T : Trace) → IsCaseOfFirsts segments T → IsCollectionOf segments T
+all_of_case segments T case = record { collection = collection_of T case.is_case.trace; members = case.members }
+
+-- ---- what is known of their collection
 
 module _ (segments : List Content) (a : State) (T : Trace) (took : HasTakenAll segments a) (some : segments ≢ [])
-    (case : IsCaseOfFirsts segments T) where
-  pub all_of_case : IsCollectionOf segments T
-  all_of_case = record { collection = collection_of T case.is_case.trace; members = case.members }
+    (all : IsCollectionOf segments T) where
+  right_here : IsRight a T
+  right_here = right_of_all segments a T took some all
 
-  -- the analyst is right about the case
-  pub right_of_case : IsRight a T
-  right_of_case = right_of_all segments a T took some all_of_case
+  -- the events of its taken keys are all events of the collection
+  pub events_of_all : taken_events T a ≡ all_events T.segments
+  events_of_all = all_were_taken segments T a took (λ s h. is_member segments s ((all.members s).0 h))
 
-  -- the events of its taken keys are all events of the case
-  pub events_of_case : taken_events T a ≡ all_events T.segments
-  events_of_case = all_were_taken segments T a took (λ s h. is_member segments s ((case.members s).0 h))
-
-  -- the gaps of its taken keys are those of the case
-  pub gaps_of_case : (gaps : List Gap) → IsGaps (HasTaken a) a.processors gaps → IsGaps (HasKey T) T.processors gaps
-  gaps_of_case gaps listed =
-      gaps_agree (HasTaken a) (HasKey T) T.processors gaps (λ p n within. all_keys segments a T took some all_of_case p n)
-      (subst (λ (n : ℕ). IsGaps (HasTaken a) n gaps) (sym right_of_case.processors) listed)
+  -- the gaps of its taken keys are those of the collection
+  pub gaps_of_all : (gaps : List Gap) → IsGaps (HasTaken a) a.processors gaps → IsGaps (HasKey T) T.processors gaps
+  gaps_of_all gaps listed =
+      gaps_agree (HasTaken a) (HasKey T) T.processors gaps (λ p n within. all_keys segments a T took some all p n)
+      (subst (λ (n : ℕ). IsGaps (HasTaken a) n gaps) (sym right_here.processors) listed)
 
   -- where all was folded that could be, a front is the first missing number
   pub front_missing : IsFoldedFar (Some a) → (p : ℕ) → IsFirstMissing T p (front_at a.taken p)
   front_missing far p = record {
-    below = λ n lt. (all_keys segments a T took some all_of_case p n).0 (inl lt);
-    missing = λ has. far p ((all_keys segments a T took some all_of_case p (front_at a.taken p)).1 has);
+    below = λ n lt. (all_keys segments a T took some all p n).0 (inl lt);
+    missing = λ has. far p ((all_keys segments a T took some all p (front_at a.taken p)).1 has);
   }
 
-  -- the least of its last folded sequences is what the case is complete to, where all was folded that could be
-  pub complete_of_case : IsFoldedFar (Some a) → (n : ℕ) → IsLeastLastFolded T a n → IsCompleteTo T n
-  complete_of_case far n least = record {
+  -- the least of its last folded sequences is what the collection is complete to, where all was folded that could be
+  pub complete_of_all : IsFoldedFar (Some a) → (n : ℕ) → IsLeastLastFolded T a n → IsCompleteTo T n
+  complete_of_all far n least = record {
     bound = λ p m within unbroken.
         (let first = one_first T p unbroken.0 (front_at a.taken p) unbroken.1 (front_missing far p) in
-        least.bound p m (subst (λ (x : ℕ). p < x) right_of_case.processors within)
+        least.bound p m (subst (λ (x : ℕ). p < x) right_here.processors within)
         (subst (λ (f : ℕ). IsGreatestSequence (Contains (run_events T p f)) m) first unbroken.2));
     processor = least.processor;
-    within = subst (λ (x : ℕ). least.processor < x) (sym right_of_case.processors) least.within;
+    within = subst (λ (x : ℕ). least.processor < x) (sym right_here.processors) least.within;
     reached = (front_at a.taken least.processor, front_missing far least.processor, least.reached);
   }
 
@@ -160,30 +160,30 @@ module _ (segments : List Content) (a : State) (T : Trace) (took : HasTakenAll s
   pub least_of_gaps : IsFoldedFar (Some a) → (gap : Gap) (more : List Gap) → IsGaps (HasTaken a) a.processors (gap ∷ more)
       → IsLeastMissing T (processor_of gap) (front_at a.taken (processor_of gap))
   least_of_gaps far gap more listed =
-      let all = gaps_of_case (gap ∷ more) listed in
+      let gaps = gaps_of_all (gap ∷ more) listed in
       record {
         gap = gap;
-        there = (all.members gap).0 (Contains-here gap more);
+        there = (gaps.members gap).0 (Contains-here gap more);
         own = refl;
         first = front_missing far (processor_of gap);
-        before = λ other there. elim (Contains-cases gap more other ((all.members other).1 there)) [
+        before = λ other there. elim (Contains-cases gap more other ((gaps.members other).1 there)) [
           | inl same ↦ let e = ap processor_of same in omega (arith, e)
-          | inr later ↦ no_later gap other (at_member (IsGapBefore gap) more other all.rising.0 later)
+          | inr later ↦ no_later gap other (at_member (IsGapBefore gap) more other gaps.rising.0 later)
         ];
       }
 
-  -- where its taken keys have no gap, the case is complete
+  -- where its taken keys have no gap, the collection is complete
   pub none_missing : IsGaps (HasTaken a) a.processors [] → IsComplete T
-  none_missing listed gap there = Contains-nil gap (((gaps_of_case [] listed).members gap).1 there)
+  none_missing listed gap there = Contains-nil gap (((gaps_of_all [] listed).members gap).1 there)
 
-  -- the number of its gaps and the least of its last folded sequences are the coverage of the case
+  -- the number of its gaps and the least of its last folded sequences are the coverage of the collection
   pub covered : IsFoldedFar (Some a) → (gaps : List Gap) (coverage : Coverage) → IsGaps (HasTaken a) a.processors gaps
       → coverage.gaps ≡ length gaps → IsLeastLastFolded T a coverage.complete_to → IsCoverage T coverage
   covered far gaps coverage listed counted least = record {
     gaps = gaps;
-    are_gaps = gaps_of_case gaps listed;
+    are_gaps = gaps_of_all gaps listed;
     counted = counted;
-    complete_to = complete_of_case far coverage.complete_to least;
+    complete_to = complete_of_all far coverage.complete_to least;
   }
 
 -- ---- the next segment
@@ -390,12 +390,6 @@ module _ (segments : List Content) (a : State) (s : Content) (took : HasTakenAll
         (ids.0 ∙ sym same, λ equal. differ (sym equal ∙ ids.1)))),
   )
 
--- nothing is no case
-pub no_case : (segments : List Content) (T : Trace) → segments ≡ [] → IsCaseOfFirsts segments T → ⊥
-no_case segments T none case =
-    let one = some_member T.segments case.is_case.some in
-    subst (λ (ss : List Content). IsFirstOf ss one.0) none ((case.members one.0).0 one.1)
-
 -- a list of gaps without a first one is empty
 pub no_first : (gaps : List Gap) → slice_get gaps 0 ≡ None → gaps ≡ []
 no_first [] at = refl
@@ -518,11 +512,11 @@ takes_one segments a b s took before fits is accepted new rising keys right = re
 
 -- ---- answers
 
-module _ (segments : List Content) (a : State) (T : Trace) (folded : AreFolded (Some a) segments) (case : IsCaseOfFirsts segments T)
+module _ (segments : List Content) (a : State) (T : Trace) (folded : AreFolded (Some a) segments) (all : IsCollectionOf segments T)
     (parts : List Contents) (of : AreEventsOf parts (taken_events T a)) where
-  -- the parts of the analyst stand for all events of the case
-  pub parts_of_case : AreEventsOf parts (all_events T.segments)
-  parts_of_case = subst (AreEventsOf parts) (events_of_case segments a T folded.taken.1 folded.taken.0 case) of
+  -- the parts of the analyst stand for all events of the collection
+  pub parts_of_all : AreEventsOf parts (all_events T.segments)
+  parts_of_all = subst (AreEventsOf parts) (events_of_all segments a T folded.taken.1 folded.taken.0 all) of
 
 -- a question that needs no events is asked of all of them
 pub all_count : (job : Job) → needs_events job ≡ false → (is_of_events job.question ≡ false) × (job.until ≡ None)

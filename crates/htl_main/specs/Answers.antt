@@ -1,5 +1,6 @@
 -- The answer to a question over a trace (this project's own), and whether it finds something.
-use Rattle.std.specs.Prelude.{◌≡◌, ℕ, Bool, ◌||◌, ◌==◌, not, nat_lt, min, if◌then◌else◌, List, length, Contains, Option, Some, None}
+use Rattle.std.specs.Prelude.{◌≡◌, ℕ, Bool, true, false, ◌||◌, ◌==◌, not, nat_lt, min, if◌then◌else◌}
+use Rattle.std.specs.Prelude.{List, length, Contains, Option, Some, None}
 use Rattle.std.specs.List.{list_any}
 use Rattle.htl_event.specs.Events.{Event}
 use Rattle.htl_event.specs.Handles.{IsOutstanding, IsMark, IsDiff, IsListing}
@@ -33,6 +34,13 @@ abbrev pub IsSinceIfGiven : List Event → ℕ → Option Since → Option ℕ �
 IsSinceIfGiven events process None moment = moment ≡ None
 IsSinceIfGiven events process (Some since) None = ⊥
 IsSinceIfGiven events process (Some since) (Some n) = IsSince events process since n
+
+-- the answer depends on how often each slot came with each stack, and not on which event is the latest
+abbrev pub is_of_counts : Question → Bool
+is_of_counts (questions.Tags object) = true
+is_of_counts (questions.Bad process) = true
+is_of_counts (questions.Stacks object tag) = true
+is_of_counts question = false
 
 -- the answer to a question about the events of a trace
 abbrev pub IsAnswerOver : List Event → Question → Answer → Type 0

@@ -15,7 +15,7 @@ use Rattle.htl_main.specs.Printed.{HasSymbolFault}
 use Rattle.htl_taken.specs.Numbers.{front_at}
 use Rattle.htl_command.specs.declared.question.InputForm.{InputForm}
 use Rattle.htl_main.specs.CutInputs.{AreCut}
-use Rattle.htl_main.specs.Folding.{AreAccepted, AreFolded, AreTaken, GaveBefore, IsCaseOfFirsts, IsOfPlace, IsUnfit, StandBefore}
+use Rattle.htl_main.specs.Folding.{AreAccepted, AreFolded, AreTaken, GaveBefore, IsCollectionOf, IsOfPlace, IsUnfit, StandBefore}
 use Rattle.htl_main.specs.Folding.{TakesUpTo, counted}
 use Rattle.htl_main.specs.Inputs.{DecodeAll}
 use Rattle.htl_main.specs.declared.adding.Added.{Added}
@@ -94,7 +94,7 @@ IsOfInput fault = ⊥
 abbrev pub IsMissingOf : Bool → State → RunFault → Type 0
 IsMissingOf complete a Memory = ⊤
 IsMissingOf complete a (Incomplete processor number) =
-    (complete ≡ true) × ((segments : List Content) (T : Trace) → AreFolded (Some a) segments → IsCaseOfFirsts segments T
+    (complete ≡ true) × ((segments : List Content) (T : Trace) → AreFolded (Some a) segments → IsCollectionOf segments T
     → IsLeastMissing T processor number)
 IsMissingOf complete a fault = ⊥
 
@@ -106,7 +106,7 @@ pub record IsAddedToFolded (complete : Bool) (now : Option State) (before segmen
   pub there : now ≡ Some analyst
   pub segments_are : added.segments ≡ segments
   pub new_are : added.new ≡ number_of now - before
-  pub covered : (all : List Content) (T : Trace) → AreFolded (Some analyst) all → IsCaseOfFirsts all T
+  pub covered : (all : List Content) (T : Trace) → AreFolded (Some analyst) all → IsCollectionOf all T
       → IsCoverage T added.coverage × (complete ≡ true → IsComplete T)
   pub cut_is : added.cut ≡ cut
 

@@ -15,12 +15,14 @@ use Rattle.htl_case.specs.Faults.{key_of}
 use Rattle.htl_case.specs.declared.fault.CaseFault.{CaseFault}
 use Rattle.htl_case.specs.declared.fault.CaseFault.TheVariants as cases
 use Rattle.htl_command.specs.declared.question.InputForm.{InputForm}
+use Rattle.htl_command.specs.declared.question.Question.{Question}
 use Rattle.htl_command.specs.declared.question.Setting.{Setting}
 use Rattle.htl_event.specs.Events.{Event}
 use Rattle.htl_segment.specs.Bundles.{IsRest, Splits, bundle}
 use Rattle.htl_segment.specs.Content.{Content}
 use Rattle.htl_segment.specs.Traces.{Trace}
 use Rattle.htl_taken.specs.Numbers.{front_at}
+use Rattle.htl_main.specs.Answers.{is_of_counts}
 use Rattle.htl_main.specs.Completeness.{IsComplete, IsLeastMissing}
 use Rattle.htl_main.specs.Coverages.{IsCoverage}
 use Rattle.htl_main.specs.CutInputs.{AreCut}
@@ -61,6 +63,13 @@ pub record IsCollectionOf (segments : List Content) (T : Trace) : Type 0 where
 pub record IsCaseOfFirsts (segments : List Content) (T : Trace) : Type 0 where
   pub is_case : IsCase T
   pub members : (s : Content) → Contains T.segments s ↔ IsFirstOf segments s
+
+-- The question is answered over the collection. If the answer depends on which event is the latest, the collection is a case: no two of its
+-- events have one sequence.
+pub record IsAskedOver (question : Question) (segments : List Content) (T : Trace) : Type 0 where
+  pub some : segments ≢ []
+  pub all : IsCollectionOf segments T
+  pub case : is_of_counts question ≡ false → IsCase T
 
 -- no segment of the processor is missing up to this one
 abbrev pub IsUnbroken : List Content → Content → Type 0
@@ -138,8 +147,8 @@ pub record IsFolded (setting : Setting) (before : List Content) (inputs : List (
   pub some : before ++ given ≢ []
   pub segments : added.segments ≡ counted given
   pub new : (T U : Trace) → IsCollectionOf before T → IsCollectionOf (before ++ given) U → length U.segments ≡ length T.segments + added.new
-  pub coverage : (T : Trace) → IsCaseOfFirsts (before ++ given) T → IsCoverage T added.coverage
-  pub whole : setting.complete ≡ true → (T : Trace) → IsCaseOfFirsts (before ++ given) T → IsComplete T
+  pub coverage : (T : Trace) → IsCollectionOf (before ++ given) T → IsCoverage T added.coverage
+  pub whole : setting.complete ≡ true → (T : Trace) → IsCollectionOf (before ++ given) T → IsComplete T
   pub cut : AreCut setting.form.hex inputs added.cut
 
 -- The segments that a source gave, of whose bytes this is left. A text in hexadecimal gives none before its end.
@@ -188,7 +197,7 @@ IsFoldsFault setting before inputs lefts ends taken unfit (faults.Case cases.Emp
 IsFoldsFault setting before inputs lefts ends taken unfit (faults.Case fault) = WorkersFit setting.workers × (unfit ≡ Some fault)
 IsFoldsFault setting before inputs lefts ends taken unfit (faults.Incomplete processor number) =
     WorkersFit setting.workers × (unfit ≡ None) × (setting.complete ≡ true)
-    × ((T : Trace) → IsCaseOfFirsts (before ++ taken) T → IsLeastMissing T processor number)
+    × ((T : Trace) → IsCollectionOf (before ++ taken) T → IsLeastMissing T processor number)
 IsFoldsFault setting before inputs lefts ends taken unfit fault = ⊥
 
 -- Refused: of the segments before the fault those before an unfit one were taken, and `Keeps` holds of all that were taken by then.

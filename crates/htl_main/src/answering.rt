@@ -1,13 +1,13 @@
 //! The answer to a question over a case.
 
-ghost use Rattle.std.specs.Prelude.{◌≡◌, ◌<◌, ◌^◌, List, flat_map, length, map, IfOk};
+ghost use Rattle.std.specs.Prelude.{◌≡◌, ◌<◌, ◌^◌, List, false, flat_map, length, map, IfOk};
 ghost use Rattle.htl_event.specs.Events.{Event};
 ghost use Rattle.htl_event.specs.Handles.{HaveOwnSequences};
 ghost use Rattle.htl_event.specs.Moments.{counted_events};
 ghost use Rattle.htl_segment.specs.Traces.{all_events};
 ghost use Rattle.htl_answers.specs.Parts.{AreEventsOf, size_of_all};
 ghost use Rattle.htl_main.specs.Answers.{IsAnswer, IsAnswerOver, IsGrowthUntil, IsSince};
-ghost use Rattle.htl_main.specs.Answers.{IsSinceIfGiven, span_until};
+ghost use Rattle.htl_main.specs.Answers.{IsSinceIfGiven, is_of_counts, span_until};
 ghost use Rattle.htl_main.specs.Questions.{IsOfParts};
 
 use crate::summarizing::summary;
@@ -120,7 +120,8 @@ pub(crate) fn answer_of<P: Part>(
     requires about { IsOfParts question }
     requires few { size_of_all (map P.contents parts.now) < 2 ^ 64 }
     ensures { IfOk result (λ answer. (events : List Event)
-        → AreEventsOf (map P.contents parts.now) events → HaveOwnSequences events
+        → AreEventsOf (map P.contents parts.now) events
+        → (is_of_counts question ≡ false → HaveOwnSequences events)
         → IsAnswerOver events question answer) }
 {
     Ok(match question {

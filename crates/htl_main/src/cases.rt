@@ -73,7 +73,7 @@ fn between(segments: &[Segment], spans: &[InputSpan], fault: CaseFault) -> Betwe
     }
 }
 
-/// What is reported of a fault's two segments if no copies were kept.
+/// What is reported of a fault's two segments if these aren't kept.
 pub(crate) fn unknown(fault: CaseFault) -> Between
     ensures between { (form : InputForm) (inputs : List (List ℕ)) (segments : List Content)
         → IsBetweenOf form inputs segments fault result }

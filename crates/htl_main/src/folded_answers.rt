@@ -1,13 +1,13 @@
 //! Answers over what was folded.
 
-ghost use Rattle.std.specs.Prelude.{◌≡◌, IfOk, List, None, Some, false};
+ghost use Rattle.std.specs.Prelude.{◌≡◌, [], IfOk, List, None, Some, false};
 ghost use Rattle.htl_command.specs.Needs.{is_of_events, needs_events};
 ghost use Rattle.htl_command.specs.declared.question.Question.TheVariants as questions;
 ghost use Rattle.htl_segment.specs.Content.{Content};
 ghost use Rattle.htl_segment.specs.Traces.{Trace, all_events};
 ghost use Rattle.htl_event.specs.Summaries.{IsNumberOfObjects};
 ghost use Rattle.htl_main.specs.Answers.{IsAnswer};
-ghost use Rattle.htl_main.specs.Folding.{AreFolded, IsCaseOfFirsts};
+ghost use Rattle.htl_main.specs.Folding.{AreFolded, IsAskedOver, IsCollectionOf};
 ghost use Rattle.htl_main.specs.Printed.{IsText};
 ghost use Rattle.htl_main.specs.Summaries.{AreTotals};
 
@@ -33,9 +33,10 @@ pub fn folded_text(
     folded: &Folded,
 ) -> Result<Vec<u8>, NoMemory>
     requires { needs_events job.now ≡ false }
-    ensures { IfOk result (λ text. (segments : List Content) (T : Trace)
-        → AreFolded folded.now.analyst segments → IsCaseOfFirsts segments T
+    ensures text { IfOk result (λ text. (segments : List Content) (T : Trace)
+        → AreFolded folded.now.analyst segments → IsAskedOver job.now.question segments T
         → IsText T folded.now.symbols job.now text.items) }
+    ensures none { folded.now.analyst ≡ None → IfOk result (λ text. text.items ≡ []) }
 {
     let Some(analyst) = &folded.analyst else {
         return Ok(Vec::new(alloc));
@@ -54,7 +55,7 @@ fn answer(
 ) -> Result<Answer, NoMemory>
     requires { is_of_events question ≡ false }
     ensures { IfOk result (λ answer. (segments : List Content) (T : Trace)
-        → AreFolded (Some analyst.now) segments → IsCaseOfFirsts segments T
+        → AreFolded (Some analyst.now) segments → IsAskedOver question segments T
         → IsAnswer T None question answer) }
 {
     match question {
@@ -71,7 +72,7 @@ fn summary(
     analyst: &Analyst<Global>,
 ) -> Result<Answer, NoMemory>
     ensures { IfOk result (λ answer. (segments : List Content) (T : Trace)
-        → AreFolded (Some analyst.now) segments → IsCaseOfFirsts segments T
+        → AreFolded (Some analyst.now) segments → IsAskedOver questions.Summary segments T
         → IsAnswer T None questions.Summary answer) }
 {
     let gaps = analyst.gaps(alloc)?;
@@ -88,7 +89,7 @@ fn summary(
 /// The totals of what an analyst took, with this number of objects.
 fn totals(analyst: &Analyst<Global>, objects: u64) -> Totals
     ensures { (segments : List Content) (T : Trace) → AreFolded (Some analyst.now) segments
-        → IsCaseOfFirsts segments T → IsNumberOfObjects (all_events T.segments) objects
+        → IsCollectionOf segments T → IsNumberOfObjects (all_events T.segments) objects
         → AreTotals T None result }
 {
     Totals {

@@ -15,8 +15,8 @@ use htl_segment::{Keeper, Segment, SegmentBytes, StackCache};
 use std::alloc::Global;
 use std::thread::Threads;
 
-/// The least number of held events and segments that starts a fold. Those of one more read are held
-/// on top, or of one more round of several workers, or of a whole text in hexadecimal. An event
+/// The least number of events and segments that starts a fold. Those of one more read are held on
+/// top, or of one more round of several workers, or of a whole text in hexadecimal. An event
 /// takes 48 bytes and its stack, which equal stacks share.
 const FEW_HELD: u64 = 1 << 20;
 
@@ -25,8 +25,8 @@ const FEW_HELD: u64 = 1 << 20;
 pub(crate) struct Folder {
     /// Recently met stacks, so that equal ones share memory.
     cache: StackCache,
-    /// How many events and segments were taken since the last fold.
-    held: u64,
+    /// How many events and segments were given since the last fold.
+    since_fold: u64,
     /// The analyst, where a segment was taken.
     pub analyst: Option<Analyst<Global>>,
     /// How many segments were taken. It stays at the greatest `u64` once it is there.
@@ -49,7 +49,7 @@ impl Folder {
     {
         Folder {
             cache: StackCache::new(alloc),
-            held: 0,
+            since_fold: 0,
             analyst,
             segments: 0,
             unfit: None,
@@ -68,7 +68,7 @@ impl Folder {
         let Some(analyst) = &mut self.analyst else {
             self.analyst = Some(begun_by(alloc, segment)?);
             self.segments = 1;
-            self.held = more;
+            self.since_fold = more;
             return Ok(());
         };
         self.unfit = take(analyst, segment, self.segments)?;
@@ -76,15 +76,16 @@ impl Folder {
             return Ok(());
         }
         self.segments = self.segments.saturating_add(1);
-        self.held = self.held.saturating_add(more);
+        self.since_fold = self.since_fold.saturating_add(more);
         Ok(())
     }
 
-    /// Folds with this number of workers if `most_held` events and segments or more are held.
+    /// Folds with this number of workers if `most_held` events and segments or more were given since
+    /// the last fold.
     pub fn fold_if_full(&mut self, rt: &(impl Threads + Sync), workers: u32) -> Result<(), NoMemory>
         ensures { OnOk result (Took folds_of self.old self.new []) }
     {
-        if self.held < most_held(&self.analyst) {
+        if self.since_fold < most_held(&self.analyst) {
             return Ok(());
         }
         self.fold_by(rt, workers)
@@ -105,7 +106,7 @@ impl Folder {
         if self.segments == 0 {
             return Ok(());
         }
-        self.held = 0;
+        self.since_fold = 0;
         match &mut self.analyst {
             Some(analyst) => analyst.compact_by(rt, workers),
             None => Ok(()),
@@ -133,9 +134,9 @@ impl SegmentKeeper for Folder {
     }
 }
 
-/// The number of held events and segments that starts a fold: half as many as there are handles
-/// whose latest events are kept, since each fold goes over these and over all counts once, but at
-/// least `FEW_HELD`.
+/// The number of events and segments that starts a fold: half as many as there are handles whose
+/// latest events are kept, since each fold goes over these once, and over the counts of all stacks
+/// that come, but at least `FEW_HELD`.
 fn most_held(analyst: &Option<Analyst<Global>>) -> u64 {
     let mut latest = 0u64;
     if let Some(analyst) = analyst {

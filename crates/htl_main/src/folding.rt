@@ -12,7 +12,7 @@ ghost use Rattle.htl_main.specs.Coverages.{IsCoverage};
 ghost use Rattle.htl_main.specs.Folders.{IsMissingOf};
 ghost use Rattle.htl_main.specs.Folders.{IsAddedToFolded, IsNotAdded, IsSymbolsFault};
 ghost use Rattle.htl_main.specs.Folding.{AreFolded, AreReadToFold, IsBeginningRefused};
-ghost use Rattle.htl_main.specs.Folding.{IsCaseOfFirsts, IsFolded, IsFoldingRefused, IsHalfKnown};
+ghost use Rattle.htl_main.specs.Folding.{IsCollectionOf, IsFolded, IsFoldingRefused, IsHalfKnown};
 ghost use Rattle.htl_main.specs.Origins.{by_fault};
 ghost use Rattle.htl_main.specs.Printed.{HasSymbols};
 ghost use Rattle.htl_main.specs.Readings.{AreRead};
@@ -179,7 +179,7 @@ fn coverage_of(
     analyst: &Analyst<Global>,
 ) -> Result<Coverage, RunFault>
     ensures ok { IfOk result (λ coverage. (segments : List Content) (T : Trace)
-        → AreFolded (Some analyst.now) segments → IsCaseOfFirsts segments T
+        → AreFolded (Some analyst.now) segments → IsCollectionOf segments T
         → IsCoverage T coverage × (complete ≡ true → IsComplete T)) }
     ensures err { IfErr result (IsMissingOf complete analyst.now) }
 {

@@ -33,7 +33,7 @@ ghost use Rattle.htl_command.specs.declared.question.Since.TheVariants.{Sequence
 ghost use Rattle.htl_main.specs.Analysts.{AreAnswers};
 ghost use Rattle.htl_main.specs.Answers.{Finds, IsAnswer, IsAnswerOver};
 ghost use Rattle.htl_main.specs.Coverages.{Covers, IsCoverage};
-ghost use Rattle.htl_main.specs.Folding.{AreFolded, IsCaseOfFirsts};
+ghost use Rattle.htl_main.specs.Folding.{AreFolded, IsAskedOver, IsCaseOfFirsts};
 ghost use Rattle.htl_main.specs.Histories.{AnyCanBeCompacted, AnyHistoryLeavesAState};
 ghost use Rattle.htl_main.specs.Printed.{Printed, WorkersFit, by_workers};
 ghost use Rattle.htl_main.specs.Summaries.{AreTotals, IsSummary};
@@ -97,10 +97,12 @@ pub fn summaries_agree()
 {}
 
 /// Of segments that have a case, each is equal to the first one of its key. So what is promised of
-/// the case of first segments (`IsCaseOfFirsts`) is promised of it.
+/// the first segments, and of each question that is asked over them, is promised of the case.
 pub fn segments_of_a_case_are_first()
-    ensures { (segments : List Content) (T : Trace) → IsCaseOf segments T
+    ensures case { (segments : List Content) (T : Trace) → IsCaseOf segments T
         → IsCaseOfFirsts segments T }
+    ensures asked { (segments : List Content) (T : Trace) → IsCaseOf segments T
+        → (question : Question) → IsAskedOver question segments T }
 {}
 
 /// What was folded of segments, the first of each key of a trace, is an analyst as the headline of

@@ -40,6 +40,7 @@ pub enum Between {
     Nothing,
     /// The first breaks the fault's rule against the second.
     Two(Origin, Origin),
-    /// The fault is about two segments, but there was no memory to keep them.
+    /// The fault is about two segments, which aren't known: there was no memory to keep copies of
+    /// them, or one of them may be forgotten.
     Unknown,
 }

@@ -1,4 +1,4 @@
-//! The run over inputs that lie in memory, and the steps that both runs share.
+//! The run over inputs that lie in memory, and the steps that all runs share.
 
 ghost use Rattle.std.specs.Prelude.{◌≡◌, ◌≢◌, ◌⊎◌, false, true, map, IfOk, IfErr, OnOk};
 ghost use Rattle.std.specs.Io.KnownBytes.{Appends};
@@ -41,7 +41,8 @@ use std::thread::Threads;
 ///
 /// The number of workers is tested first; then each input in order is decoded, the segments are
 /// made a case, which is refused where it has a gap and the job asks for a complete one, the
-/// symbols are read, and the answer is made. The first fault ends the run. Nothing is written
+/// symbols are read, a subject without an event is refused where the job asks for its status, and
+/// the answer is made. The first fault ends the run. Nothing is written
 /// before the whole text is made; after a failed write some first part of it went out. What is
 /// printed is the same for every number of workers. A run that ends well reports how much of its
 /// trace the case of all segments has, whether it has an event of what was asked about, and whether

@@ -37,7 +37,7 @@ use std::thread::Threads;
 /// What was taken from all sources.
 #[derive(Clone, Copy)]
 pub(crate) struct Taken {
-    /// How many segments they have, up to the greatest number.
+    /// How many segments they have. It stays at the greatest `u64` once it is there.
     pub segments: u64,
     /// Which of them end within another segment.
     pub cut: Option<CutInputs>,

@@ -5,6 +5,8 @@ use Rattle.std.proofs.lemmas.Option.{get_or_from_slice_get, none-some, same_Some
 use mathlib.Core.Bool.{true≢false}
 use Rattle.htl_main.specs.declared.fault.RunFault.{RunFault}
 use Rattle.htl_main.specs.declared.fault.RunFault.TheVariants.{Memory, Read}
+use Rattle.htl_program.specs.Asking.{Found, all_hold, found, found_with, one_is_absent, unknown}
+use Rattle.htl_program.specs.Opened.{Known}
 use Rattle.htl_program.specs.Openings.{IsUnopenedFor}
 use Rattle.htl_program.specs.Worlds.{IsFirstAbsent, of_each, of_inputs}
 
@@ -47,6 +49,22 @@ pub none_absent : (holds : List (Option (List ℕ))) (absences : List Bool) (pla
 none_absent holds absences place all a =
     true≢false (sym (get_or_from_slice_get absences place true true a.here)
     ∙ all place true (slice_get_within absences place true a.here))
+
+-- where no name is absent, none is known to be
+pub none_is_absent : (world : Known) (names : List (List ℕ)) → All (λ absent. absent ≡ false) (map world.is_absent names)
+    → found world names ≡ one_is_absent → ⊥
+none_is_absent world [] there is = absurd (cc is)
+none_is_absent world (name ∷ more) there is =
+    with_first (world.holds name) (world.is_absent name) (found world more) (there 0 true (omega arith))
+    (none_is_absent world more (λ k d lt. there (suc k) d (omega (arith, lt)))) is
+  where
+    with_first : (held : Option (List ℕ)) (absent : Bool) (rest : Found) → absent ≡ false → (rest ≡ one_is_absent → ⊥)
+        → found_with held absent rest ≡ one_is_absent → ⊥
+    with_first (Some text) absent (all_hold texts) opens later is = absurd (cc is)
+    with_first (Some text) absent one_is_absent opens later is = later refl
+    with_first (Some text) absent unknown opens later is = absurd (cc is)
+    with_first None true rest opens later is = absurd (cc opens)
+    with_first None false rest opens later is = absurd (cc is)
 
 -- inputs whose bytes are known, and that could not be opened, could not be for want of memory alone
 pub only_memory : {A : Type 0} (of : List ℕ → Option (List ℕ)) (standard : Option (List ℕ)) (names : List (String A)) (texts : List (List ℕ))

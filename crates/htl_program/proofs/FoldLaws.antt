@@ -15,7 +15,7 @@ use Rattle.htl_program.specs.Asking.{GoesOn, IsFolding}
 use Rattle.htl_program.specs.Loads.{FoldsFiles}
 use Rattle.htl_program.specs.Openings.{IsUnopenedFor}
 use Rattle.htl_program.specs.Opened.{Known, Opened}
-use Rattle.htl_program.proofs.FirstAbsent.{held_memory}
+use Rattle.htl_program.proofs.FirstAbsent.{held_memory, none_is_absent}
 use Rattle.htl_program.proofs.NamesRead.{AreOpenedBy, all_read, none_read}
 
 -- What holds of all that were taken holds of a list that these are.
@@ -92,6 +92,7 @@ module _ {R : Type 0} (world : Known) (ways : Opened R) (setting : Setting) (bef
     reads = λ known. none_read world ways setting.form.hex names refused.fault unopened;
     folds = λ known taken texts folded held.
         absurd (known (held_memory (map world.holds names) (map world.is_absent names) texts refused.fault held unopened));
+    unopened = λ absent. refl;
     symbols = refl;
   }
 
@@ -113,6 +114,7 @@ module _ {R : Type 0} (world : Known) (ways : Opened R) (setting : Setting) (bef
     reads = λ known. all_read world ways setting.form.hex names sources now (by_fault ended) are (as_a_run ended known read);
     folds = λ known taken texts folded held. folding ended taken texts (ok taken texts folded (are.bytes ∙ held))
         (err taken texts folded (are.bytes ∙ held)) between;
+    unopened = λ absent. absurd (none_is_absent world names are.there absent);
     symbols = symbols;
   }
     where

@@ -1,6 +1,6 @@
 -- What is said of what is kept is said of what was read, as far as that is known, also once more files are read.
-use Rattle.std.proofs.Common.{◌≡◌, ℕ, Bool, List, [], ◌∷◌, Option, None, Some, ap, map, refl, subst, sym}
-use Rattle.std.specs.Prelude.{IfSome, Result, Ok, Err, option_map}
+use Rattle.std.proofs.Common.{◌≡◌, ℕ, Bool, false, true, List, [], ◌∷◌, Option, None, Some, ap, map, refl, subst, sym}
+use Rattle.std.specs.Prelude.{IfSome, Result, Ok, Err}
 use Rattle.htl_command.specs.declared.question.Job.{Job}
 use Rattle.htl_command.specs.declared.question.Setting.{Setting}
 use Rattle.htl_main.specs.Folding.{AreFolded}
@@ -10,7 +10,8 @@ use Rattle.htl_main.specs.declared.adding.Added.{Added}
 use Rattle.htl_main.specs.declared.folding.Folded.{Folded}
 use Rattle.htl_main.specs.declared.loading.Loaded.{Loaded}
 use Rattle.htl_main.specs.declared.refused.Refused.{Refused}
-use Rattle.htl_program.specs.Asking.{GoesOn, IsSubjectOver, IsTextOver, LeadsTo, ReadsMore, Taken, all_known, inputs, inputs_then, segments}
+use Rattle.htl_program.specs.Asking.{Found, GoesOn, IfAllHold, IsSubjectOver, IsTextOver, LeadsTo, ReadsMore, Taken, all_hold, found}
+use Rattle.htl_program.specs.Asking.{found_with, inputs, inputs_then, one_is_absent, segments, unknown}
 use Rattle.htl_program.specs.Loads.{AddsFiles, AreKept, FoldsFiles, HasSubjectIn, HasTextIn, IsCovered, ReadsFiles}
 use Rattle.htl_program.specs.Opened.{Known, Opened, ends, lefts}
 use Rattle.htl_program.specs.declared.kept.Kept.{Kept}
@@ -48,44 +49,50 @@ module _ (setting : Setting) (symbols : Option (List ℕ)) where
 
 -- ---- over time
 
--- texts that are all known
-known_texts : (held : List (Option (List ℕ))) → IfSome (all_known held) (λ texts. held ≡ map (λ text. Some text) texts)
-known_texts [] = refl
-known_texts (None ∷ more) = tt
-known_texts (Some text ∷ more) = one_more (all_known more) (known_texts more)
+-- what names hold, where that is known of all of them
+known_texts : (world : Known) (names : List (List ℕ))
+    → IfAllHold (found world names) (λ texts. map world.holds names ≡ map (λ text. Some text) texts)
+known_texts world [] = refl
+known_texts world (name ∷ more) = one_more (world.holds name) (world.is_absent name) (found world more) (known_texts world more)
   where
-    one_more : (rest : Option (List (List ℕ))) → IfSome rest (λ texts. more ≡ map (λ t. Some t) texts)
-        → IfSome (option_map (λ texts. text ∷ texts) rest) (λ texts. (Some text ∷ more) ≡ map (λ t. Some t) texts)
-    one_more None is = tt
-    one_more (Some others) is = ap (λ l. Some text ∷ l) is
+    one_more : (held : Option (List ℕ)) (absent : Bool) (rest : Found)
+        → IfAllHold rest (λ texts. map world.holds more ≡ map (λ t. Some t) texts)
+        → IfAllHold (found_with held absent rest) (λ texts. (held ∷ map world.holds more) ≡ map (λ t. Some t) texts)
+    one_more (Some text) absent (all_hold texts) is = ap (λ l. Some text ∷ l) is
+    one_more (Some text) absent one_is_absent is = tt
+    one_more (Some text) absent unknown is = tt
+    one_more None true rest is = tt
+    one_more None false rest is = tt
 
 module _ {R : Type 0} (world : Known) (ways : Opened R) (setting : Setting) (symbols : Option (List ℕ)) (names : List (List ℕ)) where
   -- these texts are those of the names
-  abbrev AreHeld : Option (List (List ℕ)) → Type 0
-  AreHeld rest = IfSome rest (λ texts. map world.holds names ≡ map (λ t. Some t) texts)
+  abbrev AreHeld : Found → Type 0
+  AreHeld rest = IfAllHold rest (λ texts. map world.holds names ≡ map (λ t. Some t) texts)
 
   -- what was read then, which is what is kept then, and to which that led which was read before
-  abbrev Then : Option Taken → Option (List (List ℕ)) → List R → Kept → Result Added Refused → Type 0
+  abbrev Then : Option Taken → Found → List R → Kept → Result Added Refused → Type 0
   Then read rest sources after ended =
       (then : Option Taken) × Holds setting symbols after then
       × LeadsTo setting read rest (lefts (record ways { files = sources })) (ends (record ways { files = sources })) then ended
 
   module _ (before after : Loaded) (texts : List (List ℕ)) (old : AreLoadedOf texts symbols setting None before.case before.symbols) where
-    added_kept : (rest : Option (List (List ℕ))) (ended : Result Added Refused) → AreHeld rest
+    added_kept : (rest : Found) (ended : Result Added Refused) → AreHeld rest
         → AddsFiles world ways setting before names after ended
         → IfSome (inputs_then texts rest ended) (AreKept setting symbols (Case after))
-    added_kept None (Ok added) held adds = tt
-    added_kept (Some more) (Ok added) held adds =
+    added_kept one_is_absent (Ok added) held adds = tt
+    added_kept unknown (Ok added) held adds = tt
+    added_kept (all_hold more) (Ok added) held adds =
         loaded_then world ways setting symbols before after names texts old more added held adds
     added_kept rest (Err refused) held adds =
         subst (λ (loaded : Loaded). AreLoadedOf texts symbols setting None loaded.case loaded.symbols) (sym adds.same) old
 
-    added_leads : (rest : Option (List (List ℕ))) (ended : Result Added Refused) → AreHeld rest
+    added_leads : (rest : Found) (ended : Result Added Refused) → AreHeld rest
         → (adds : AddsFiles world ways setting before names after ended)
         → LeadsTo setting (Some (inputs texts)) rest (lefts (record ways { files = adds.sources }))
         (ends (record ways { files = adds.sources })) (inputs_then texts rest ended) ended
-    added_leads None ended held adds = (refl, tt)
-    added_leads (Some more) ended held adds = (refl, adds_to world ways setting symbols before after names texts old more ended adds held)
+    added_leads one_is_absent ended held adds = (refl, tt)
+    added_leads unknown ended held adds = (refl, tt)
+    added_leads (all_hold more) ended held adds = (refl, adds_to world ways setting symbols before after names texts old more ended adds held)
 
   -- Files were added to what is known by what was read, or were not.
   module _ (before after : Loaded) where
@@ -94,7 +101,7 @@ module _ {R : Type 0} (world : Known) (ways : Opened R) (setting : Setting) (sym
     covered_then read (Ok added) holds adds = adds.coverage
     covered_then read (Err refused) holds adds = subst (λ (loaded : Loaded). IsCovered (Case loaded)) (sym adds.same) holds.covered
 
-    case_then : (read : Option Taken) (rest : Option (List (List ℕ))) (ended : Result Added Refused)
+    case_then : (read : Option Taken) (rest : Found) (ended : Result Added Refused)
         → Holds setting symbols (Case before) read → AreHeld rest → (adds : AddsFiles world ways setting before names after ended)
         → Then read rest adds.sources (Case after) ended
     case_then None rest ended holds held adds =
@@ -111,13 +118,22 @@ module _ {R : Type 0} (world : Known) (ways : Opened R) (setting : Setting) (sym
 
   -- Files were folded behind what was folded, or some of what they have.
   module _ (before after : Folded) where
-    state_then : (read : Option Taken) (rest : Option (List (List ℕ))) (ended : Result Added Refused)
-        → Holds setting symbols (State before) read → AreHeld rest → (folds : FoldsFiles world ways setting before names after ended)
-        → GoesOn ended → Then read rest folds.sources (State after) ended
-    state_then None rest ended holds held folds fine = (None, record { covered = tt; are = tt }, refl)
-    state_then (Some (inputs texts)) rest ended holds held folds fine = absurd holds.are
-    state_then (Some (segments earlier)) None ended holds held folds fine = (None, record { covered = tt; are = tt }, (fine, refl))
-    state_then (Some (segments earlier)) (Some texts) ended holds held folds fine =
+    state_then : (read : Option Taken) (rest : Found) (ended : Result Added Refused)
+        → Holds setting symbols (State before) read → AreHeld rest → found world names ≡ rest
+        → (folds : FoldsFiles world ways setting before names after ended) → GoesOn ended → Then read rest folds.sources (State after) ended
+    state_then None rest ended holds held is folds fine = (None, record { covered = tt; are = tt }, refl)
+    state_then (Some (inputs texts)) rest ended holds held is folds fine = absurd holds.are
+    state_then (Some (segments earlier)) unknown ended holds held is folds fine = (None, record { covered = tt; are = tt }, (fine, refl))
+    state_then (Some (segments earlier)) one_is_absent ended holds held is folds fine = (
+      Some (segments earlier),
+      record {
+        covered = tt;
+        are = subst (λ (folded : Folded). AreFolded folded.analyst earlier × HasSymbols symbols folded.symbols)
+            (sym (folds.unopened is)) holds.are;
+      },
+      (fine, refl),
+    )
+    state_then (Some (segments earlier)) (all_hold texts) ended holds held is folds fine =
         let are : AreFolded before.analyst earlier × HasSymbols symbols before.symbols = holds.are in
         let now = took setting earlier texts (AreFolded after.analyst) (lefts (record ways { files = folds.sources }))
         (ends (record ways { files = folds.sources })) ended fine (folds.folds fine earlier texts are.0 held) in (
@@ -131,12 +147,11 @@ module _ {R : Type 0} (world : Known) (ways : Opened R) (setting : Setting) (sym
       → Holds setting symbols before read → ReadsFiles world ways setting before names after ended
       → (then : Option Taken) × Holds setting symbols after then × ReadsMore world ways setting read names then ended
   reading_more (Case before) read (Case after) ended holds adds =
-      let now = case_then before after read (all_known (map world.holds names)) ended holds (known_texts (map world.holds names)) adds in
+      let now = case_then before after read (found world names) ended holds (known_texts world names) adds in
       (now.0, now.1, record { sources = adds.sources; reads = adds.reads; leads = now.2 })
   reading_more (State before) read (State after) ended holds reads =
       let folds = reads.0 in
-      let now = state_then before after read (all_known (map world.holds names)) ended holds (known_texts (map world.holds names)) folds
-      reads.1 in
+      let now = state_then before after read (found world names) ended holds (known_texts world names) refl folds reads.1 in
       (now.0, now.1, record { sources = folds.sources; reads = folds.reads reads.1; leads = now.2 })
   reading_more (Case before) read (State after) ended holds reads = absurd reads
   reading_more (State before) read (Case after) ended holds reads = absurd reads

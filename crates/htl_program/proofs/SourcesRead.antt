@@ -1,8 +1,14 @@
--- How sources were read doesn't depend on what a run that ended well answers, or on what a run that ended by a fault would have.
-use Rattle.std.proofs.Common.{Bool, List, ℕ, ap, refl}
+-- How sources were read doesn't depend on what a run that ended well answers, or on what a run that ended by a fault would have. A fault
+-- that isn't of all segments is about no two of them.
+use Rattle.std.proofs.Common.{◌≢◌, Bool, List, ℕ, ap, refl}
 use Rattle.std.specs.Prelude.{Option, Ok, Err}
+use Rattle.htl_case.specs.declared.fault.CaseFault.{CaseFault}
+use Rattle.htl_command.specs.declared.question.InputForm.{InputForm}
+use Rattle.htl_main.specs.Origins.{IsBetween}
 use Rattle.htl_main.specs.Readings.{AreRead}
 use Rattle.htl_main.specs.declared.fault.RunFault.{RunFault}
+use Rattle.htl_main.specs.declared.fault.RunFault.TheVariants.{Case}
+use Rattle.htl_main.specs.declared.origin.Between.TheVariants.{Nothing}
 use Rattle.htl_program.proofs.PassedOn.{no_fault, same_fault}
 
 -- sources that a run read that ended well were read so whatever it answers
@@ -36,3 +42,9 @@ as_refused is_text has_failed has_ended good_reads remaining old new fault read 
   unread = read.unread;
   to_fault = read.to_fault;
 }
+
+-- a fault that isn't of all segments is about no two of them
+pub about_none : (form : InputForm) (inputs : List (List ℕ)) (fault : RunFault) → ((broken : CaseFault) → fault ≢ Case broken)
+    → IsBetween form inputs fault Nothing
+about_none form inputs (Case broken) never = absurd (never broken refl)
+about_none form inputs fault never = refl

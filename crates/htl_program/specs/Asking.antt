@@ -14,7 +14,7 @@ use Rattle.htl_dialogue.specs.declared.dialogue.DialogueFault.TheVariants.{Quest
 use Rattle.htl_main.specs.Adding.{IsAdded, IsAddingRefused}
 use Rattle.htl_main.specs.Coverages.{Covers}
 use Rattle.htl_main.specs.CutInputs.{AreCut}
-use Rattle.htl_main.specs.Folding.{IsBeginningRefused, IsCaseOfFirsts, IsFolded, IsFoldingRefused, IsHalfKnown}
+use Rattle.htl_main.specs.Folding.{IsAskedOver, IsBeginningRefused, IsFolded, IsFoldingRefused, IsHalfKnown}
 use Rattle.htl_main.specs.Inputs.{DecodeAll}
 use Rattle.htl_main.specs.Loading.{in_setting}
 use Rattle.htl_main.specs.Origins.{IsBetween, by_fault}
@@ -57,11 +57,11 @@ pub data Taken : Type 0 where
   inputs : List (List ℕ) → Taken
   segments : List Content → Taken
 
--- This is what a run prints over the first segment of each key, where these are a case: the text of the definition's value over all of
--- them.
+-- This is what a run prints over the first segment of each key, where the question can be asked over these: the text of the definition's
+-- value over all of them.
 abbrev pub IsFoldsText : Option (List ℕ) → List Content → Job → List ℕ → Type 0
 IsFoldsText symbols taken job text =
-    (T : Trace) → IsCaseOfFirsts taken T → (table : List Range) × HasSymbols symbols table × IsText T table job text
+    (T : Trace) → IsAskedOver job.question taken T → (table : List Range) × HasSymbols symbols table × IsText T table job text
 
 abbrev pub IsTextOver : Setting → Option (List ℕ) → Option Taken → Job → List ℕ → Type 0
 IsTextOver setting symbols None job text = ⊤
@@ -110,29 +110,52 @@ IsFolding setting before texts lefts ends Keeps (Ok added) = IsFolded setting be
 IsFolding setting before texts lefts ends Keeps (Err refused) =
     IsFoldingRefused setting before texts lefts ends Keeps refused.fault × IsHalfKnown refused.fault refused.between
 
--- these texts, where each of them is known
-abbrev pub all_known : List (Option (List ℕ)) → Option (List (List ℕ))
-all_known [] = Some []
-all_known (None ∷ more) = None
-all_known (Some text ∷ more) = option_map (λ texts. text ∷ texts) (all_known more)
+-- What is known of names: they all hold these texts; or there is nothing to open for one of them, and what those before it hold is known;
+-- or it is unknown what one of them holds.
+pub data Found : Type 0 where
+  all_hold : List (List ℕ) → Found
+  one_is_absent : Found
+  unknown : Found
 
--- the inputs by then: refused files leave those from before, and files of unknown texts leave them unknown
-abbrev pub inputs_then : List (List ℕ) → Option (List (List ℕ)) → Result Added Refused → Option Taken
-inputs_then before more (Ok added) = option_map (λ texts. inputs (before ++ texts)) more
+-- the same with one name more in front, by what it holds and whether there is nothing to open
+abbrev pub found_with : Option (List ℕ) → Bool → Found → Found
+found_with (Some text) absent (all_hold texts) = all_hold (text ∷ texts)
+found_with (Some text) absent more = more
+found_with None true more = one_is_absent
+found_with None false more = unknown
+
+abbrev pub found : Known → List (List ℕ) → Found
+found world [] = all_hold []
+found world (name ∷ more) = found_with (world.holds name) (world.is_absent name) (found world more)
+
+-- this holds of their texts, where these are known
+abbrev pub IfAllHold : Found → (List (List ℕ) → Type 0) → Type 0
+IfAllHold (all_hold texts) P = P texts
+IfAllHold other P = ⊤
+
+-- the inputs once all files were read: files of unknown texts leave them unknown
+abbrev pub inputs_with : List (List ℕ) → Found → Option Taken
+inputs_with before (all_hold texts) = Some (inputs (before ++ texts))
+inputs_with before other = None
+
+-- the inputs by then: refused files leave those from before
+abbrev pub inputs_then : List (List ℕ) → Found → Result Added Refused → Option Taken
+inputs_then before more (Ok added) = inputs_with before more
 inputs_then before more (Err refused) = Some (inputs before)
 
 -- The dialogue goes on: where memory was refused to what forgets, it isn't known what was taken, and nothing more is answered.
 abbrev pub GoesOn : Result Added Refused → Type 0
 GoesOn ended = IfErr ended (λ refused. refused.fault ≢ Memory)
 
--- What was read before leads to what was read then, where files were read, of which these texts are known.
-abbrev pub LeadsTo : Setting → Option Taken → Option (List (List ℕ)) → List (Option (List ℕ)) → List Bool → Option Taken
-    → Result Added Refused → Type 0
+-- What was read before leads to what was read then, where files were read, of whose names this is known. If one of them couldn't be opened,
+-- nothing was read of any.
+abbrev pub LeadsTo : Setting → Option Taken → Found → List (Option (List ℕ)) → List Bool → Option Taken → Result Added Refused → Type 0
 LeadsTo setting None more lefts ends after ended = after ≡ None
 LeadsTo setting (Some (inputs before)) more lefts ends after ended =
-    (after ≡ inputs_then before more ended) × IfSome more (λ texts. AddsTo setting before texts lefts ends ended ⊎ RunsOut ended)
-LeadsTo setting (Some (segments before)) None lefts ends after ended = GoesOn ended × (after ≡ None)
-LeadsTo setting (Some (segments before)) (Some texts) lefts ends after ended =
+    (after ≡ inputs_then before more ended) × IfAllHold more (λ texts. AddsTo setting before texts lefts ends ended ⊎ RunsOut ended)
+LeadsTo setting (Some (segments before)) unknown lefts ends after ended = GoesOn ended × (after ≡ None)
+LeadsTo setting (Some (segments before)) one_is_absent lefts ends after ended = GoesOn ended × (after ≡ Some (segments before))
+LeadsTo setting (Some (segments before)) (all_hold texts) lefts ends after ended =
     GoesOn ended × (taken : List Content) × (after ≡ Some (segments taken))
     × IsFolding setting before texts lefts ends (λ all. all ≡ taken) ended
 
@@ -141,8 +164,8 @@ pub record ReadsMore {R : Type 0} (world : Known) (ways : Opened R) (setting : S
     (after : Option Taken) (ended : Result Added Refused) : Type 0 where
   pub sources : List R
   pub reads : ReadsNames world setting.form.hex names (record ways { files = sources }) (by_fault ended)
-  pub leads : LeadsTo setting before (all_known (map world.holds names)) (lefts (record ways { files = sources }))
-      (ends (record ways { files = sources })) after ended
+  pub leads : LeadsTo setting before (found world names) (lefts (record ways { files = sources })) (ends (record ways { files = sources }))
+      after ended
 
 -- Who answers from what was read so far.
 abbrev pub answers_over : {R : Type 0} → Known → Opened R → Setting → Bool → Option (List ℕ) → Answers (Option Taken)

@@ -7,7 +7,7 @@ use Rattle.htl_dialogue.specs.Dialogues.{Answers, answers_by}
 use Rattle.htl_dialogue.specs.declared.saying.Said.{Said}
 use Rattle.htl_dialogue.specs.declared.saying.Said.TheVariants as said
 use Rattle.htl_main.specs.Coverages.{IsCoverage}
-use Rattle.htl_main.specs.Folding.{AreFolded, IsCaseOfFirsts}
+use Rattle.htl_main.specs.Folding.{AreFolded, IsAskedOver}
 use Rattle.htl_main.specs.Loading.{AreLoadedOf}
 use Rattle.htl_main.specs.Origins.{by_fault}
 use Rattle.htl_main.specs.Printed.{HasSymbols, IsText}
@@ -18,7 +18,7 @@ use Rattle.htl_main.specs.declared.loading.Loaded.{Loaded}
 use Rattle.htl_main.specs.declared.refused.Refused.{Refused}
 use Rattle.htl_segment.specs.Content.{Content}
 use Rattle.htl_segment.specs.Traces.{Trace}
-use Rattle.htl_program.specs.Asking.{Begins, GoesOn, IsAdding, IsFolding, ReadsNames, Taken, inputs, segments}
+use Rattle.htl_program.specs.Asking.{Begins, GoesOn, IsAdding, IsFolding, ReadsNames, Taken, found, inputs, one_is_absent, segments}
 use Rattle.htl_program.specs.Endings.{RunsOut}
 use Rattle.htl_program.specs.Opened.{Known, Opened, ends, lefts}
 use Rattle.htl_program.specs.declared.kept.Begun.{Begun}
@@ -41,7 +41,8 @@ IsOfForm forgets other = ⊤
 abbrev pub HasTextIn : Kept → Job → List ℕ → Type 0
 HasTextIn (Case loaded) job text = IsCoverage loaded.case loaded.coverage → IsText loaded.case loaded.symbols job text
 HasTextIn (State folded) job text =
-    (taken : List Content) (T : Trace) → AreFolded folded.analyst taken → IsCaseOfFirsts taken T → IsText T folded.symbols job text
+    (taken : List Content) (T : Trace) → AreFolded folded.analyst taken → IsAskedOver job.question taken T
+    → IsText T folded.symbols job text
 
 -- a state can't tell that there is no event
 abbrev pub HasSubjectIn : Kept → Job → Bool → Type 0
@@ -77,6 +78,7 @@ pub record FoldsFiles {R : Type 0} (world : Known) (ways : Opened R) (setting : 
       → map world.holds names ≡ map Some texts
       → IsFolding setting taken texts (lefts (record ways { files = sources })) (ends (record ways { files = sources }))
       (AreFolded after.analyst) ended
+  pub unopened : found world names ≡ one_is_absent → after ≡ before
   pub symbols : after.symbols ≡ before.symbols
 
 abbrev pub ReadsFiles : {R : Type 0} → Known → Opened R → Setting → Kept → List (List ℕ) → Kept → Result Added Refused → Type 0

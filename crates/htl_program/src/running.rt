@@ -1,16 +1,13 @@
 //! The run of a question over opened inputs.
 
-ghost use Rattle.std.specs.Prelude.{◌≡◌, ℕ, All, IfErr, IfNone, IfOk, IfSome, List, false};
+ghost use Rattle.std.specs.Prelude.{◌≡◌, All, IfErr, IfOk, false};
 ghost use Rattle.std.specs.Option.{option_copied};
-ghost use Rattle.htl_case.specs.declared.fault.CaseFault.{CaseFault};
-ghost use Rattle.htl_command.specs.declared.question.InputForm.{InputForm};
-ghost use Rattle.htl_main.specs.Origins.{IsBetween};
 ghost use Rattle.htl_main.specs.Picked.{Serves};
 ghost use Rattle.htl_program.specs.Runs.{IsRun};
 
 use htl_command::Job;
 use htl_device::{Parted, Sink};
-use htl_main::{Completed, Interest, Lacking, Refused, RunFault, pick_from, run_from};
+use htl_main::{Completed, Interest, Lacking, Refused, pick_from, run_from};
 use std::alloc::Global;
 use std::thread::Threads;
 
@@ -32,9 +29,8 @@ pub(crate) fn run_opened<Rt: Threads + Sync, R: Parted, O: Sink>(
     run_from(rt, alloc, job, inputs, symbols, out)
 }
 
-/// Runs the question over only the events of this interest. With nothing written, returns what is
-/// lacking if these don't tell the outcome: so whole segments for a fault of all segments, whose two
-/// segments only they can name.
+/// Runs the question over only the events of this interest. If these don't tell the outcome, nothing
+/// is written, and what is lacking is returned.
 pub(crate) fn pick_opened<Rt: Threads + Sync, R: Parted, O: Sink>(
     rt: &Rt,
     alloc: Global,
@@ -57,22 +53,6 @@ pub(crate) fn pick_opened<Rt: Threads + Sync, R: Parted, O: Sink>(
     match pick_from(rt, alloc, job, interest, inputs, symbols, out) {
         Ok(Ok(completed)) => Ok(Ok(completed)),
         Ok(Err(lacking)) => Err(lacking),
-        Err(fault) => match about_no_two(fault) {
-            Some(refused) => Ok(Err(refused)),
-            None => Err(Lacking::Segments),
-        },
-    }
-}
-
-/// The refusal for a fault that isn't about two segments. There is none for a fault of all
-/// segments.
-fn about_no_two(fault: RunFault) -> Option<Refused>
-    ensures some { (form : InputForm) → (texts : List (List ℕ)) → IfSome result (λ refused.
-        (refused.fault ≡ fault) × IsBetween form texts fault refused.between) }
-    ensures none { IfNone result ((broken : CaseFault) × (fault ≡ RunFault.Case broken)) }
-{
-    match fault {
-        RunFault::Case(_) => None,
-        _ => Some(Refused::from(fault)),
+        Err(fault) => Ok(Err(Refused::from(fault))),
     }
 }

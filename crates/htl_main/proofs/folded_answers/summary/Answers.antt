@@ -1,12 +1,12 @@
--- The rows are those of all events of the case of what was taken.
+-- The rows are those of all events of what was taken.
 use denote.Param.Send.{sendable}
-use Rattle.std.proofs.Common.{map}
+use Rattle.std.proofs.Common.{map, refl}
 use Rattle.std.proofs.Crossing.{crosses}
 use Rattle.htl_analyst.specs.TakenEvents.{contents_of}
 use Rattle.htl_segment.specs.Traces.{all_events}
 use Rattle.htl_segment.proofs.Threads.{segment_sync}
 use Rattle.htl_main.proofs.Shared.{part_sync}
-use Rattle.htl_main.proofs.FoldLaws.{gaps_of_case, parts_of_case, right_of_case}
+use Rattle.htl_main.proofs.FoldLaws.{gaps_of_all, parts_of_all, right_of_all}
 use Rattle.htl_main.proofs.folded_answers.summary.Goals as goal
 
 pub summarize-requires : goal.summarize-requires
@@ -16,16 +16,16 @@ summarize-requires g c = (
 )
 
 pub returns : goal.returns
-returns g c = λ segments T folded case.
+returns g c = λ segments T folded is.
     let a = c.args.analyst.now in
     let some = folded.taken.0 in
     let took = folded.taken.1 in
-    let right = right_of_case segments a T took some case in
+    let right = right_of_all segments a T took some is.all in
     let events = all_events T.segments in
-    let of = parts_of_case segments a T folded case (map contents_of c.parts.result.now) (c.parts.ensures.events T right) in
+    let of = parts_of_all segments a T folded is.all (map contents_of c.parts.result.now) (c.parts.ensures.events T right) in
     record {
-      totals_are = c.totals.ensures segments T folded case (c.in_ok-objects.ensures.number events of);
-      gaps_are = gaps_of_case segments a T took some case c.in_ok-gaps.gaps.items c.in_ok-gaps.ensures;
-      processes_are = c.in_ok-objects.ensures.processes events of case.is_case.trace.sequences;
+      totals_are = c.totals.ensures segments T folded is.all (c.in_ok-objects.ensures.number events of);
+      gaps_are = gaps_of_all segments a T took some is.all c.in_ok-gaps.gaps.items c.in_ok-gaps.ensures;
+      processes_are = c.in_ok-objects.ensures.processes events of (is.case refl).trace.sequences;
       objects_are = c.in_ok-objects.ensures.unbalanced events of;
     }

@@ -14,8 +14,8 @@ returns-clause-err c =
     let found = first_at c.args.gaps.now gap (sym c.in-Some.ensures.value) in
     let listed = subst (λ (gaps : List Gap). IsGaps (HasTaken a) a.processors gaps) found.1 c.requires in (
       refl,
-      λ segments T folded case. rw (c.front.ensures, c.processor-processor.ensures)
-          (least_of_gaps segments a T folded.taken.1 folded.taken.0 case folded.far gap found.0 listed),
+      λ segments T folded all. rw (c.front.ensures, c.processor-processor.ensures)
+          (least_of_gaps segments a T folded.taken.1 folded.taken.0 all folded.far gap found.0 listed),
     )
 
 pub returns-in_default-clause-ok : goal.returns-in_default-clause-ok

@@ -24,28 +24,32 @@ const PERIOD: u64 = 200;
 /// How many characters the line has.
 const WIDTH: usize = 17;
 
-/// How much of the inputs was read.
+/// How much of the inputs was read. Times are counted from when the `Progress` was made.
 #[derive(Clone, Copy)]
 struct Meter {
+    /// When reading began.
+    began: Duration,
     /// The bytes that were read.
     read: u64,
     /// The bytes of all inputs, where they are known.
     total: Option<u64>,
     /// How many inputs have not ended.
     inputs: u64,
-    /// When the line that is shown was written, as the time since reading began.
+    /// When the line that is shown was written.
     shown: Option<Duration>,
 }
 
 impl Meter {
-    /// No input yet, and nothing read.
-    fn new() -> Meter
+    /// No input yet, and nothing read at this time.
+    fn new(began: Duration) -> Meter
+        ensures began { result.began ≡ began }
         ensures read { result.read ≡ 0 }
         ensures total { result.total ≡ Some 0 }
         ensures inputs { result.inputs ≡ 0 }
         ensures shown { result.shown ≡ None }
     {
         Meter {
+            began,
             read: 0,
             total: Some(0),
             inputs: 0,
@@ -60,7 +64,8 @@ impl Meter {
         ensures still_unknown { IfNone self.old.total (self.new.total ≡ None) }
         ensures known { IfSome self.old.total (λ total. IfSome len (λ more.
             total + more < 2 ^ 64 → self.new.total ≡ Some (total + more))) }
-        ensures kept { (self.new.read ≡ self.old.read) × (self.new.shown ≡ self.old.shown) }
+        ensures kept { (self.new.read ≡ self.old.read) × (self.new.shown ≡ self.old.shown)
+            × (self.new.began ≡ self.old.began) }
     {
         self.inputs = self.inputs.saturating_add(1);
         self.total = match (self.total, len) {
@@ -80,20 +85,20 @@ impl Meter {
     fn end(&mut self)
         ensures inputs { self.new.inputs ≡ self.old.inputs - 1 }
         ensures kept { (self.new.read ≡ self.old.read) × (self.new.total ≡ self.old.total)
-            × (self.new.shown ≡ self.old.shown) }
+            × (self.new.shown ≡ self.old.shown) × (self.new.began ≡ self.old.began) }
     {
         self.inputs = self.inputs.saturating_sub(1);
     }
 
-    /// Whether the line is to be written at this time since reading began.
+    /// Whether the line is to be written at this time.
     fn is_due(&self, now: Duration) -> bool
         ensures first { IfNone self.now.shown (IsTrue result
-            ↔ (PATIENCE * 1_000_000_000 ≤ as_nanos now)) }
+            ↔ (PATIENCE * 1_000_000_000 ≤ as_nanos now - as_nanos self.now.began)) }
         ensures again { IfSome self.now.shown (λ at. IsTrue result
             ↔ (PERIOD * 1_000_000 ≤ as_nanos now - as_nanos at)) }
     {
         match self.shown {
-            None => now >= Duration::from_secs(PATIENCE),
+            None => now.saturating_sub(self.began) >= Duration::from_secs(PATIENCE),
             Some(at) => now.saturating_sub(at) >= Duration::from_millis(PERIOD),
         }
     }
@@ -175,20 +180,20 @@ impl fmt::Display for Amount {
 #[derive(Drop)]
 pub struct Progress {
     rt: HostRuntime,
+    /// When the meter was made.
     began: Instant,
     meter: Cell<Meter>,
     is_hidden: Cell<bool>,
 }
 
 impl Progress {
-    /// Reading begins, of no inputs so far.
+    /// A meter of no inputs so far.
     pub fn begin(rt: HostRuntime) -> io::Result<Progress> {
         let began = Instant::now(&rt)?;
-        let meter = Cell::new(Meter::new());
         Ok(Progress {
             rt,
             began,
-            meter,
+            meter: Cell::new(Meter::new(Duration::ZERO)),
             is_hidden: Cell::new(false),
         })
     }
@@ -198,9 +203,13 @@ impl Progress {
         self.is_hidden.set(true);
     }
 
-    /// One more input will be read, with its number of bytes where that is known.
+    /// One more input will be read, with its number of bytes where that is known. Where all others
+    /// have ended, or there is none, reading begins anew.
     pub fn open(&self, len: Option<u64>) {
         let mut meter = self.meter.get();
+        if meter.inputs == 0 {
+            meter = Meter::new(self.began.elapsed(&self.rt).unwrap_or(meter.began));
+        }
         meter.open(len);
         self.meter.set(meter);
     }

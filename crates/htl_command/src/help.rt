@@ -25,7 +25,7 @@ Options of every question, from summary to growth:
   [FILES]...            Trace segments; standard input where no file is given
 
 Exit status:
-  0  done                        4  not one trace, or not the one asked about
+  0  done                        4  not one trace, or no event asked about
   1  found, with --exit-code     5  a read or a write failed
   2  wrong command line          6  out of memory
   3  not a segment or its text   7  not a symbol table
@@ -53,7 +53,9 @@ Options of every question:
       --json       One JSON object a line, for other programs
 
 'COMMAND --help' lists the options of a question. 'read FILE ..' reads more
-segments. An argument with blanks stands in double quotes. 'quit' ends.";
+segments. An argument with blanks stands in double quotes. 'quit' ends.
+
+With --fold no line asks for 'trace', 'growth' or '--until'.";
 
 pub(crate) const FILES_HELP: &str = "Trace segments; standard input where no file is given";
 

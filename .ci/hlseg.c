@@ -1,14 +1,16 @@
 /* Threads that open, close and refer at once, and record it with tools/hlseg.h. The bundle goes to a file. Standard output says how many
-   segments were lost, and has a line `handle thread` for each handle of process 4 that is open at the end.
+   segments and events were lost, and has a line `handle thread` for each handle of process 4 that is open at the end.
 
      hlseg VERSION SEGMENTS SEGMENT_BYTES DRAINS BUNDLE
 
-   DRAINS says who drains: `thread`, one of its own while events come; `filler`, the thread that filled a segment; or `nobody` before
-   the end. */
+   DRAINS says who drains: `thread`, one of its own while events come; `ticks`, this one, and one more ticks all the time; `filler`, the
+   thread that filled a segment; or `nobody` before the end. */
+#define _DEFAULT_SOURCE
 #include <pthread.h>
 #include <stdio.h>
 #include <stdlib.h>
 #include <string.h>
+#include <unistd.h>
 
 enum { THREADS = 8, USED_PROCESSORS = 4, PROCESSORS = 5, ROUNDS = 4000, LEAKS_EACH = 500, HANDLES = 4096, DEEP = 100 };
 #define OBJECT 0xffffa00000001000u
@@ -114,8 +116,42 @@ static void *drain(void *unused) {
     return unused;
 }
 
+static void *tick(void *unused) {
+    unsigned thread = 0, at;
+    pthread_setspecific(thread_key, &thread);
+    while (!HLSEG_LOAD(&is_over)) {
+        for (at = 0; at < PROCESSORS; at++) {
+            hlseg_tick(&trace, at);
+        }
+        usleep(200);
+    }
+    return unused;
+}
+
 static void write_out(void *file, const void *bytes, size_t length) {
     demand(fwrite(bytes, 1, length, file) == length, "the bundle can't be written");
+}
+
+static void count_segment(void *segments, const void *bytes, size_t length) {
+    demand(bytes && length >= HLSEG_HEADER_BYTES, "a segment without its header was handed out");
+    ++*(unsigned *)segments;
+}
+
+/* A segment that is full at the flush is handed out, and a tick behind it. Of ticks that nobody drains one waits. */
+static void demand_ticks(const struct hlseg_origin *deep) {
+    unsigned segments = 0;
+    struct hlseg_settings settings = {2, 1, 3, hlseg_least_bytes(2), 7, count_segment, NULL};
+    struct hlseg_trace small;
+    void *memory = malloc(hlseg_size(&settings));
+    settings.context = &segments;
+    demand(hlseg_begin(&small, &settings, memory), "the least settings were refused");
+    demand(hlseg_open(&small, deep, 4) == HLSEG_ADDED, "an event that fills a segment was refused");
+    hlseg_flush(&small);
+    demand(segments == 2 && small.sequence == 2, "a full segment has no tick behind it");
+    demand(hlseg_tick(&small, 0) && !hlseg_tick(&small, 0), "two ticks wait");
+    demand(hlseg_open(&small, deep, 4) == HLSEG_ADDED && hlseg_open(&small, deep, 8) == HLSEG_FILLED, "ticks fill a ring");
+    demand(hlseg_open(&small, deep, 12) == HLSEG_LOST && hlseg_lost_events(&small) == 1, "an event too many was not lost");
+    free(memory);
 }
 
 /* What the format has not is refused and leaves no event, and a deep stack is cut. */
@@ -134,6 +170,21 @@ static void record_limits(void) {
     demand((hlseg_exit(&trace, &origin) == HLSEG_REFUSED) == (trace.settings.version == 1), "an exit was not as the version has it");
     demand(trace.sequence == trace.settings.version - 1, "a refused event took a sequence");
     demand(hlseg_open(&trace, &origin, 0x44) == HLSEG_ADDED, "a deep stack was refused");
+    demand_ticks(&origin);
+}
+
+/* Settings that ask for more bytes than there are addresses have no size, also where the product would be small or the sum would. */
+static void demand_no_overflow(const struct hlseg_settings *settings) {
+    static const size_t bytes[] = {SIZE_MAX, SIZE_MAX - 7, SIZE_MAX - 8, SIZE_MAX / 2 + 1, SIZE_MAX / UINT32_MAX + 2};
+    struct hlseg_settings huge = *settings;
+    unsigned at;
+    for (at = 0; at < sizeof bytes / sizeof *bytes; at++) {
+        huge.segments = at < 3 ? 2 : UINT32_MAX;
+        huge.segment_bytes = bytes[at];
+        if (huge.segment_bytes > hlseg_least_bytes(huge.version)) {
+            demand(!hlseg_size(&huge), "more bytes than there are addresses were taken");
+        }
+    }
 }
 
 static void begin(const struct hlseg_settings *settings) {
@@ -147,18 +198,20 @@ static void begin(const struct hlseg_settings *settings) {
     wrong = *settings;
     wrong.processors = wrong.version == 1 ? 65 : 257;
     demand(!hlseg_size(&wrong), "too many processors were taken");
+    demand_no_overflow(settings);
 }
 
 int main(int count, char **words) {
     struct hlseg_settings settings = {0, PROCESSORS, 0, 0, 7, write_out, NULL};
-    pthread_t threads[THREADS], drainer = 0;
+    pthread_t threads[THREADS], drainer = 0, ticker = 0;
     unsigned numbers[THREADS], at;
-    int thread_drains;
+    int thread_drains, thread_ticks;
     demand(count == 6, "it takes five arguments");
     settings.version = (unsigned)atoi(words[1]);
     settings.segments = (unsigned)atoi(words[2]);
     settings.segment_bytes = *words[3] == 'm' ? hlseg_most_bytes(settings.version) : (size_t)atoi(words[3]);
-    thread_drains = !strcmp(words[4], "thread");
+    thread_ticks = !strcmp(words[4], "ticks");
+    thread_drains = thread_ticks || !strcmp(words[4], "thread");
     filler_drains = !strcmp(words[4], "filler");
     settings.context = fopen(words[5], "wb");
     demand(settings.context != NULL, "the bundle can't be opened");
@@ -168,6 +221,9 @@ int main(int count, char **words) {
     if (thread_drains) {
         pthread_create(&drainer, NULL, drain, NULL);
     }
+    if (thread_ticks) {
+        pthread_create(&ticker, NULL, tick, NULL);
+    }
     for (at = 0; at < THREADS; at++) {
         numbers[at] = at;
         pthread_create(&threads[at], NULL, run, &numbers[at]);
@@ -175,13 +231,17 @@ int main(int count, char **words) {
     for (at = 0; at < THREADS; at++) {
         pthread_join(threads[at], NULL);
     }
+    HLSEG_STORE(&is_over, 1);
     if (thread_drains) {
-        HLSEG_STORE(&is_over, 1);
         pthread_join(drainer, NULL);
     }
+    if (thread_ticks) {
+        pthread_join(ticker, NULL);
+    }
     hlseg_flush(&trace);
+    demand(hlseg_lost_segments(&trace) == lost, "not as many segments were lost as calls said");
     demand(fclose(settings.context) == 0, "the bundle can't be written");
-    printf("%u\n", (unsigned)lost);
+    printf("%u %u\n", (unsigned)lost, (unsigned)hlseg_lost_events(&trace));
     for (at = 0; at < HANDLES; at++) {
         if (is_taken[at]) {
             printf("0x%x %u\n", 4 * at, owner[at]);

@@ -5,6 +5,7 @@ import contextlib
 import os
 import pty
 import select
+import shutil
 import struct
 import subprocess
 import sys
@@ -60,6 +61,14 @@ def changed(data, place, digits):
     return data[:place] + over + data[place + len(over):]
 
 
+def has(script, command, what):
+    """Whether a command is on the path. Where it isn't, says what this script leaves out; .ci/run says it once more at its end."""
+    there = shutil.which(command) is not None
+    if not there:
+        print(f"{script}: left out: {what}, since {command} is not on the path")
+    return there
+
+
 class Asking:
     """Asks the program, and counts its answers. The first one that isn't as wanted ends the script."""
 
@@ -67,7 +76,7 @@ class Asking:
         self.script = script
         self.folder = tempfile.TemporaryDirectory()
         self.asked = 0
-        if subprocess.run([os.path.join(TOP, "hleak"), "--help"], stdout=subprocess.DEVNULL).returncode:
+        if subprocess.run([os.path.join(TOP, "hleak"), "--version"], stdout=subprocess.DEVNULL).returncode:
             sys.exit(f"{script}: the program was not built")
 
     def file(self, name, data):
@@ -77,12 +86,14 @@ class Asking:
             file.write(data)
         return path
 
-    def answer(self, words, files, most=None, limit="true"):
-        """The status, the text and the lines on standard error, in at most so many bytes of addresses or under another limit."""
+    def answer(self, words, files, most=None, limit="true", lines=None):
+        """The status, the text and the lines on standard error, in at most so many bytes of addresses or under another limit. These lines
+        are the standard input."""
         limit = f"ulimit -v {most // 1024}" if most else limit
         ended = subprocess.run(
             ["sh", "-c", limit + ' && exec "$0" "$@"', PROGRAM, *words.split(), *files],
             capture_output=True,
+            input=lines,
             timeout=60,
             env={**os.environ, "MALLOC_ARENA_MAX": "1"},
         )

@@ -3,11 +3,18 @@
  *
  *   cc -std=c99 -no-pie -I tools -o driver samples/driver.c && ./driver > driver.hls && ./hleak leaks --process 4 driver.hls
  *
- * A driver for Windows defines the macros that hlseg.h lists, and takes its memory from the nonpaged pool. A stack is captured by
- * RtlCaptureStackBackTrace(0, 16, frames, NULL). A work item drains: it is queued where an event's call gives other than HLSEG_ADDED.
+ * samples/driver-windows.c is the same as a driver of Windows.
  */
-#include "hlseg.h"
+#ifdef _WIN32
+#include <windows.h>
+#include <fcntl.h>
+#include <io.h>
+#define backtrace(frames, most) CaptureStackBackTrace(0, most, frames, NULL)
+#define OpenFile OpenFileOfDriver /* (Windows has one of its own) */
+#else
 #include <execinfo.h>
+#endif
+#include "hlseg.h"
 #include <stdio.h>
 #include <stdlib.h>
 
@@ -48,6 +55,9 @@ static int StartDevice(int device) {
 int main(void) {
     struct hlseg_settings settings = {1, 1, 4, 65536, 0x7, write_out, NULL}; /* version 1, 1 processor, 4 segments of 64 KB, trace 7 */
     int device, started = 0;
+#ifdef _WIN32
+    _setmode(_fileno(stdout), _O_BINARY);
+#endif
     settings.context = stdout;
     if (!hlseg_begin(&trace, &settings, malloc(hlseg_size(&settings)))) {
         return 1;

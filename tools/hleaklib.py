@@ -1,6 +1,5 @@
 """What the tools beside this file share: names of frames, texts and their faults, and dialogues with the program."""
 import contextlib
-import json
 import os
 import subprocess
 import sys
@@ -72,12 +71,12 @@ class Dialogue:
         self.hleak.stdout.close()  # (it would wait for the rest of an answer to be read)
         self.hleak.wait()
 
-    def values(self, question):
-        """The lines of an answer as JSON, one by one. All have to be taken before the next question."""
+    def lines(self, question):
+        """The lines of an answer in JSON, one by one. All have to be taken before the next question."""
         with contextlib.suppress(BrokenPipeError):
             print(question, "--json", file=self.hleak.stdin, flush=True)
         for line in self.hleak.stdout:
             if line == "\n":  # ends the answer
                 return
-            yield json.loads(line)
+            yield line
         raise Ended(self.hleak.wait())

@@ -6,6 +6,7 @@ import re
 import sys
 
 GREATEST = 2**64 - 1
+GREATEST_NUMBER = 2**32 - 2
 MOST_EVENTS, MOST_FRAMES, MOST_FRAMES_OF_VERSION_1 = 4096, 64, 32
 HEADER = ("start", "end", "module", "name")
 # a prompt of the kernel's or of a user program's debugger, as `0: kd>` and `0:004>`
@@ -23,6 +24,9 @@ def lines_of(path):
     """The numbered lines of a file. The debugger can write UTF-16."""
     with open(path, "rb") as file:
         data = file.read()
+    for form, place in ("UTF-16LE", 1), ("UTF-16BE", 0):
+        if data[:2] not in (b"\xff\xfe", b"\xfe\xff") and len(data) > 1 and not data[place:1000:2].strip(b"\0"):
+            raise Fault(1, f"the log is in UTF-16 without a byte order mark: convert it, as 'iconv -f {form} -t UTF-8' does")
     text = data.decode("utf-16" if data.startswith((b"\xff\xfe", b"\xfe\xff")) else "utf-8-sig", "replace")
     return list(enumerate(re.split(r"\r*\n", text), 1))
 
@@ -35,13 +39,17 @@ def number(line, digits, most=GREATEST):
     return value
 
 
-def segments(events):
-    """The text form of events in the order of their sequences, of which each is a line and its frames."""
+def runs_of(events):
+    """Events in runs, each as long as a segment may be."""
+    return [events[place : place + MOST_EVENTS] for place in range(0, len(events), MOST_EVENTS)]
+
+
+def segments(runs, given):
+    """The text form of segments with these runs of events in the order of their sequences, of which each is a line and its frames."""
     lines = []
-    for place, first in enumerate(range(0, len(events), MOST_EVENTS)):
-        run = events[first : first + MOST_EVENTS]
+    for number, run in enumerate(runs, first_number(given)):
         version = 2 if any(len(frames) > MOST_FRAMES_OF_VERSION_1 for _, frames in run) else 1
-        lines.append(f"segment version={version} trace=0x{1:016x} processors=1 processor=0 number={place}\n")
+        lines.append(f"segment version={version} trace=0x{given.trace_id:016x} processors=1 processor=0 number={number}\n")
         for line, frames in run:
             lines.append(f"{line}\n")
             lines += [f"  0x{frame:016x}\n" for frame in frames]
@@ -64,8 +72,7 @@ class Names:
                 self.names[address] = name
 
     def notes(self):
-        more = f" ({len(self.others) - 1} more such)" if len(self.others) > 1 else ""
-        return [self.others[0] + more] if self.others else []
+        return [self.others[0] + more(self.others)] if self.others else []
 
     def rows(self):
         """A row for each name, from its start to behind the greatest address that has it. Where another name's addresses lie
@@ -99,6 +106,11 @@ def table_of(rows):
     return ",".join(HEADER) + "\n" + "".join(lines)
 
 
+def more(places):
+    """How many places there are behind the first one."""
+    return f" ({len(places) - 1} more such)" if len(places) > 1 else ""
+
+
 def write(text, path=None):
     """Writes a text to a file, or to standard output."""
     if path is None:
@@ -116,10 +128,38 @@ def arguments(about):
     return parser
 
 
+def whole(most):
+    """A reader of numbers up to a greatest one: as the debugger writes them, with 0x, or in decimal digits."""
+
+    def read(text):
+        value = int(text, 16 if text[:2].lower() == "0x" else 10)
+        if not 0 <= value <= most:
+            raise argparse.ArgumentTypeError(f"above 0x{most:x}, or below 0")
+        return value
+
+    read.__name__ = "number"  # (for argparse's message about what isn't one)
+    return read
+
+
+def first_number(given):
+    """The number of the first segment."""
+    return given.number or 0
+
+
+def notes_of_trace(given, runs):
+    """Says which number a further log of the trace begins with, where several seem to be wanted."""
+    if given.number is not None:
+        yield f"a further log of this trace goes on with --number {given.number + len(runs)}"
+
+
 def arguments_of_log(about):
     """The same for one that makes the text of segments, and a symbol table, of one log."""
     parser = arguments(about)
     parser.add_argument("--symbols", metavar="NAMES.csv", help="write the names in the log to this file, as a symbol table")
+    about = "the trace's id, 1 where it is left out: the same for all logs of one boot"
+    parser.add_argument("--trace-id", type=whole(GREATEST), default=1, metavar="ID", help=about)
+    about = "the number of the first segment, 0 where it is left out: for a further log of one trace, one above those before"
+    parser.add_argument("--number", type=whole(GREATEST_NUMBER), metavar="N", help=about)
     parser.add_argument("log", metavar="LOG")
     return parser
 

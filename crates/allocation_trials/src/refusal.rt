@@ -179,17 +179,15 @@ impl From<SurveyFault> for Refusal {
 }
 
 impl From<RunFault> for Refusal {
-    ghost from_gives = { λ fault refusal.
-        IsOutOfMemory refusal ↔ ((fault ≡ runs.Memory) ⊎ (fault ≡ runs.NoThread)) };
+    ghost from_gives = { λ fault refusal. IsOutOfMemory refusal ↔ (fault ≡ runs.Memory) };
 
     fn from(fault: RunFault) -> Refusal {
-        Refusal::of(fault == RunFault::Memory || fault == RunFault::NoThread)
+        Refusal::of(fault == RunFault::Memory)
     }
 }
 
 impl From<Refused> for Refusal {
-    ghost from_gives = { λ refused refusal. IsOutOfMemory refusal
-        ↔ ((refused.fault ≡ runs.Memory) ⊎ (refused.fault ≡ runs.NoThread)) };
+    ghost from_gives = { λ refused refusal. IsOutOfMemory refusal ↔ (refused.fault ≡ runs.Memory) };
 
     fn from(refused: Refused) -> Refusal {
         Refusal::from(refused.fault)

@@ -1,10 +1,10 @@
-pub mod Advice
 pub mod Arguments
 pub mod Explanations
 pub mod Inputs
 pub mod Meanings
 pub mod Notes
 pub mod Openings
+pub mod Reasons
 pub mod Shown
 pub mod Sides
 pub mod Stages

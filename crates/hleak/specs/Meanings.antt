@@ -1,11 +1,11 @@
 -- What faults mean, in words (this project's own): what is wrong, with the part of the inputs that the fault names, and what to do.
-use Rattle.std.specs.Prelude.{◌++◌, ℕ, List, Option, None, Some, codes, option_map}
+use Rattle.std.specs.Prelude.{◌++◌, ℕ, Bool, true, false, List, Option, None, Some, codes, option_map}
 use Rattle.htl_case.specs.declared.fault.CaseFault.{CaseFault}
 use Rattle.htl_case.specs.declared.fault.CaseFault.TheVariants as cases
 use Rattle.htl_command.specs.declared.code.Code.{Code}
 use Rattle.htl_command.specs.declared.code.Code.TheVariants.{S1, S2, S3, S4, S5, S6, S7, S8, S9, S10, S11, S12, S13, S14, S15, S16, S17}
 use Rattle.htl_command.specs.declared.code.Code.TheVariants.{H1, H2, H3}
-use Rattle.htl_command.specs.declared.code.Code.TheVariants.{C1, C2, C3, C4, C5, C6, C7, C8, C9}
+use Rattle.htl_command.specs.declared.code.Code.TheVariants.{C1, C2, C3, C4, C5, C6, C7, C8, C9, C10}
 use Rattle.htl_command.specs.declared.code.Code.TheVariants.{Y1, Y2, Y3, Y4, Y5, Y6, Y7}
 use Rattle.htl_command.specs.declared.code.Code.TheVariants.{E1, E2}
 use Rattle.htl_program.specs.Parts.{part_text}
@@ -26,6 +26,8 @@ use Rattle.htl_text.specs.declared.fault.LineFault.{LineFault}
 use Rattle.htl_text.specs.declared.fault.LineFault.TheVariants as lines
 use Rattle.htl_text.specs.declared.field.Field.{Field}
 use Rattle.hleak.specs.declared.explaining.meaning.Meaning.{Meaning}
+use Rattle.hleak.specs.declared.reason.Reason.{Reason}
+use Rattle.hleak.specs.Reasons.{advice_by, wrong_by}
 
 -- what is wrong with a part, or by itself, and what to do
 abbrev pub said : Option NamedPart → List ℕ → List ℕ → List ℕ
@@ -87,10 +89,29 @@ case_text (cases.Falling processor number) = coded C7 (Some (parts.Key processor
 abbrev pub missing_text : ℕ → ℕ → List ℕ
 missing_text processor number = coded C8 (Some (parts.Key processor number))
 
--- what was asked about has no event, where the status would say that nothing was found
-abbrev pub absent_text : Option Subject → List ℕ
-absent_text None = with_part (part_of C9) (wrong_of C9) ++ (codes ": " ++ advice_of C9)
-absent_text (Some subject) = coded C9 (Some (parts.Subject subject))
+-- an input is cut within a segment of which it isn't known which it is
+abbrev pub unknown_cut_text : ℕ → List ℕ
+unknown_cut_text input = coded C10 (Some (parts.Input input))
+
+-- Nothing can be found of what was asked about, where the status would say that nothing was found. Why, and what to do, is said by whether
+-- a moment was given, and a sequence since which is asked.
+abbrev pub absent_wrong : Bool → Bool → List ℕ
+absent_wrong false false = codes "has no event in these inputs"
+absent_wrong true false = codes "has no event in these inputs, or none up to --until"
+absent_wrong false true = codes "has no event in these inputs, or no event is above --since"
+absent_wrong true true = codes "has no event in these inputs, or none up to --until, or no event that counts is above --since"
+
+abbrev pub absent_advice : Bool → List ℕ
+absent_advice true = codes "is each number right, and --until late enough? A mistyped number looks like one without a leak"
+absent_advice false = codes "is each number right? A mistyped number looks like one without a leak"
+
+abbrev pub absent_part : Option Subject → Option (List ℕ)
+absent_part None = part_of C9
+absent_part (Some subject) = Some (part_text (parts.Subject subject))
+
+abbrev pub absent_text : Option Subject → Bool → Bool → List ℕ
+absent_text subject has_moment has_since =
+    with_part (absent_part subject) (absent_wrong has_moment has_since) ++ (codes ": " ++ absent_advice has_moment)
 
 abbrev pub symbols_text : SymbolFault → List ℕ
 symbols_text symbols.Header = coded Y1 None
@@ -101,12 +122,12 @@ symbols_text (symbols.Overlap row) = coded Y5 (Some (parts.Row row))
 symbols_text (symbols.Csv row) = coded Y6 (Some (parts.Row row))
 symbols_text symbols.NoMemory = coded Y7 None
 
--- faults without a code: an input that isn't read, an output that fails, and refused memory
-abbrev pub unread : List ℕ
-unread = said None (codes "it can't be opened or read") (codes "is it a file, is it there, and may you read it?")
+-- faults without a code: an input that isn't read, an output that fails, and refused memory, which has the words of its codes
+abbrev pub unread : Reason → List ℕ
+unread reason = said None (wrong_by reason) (advice_by reason)
 
 abbrev pub untaken : List ℕ
 untaken = said None (codes "it didn't take the whole answer") (codes "is a disk full, or its reader gone?")
 
-abbrev pub no_memory : List ℕ → List ℕ
-no_memory advice = said None (codes "the system refused memory") advice
+abbrev pub no_memory : List ℕ
+no_memory = coded C6 None

@@ -1,12 +1,16 @@
 -- The notes that a person reads beside an answer (this project's own).
 use Rattle.std.specs.Fmt.{decimal}
-use Rattle.std.specs.Prelude.{◌==◌, ◌++◌, [], ℕ, List, Option, None, Some, codes, if◌then◌else◌, option_map}
+use Rattle.std.specs.Prelude.{◌==◌, ◌++◌, [], ℕ, Bool, List, Option, None, Some, codes, if◌then◌else◌}
 use Rattle.htl_main.specs.declared.coverage.Coverage.{Coverage}
 use Rattle.htl_main.specs.declared.cut_inputs.CutInputs.{CutInputs}
 use Rattle.htl_program.specs.AskedAbout.{subject_text}
-use Rattle.htl_program.specs.declared.subject.Subject.{Subject}
+use Rattle.htl_program.specs.declared.lack.Lack.{Lack}
+use Rattle.htl_program.specs.declared.lack.Lack.TheVariants as lacks
+use Rattle.hleak.specs.Shown.{shown_name}
+use Rattle.hleak.specs.Subjects.{input_name}
+use Rattle.hleak.specs.declared.explaining.task.Task.{Task}
 use Rattle.hleak.specs.declared.note.Note.{Note}
-use Rattle.hleak.specs.declared.note.Note.TheVariants.{Gaps, Cut}
+use Rattle.hleak.specs.declared.note.Note.TheVariants.{Gaps, Unnamed}
 
 -- one gap, or several
 abbrev pub gap_word : ℕ → List ℕ
@@ -16,23 +20,32 @@ gap_word gaps = if gaps == 1 then codes "gap" else codes "gaps"
 abbrev pub others_text : ℕ → List ℕ
 others_text others = if others == 0 then [] else codes ", and " ++ (decimal others ++ codes " more")
 
--- that segments are missing, or that inputs end within one
+-- that segments are missing, or that the symbols have none of the addresses
 abbrev pub note_text : Note → List ℕ
 note_text (Gaps coverage) =
     codes "hleak: note: " ++ (decimal coverage.gaps ++ (codes " " ++ (gap_word coverage.gaps
-    ++ (codes ": segments are missing; answers are complete to " ++ decimal coverage.complete_to))))
-note_text (Cut inputs) =
-    codes "hleak: note: input " ++ (decimal inputs.first ++ (codes " ends within a segment" ++ others_text inputs.others))
+    ++ (codes ": segments are missing (summary lists them); ask with --until complete: answers are complete to "
+    ++ decimal coverage.complete_to))))
+note_text Unnamed = codes "hleak: note: the symbol table has none of the addresses: is it of this build?"
 
 -- that segments are missing, where there is a gap
 abbrev pub gaps_noted : Coverage → Option Note
 gaps_noted coverage = if coverage.gaps == 0 then None else Some (Gaps coverage)
 
--- that inputs end within a segment, where some do
-abbrev pub cut_noted : Option CutInputs → Option Note
-cut_noted inputs = option_map (λ cut. Cut cut) inputs
+-- that inputs end within a segment
+abbrev pub cut_text : Task → CutInputs → List ℕ
+cut_text task inputs =
+    codes "hleak: note: " ++ (shown_name (input_name task inputs.first) ++ (codes " ends within a segment" ++ others_text inputs.others))
 
--- that what was asked about has no event
-abbrev pub absence_text : Subject → List ℕ
-absence_text subject =
-    codes "hleak: note: " ++ (subject_text subject ++ codes " has no event in these segments, or none up to --until")
+-- that a moment may be the cause, where one was given
+abbrev pub or_moment : Bool → List ℕ
+or_moment has_moment = if has_moment then codes ", or none up to --until" else []
+
+-- what a question lacks
+abbrev pub lack_text : Lack → List ℕ
+lack_text (lacks.Event subject has_moment) =
+    codes "hleak: note: " ++ (subject_text subject ++ (codes " has no event in these segments" ++ or_moment has_moment))
+lack_text (lacks.Later since) = codes "hleak: note: no event that counts is above --since " ++ decimal since
+lack_text (lacks.Snapshot subject has_moment) =
+    codes "hleak: note: " ++ (subject_text subject ++ (codes " has no snapshot" ++ (or_moment has_moment
+    ++ codes ", so all its open handles count")))

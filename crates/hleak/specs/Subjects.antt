@@ -1,11 +1,13 @@
 -- What a fault is about, as a person calls it (this project's own).
-use Rattle.std.specs.Prelude.{◌≡◌, ⊤, ℕ, List, Option, None, Some, codes, slice_get, string_bytes}
+use Rattle.std.specs.Prelude.{◌≡◌, ⊤, ℕ, Bool, false, List, Option, None, Some, codes, is_some, slice_get, string_bytes}
 use Rattle.std.specs.Option.{option_map_or}
+use Rattle.htl_case.specs.declared.fault.CaseFault.TheVariants.{Empty}
 use Rattle.htl_command.specs.declared.command.Command.{Command}
 use Rattle.htl_command.specs.declared.command.Command.TheVariants as wish
+use Rattle.htl_main.specs.Subjects.{since_of}
 use Rattle.htl_main.specs.declared.fault.RunFault.{RunFault}
-use Rattle.htl_main.specs.declared.fault.RunFault.TheVariants.{Segment, Hex, Text, Symbols, Read}
-use Rattle.htl_main.specs.declared.fault.RunFault.TheVariants.{SymbolsRead, Write}
+use Rattle.htl_main.specs.declared.fault.RunFault.TheVariants.{Segment, Hex, Text, Case, Symbols, Read}
+use Rattle.htl_main.specs.declared.fault.RunFault.TheVariants.{SymbolsRead, UnknownCut, Write}
 use Rattle.htl_program.specs.AskedAbout.{subject_of_question}
 use Rattle.htl_program.specs.declared.subject.Subject.{Subject}
 use Rattle.hleak.specs.declared.explaining.task.Task.{Task}
@@ -42,16 +44,28 @@ asked_about (Convert of) = None
 asked_about (Ask of) = None
 asked_about (Reads of) = None
 
+-- a question is asked as of a moment, or since a sequence
+abbrev pub has_moment : Task → Bool
+has_moment (Question run) = is_some run.now.job.until
+has_moment task = false
+
+abbrev pub has_since : Task → Bool
+has_since (Question run) = is_some (since_of run.now.job.question)
+has_since task = false
+
 -- the line of the event that a fault of a text is about
 abbrev pub event_line_of : RunFault → Option ℕ
 event_line_of (Text input line fault event) = event
 event_line_of fault = None
 
+-- what a fault is about; that there are no segments is about the first input
 abbrev pub subject_of : Task → RunFault → List ℕ
 subject_of task (Segment input offset fault) = input_name task input
 subject_of task (Hex input fault) = input_name task input
 subject_of task (Text input line fault event) = input_name task input
 subject_of task (Read input) = input_name task input
+subject_of task (UnknownCut input) = input_name task input
+subject_of task (Case Empty) = input_name task 0
 subject_of task (Symbols fault) = symbols_name task
 subject_of task SymbolsRead = symbols_name task
 subject_of task Write = codes "standard output"

@@ -1,8 +1,8 @@
--- Which wrong lines are refused (this project's own).
+-- Which notes are kept in mind: wrong lines that are refused, and answers without names (this project's own).
 use Rattle.std.specs.Prelude.{Bool, true, false}
 use Rattle.htl_command.specs.declared.fault.ParseFault.{ParseFault}
 use Rattle.htl_command.specs.declared.fault.ParseFault.TheVariants.{Help}
-use Rattle.htl_dialogue.specs.Notes.{Note, refuses}
+use Rattle.htl_dialogue.specs.Notes.{Note, answered, refuses}
 
 -- all but those that ask for help
 abbrev pub is_refusal : ParseFault → Bool
@@ -13,3 +13,8 @@ is_refusal other = true
 abbrev pub counts_as_wrong : Note → Bool
 counts_as_wrong (refuses fault) = is_refusal fault
 counts_as_wrong other = false
+
+-- The symbols had none of the addresses of an answer.
+abbrev pub misses_names : Note → Bool
+misses_names (answered job absence remarks) = remarks.is_unnamed
+misses_names other = false

@@ -2,10 +2,9 @@
 //!
 //! `explanation.rt` puts together what the fault of a run is about, what is wrong and what to do, and
 //! `stopped.rt` does it for a dialogue that stopped. `task.rt` has what the program was doing, which
-//! gives the files their names; `side.rt` has the two segments that a fault may be about, `meaning.rt`
-//! what is wrong, and `advice.rt` what helps where the system refuses something.
+//! gives the files their names; `side.rt` has the two segments that a fault may be about, and
+//! `meaning.rt` what is wrong.
 
-mod advice;
 mod explanation;
 mod meaning;
 mod side;

@@ -3,38 +3,57 @@
 ghost use Rattle.std.specs.Prelude.{◌≡◌, ◌||◌, false, not};
 ghost use Rattle.hleak.specs.Wrongs.{is_refusal};
 
-use crate::absence::Absence;
 use crate::explaining::{Explanation, Task};
-use crate::note::Note;
+use crate::lacking::Lacking;
+use crate::note::{CutNote, Note};
+use crate::progress::Progress;
+use crate::reason::LastRefusal;
 use crate::shown::Shown;
+use htl_command::Job;
 use htl_dialogue::Host;
-use htl_main::{Added, Coverage, CutInputs, ParseFault, Question, Refused};
-use htl_program::Speaker;
+use htl_main::{
+    Absence, Added, Between, Coverage, CutInputs, ParseFault, Refused, Remarks, RunFault,
+};
+use htl_program::{Lack, Speaker};
 use std::io::IsTerminal;
 
 /// Whoever reads standard error while a dialogue goes on.
 #[derive(Drop)]
-pub struct Listener {
+pub struct Listener<'p> {
     rt: HostRuntime,
+    /// Shows how much was read, where a person watches.
+    progress: Option<&'p Progress>,
+    /// Why something could not be opened or read.
+    refusal: &'p LastRefusal,
     /// Whether notes are wanted: a person at a terminal reads it, or they are asked for.
     wants_notes: bool,
     /// Whether the lines are typed at a terminal.
     is_typed: bool,
     /// Whether a line was refused. A line that asks for help doesn't count.
     has_refused: bool,
+    /// Whether the symbols had none of the addresses of an answer, which is said once.
+    has_missed_names: bool,
 }
 
-impl Listener {
+impl<'p> Listener<'p> {
     /// A listener who has heard nothing.
-    pub fn new(rt: HostRuntime) -> Listener
-        ensures { result.has_refused ≡ false }
+    pub fn new(
+        rt: HostRuntime,
+        progress: Option<&'p Progress>,
+        refusal: &'p LastRefusal,
+    ) -> Listener<'p>
+        ensures refused { result.has_refused ≡ false }
+        ensures names { result.has_missed_names ≡ false }
     {
         let is_watched = rt.stderr().is_terminal();
         Listener {
             rt,
+            progress,
+            refusal,
             wants_notes: is_watched,
             is_typed: is_watched && rt.stdin().is_terminal(),
             has_refused: false,
+            has_missed_names: false,
         }
     }
 
@@ -46,20 +65,25 @@ impl Listener {
     }
 
     /// Says which inputs end within a segment, where notes are wanted and some do.
-    fn note_cut(&self, inputs: Option<CutInputs>) {
-        if self.wants_notes {
-            self.note(Note::on_cut(inputs));
+    fn note_cut(&self, task: Task, inputs: Option<CutInputs>) {
+        if let (Some(inputs), true) = (inputs, self.wants_notes) {
+            let _ = eprintln!(self.rt; "{}", CutNote { task, inputs });
         }
     }
 
-    /// Says why files are refused, and what that means where notes are wanted.
+    /// Says why files are refused, and what that means where notes are wanted. The line that shows
+    /// how much was read goes away before.
     fn report(&self, files: &[String], refused: Refused) {
+        if let Some(progress) = self.progress {
+            progress.stop();
+        }
         let _ = eprintln!(self.rt; "{refused}");
         if self.wants_notes {
             let explanation = Explanation {
                 task: Task::Read(files),
                 fault: refused.fault,
                 between: refused.between,
+                reason: self.refusal.reason(),
             };
             let _ = eprintln!(self.rt; "{explanation}");
         }
@@ -82,11 +106,14 @@ fn is_refusal(fault: &ParseFault) -> bool
     !matches!(fault, ParseFault::Help(_))
 }
 
-impl Host for Listener {
-    ghost use Rattle.hleak.specs.Wrongs.{counts_as_wrong};
+impl Host for Listener<'_> {
+    ghost use Rattle.hleak.specs.Wrongs.{counts_as_wrong, misses_names};
 
-    // A line that was refused is kept in mind, and nothing else.
-    ghost told = { λ s note. record s { has_refused = s.has_refused || counts_as_wrong note } };
+    // A line that was refused is kept in mind, and an answer without names, and nothing else.
+    ghost told = { λ s note. record s {
+      has_refused = s.has_refused || counts_as_wrong note;
+      has_missed_names = s.has_missed_names || misses_names note;
+    } };
 
     ghost wants_absence = { λ s. s.wants_notes };
 
@@ -110,23 +137,35 @@ impl Host for Listener {
 
     fn reads(&mut self, files: &[String], ended: Result<Added, Refused>) {
         match ended {
-            Ok(added) => self.note_cut(added.cut),
+            Ok(added) => self.note_cut(Task::Read(files), added.cut),
             Err(refused) => self.report(files, refused),
         }
+    }
+
+    fn declines(&mut self, fault: RunFault) {
+        let refused = Refused {
+            fault,
+            between: Between::Nothing,
+        };
+        self.report(&[], refused);
     }
 
     fn notes_absence(&self) -> bool {
         self.wants_notes
     }
 
-    fn lacks(&mut self, question: Question) {
-        if let Some(absence) = Absence::on(question) {
-            let _ = eprintln!(self.rt; "{absence}");
+    fn answered(&mut self, job: &Job, absence: Option<Absence>, remarks: Remarks) {
+        if let Some(lack) = Lack::of(job, absence, remarks) {
+            let _ = eprintln!(self.rt; "{}", Lacking { lack });
         }
+        if remarks.is_unnamed && !self.has_missed_names {
+            self.note(Some(Note::Unnamed));
+        }
+        self.has_missed_names |= remarks.is_unnamed;
     }
 }
 
-impl Speaker for Listener {
+impl Speaker for Listener<'_> {
     // A person may ask for help.
     ghost counts = { λ s. not s.is_typed || s.has_refused };
 
@@ -136,11 +175,11 @@ impl Speaker for Listener {
         self.wants_notes |= are_asked_for;
     }
 
-    fn begins(&mut self, coverage: Coverage, cut: Option<CutInputs>) {
+    fn begins(&mut self, files: &[String], coverage: Coverage, cut: Option<CutInputs>) {
         if self.wants_notes {
             self.note(Note::on_gaps(coverage));
         }
-        self.note_cut(cut);
+        self.note_cut(Task::Convert(files), cut);
     }
 
     fn counts_wrong(&self) -> bool {

@@ -7,24 +7,26 @@
 //! `listener.rt` writes there beside the replies of a dialogue.
 //!
 //! Where standard error is a terminal, a person reads more: `progress.rt` shows how much was read,
-//! `absence.rt` says that what was asked about has no event, `note.rt` that segments are missing, and
-//! `explaining.rt` says a fault in words. All of this but the progress is written elsewhere too, where
-//! notes are asked for. `shown.rt` keeps control characters of names from the terminal.
+//! `lacking.rt` says what a question lacks in the segments, `note.rt` that segments are missing, and
+//! `explaining.rt` says a fault in words, with the reason that the system gives (`reason.rt`). All of
+//! this but the progress is written elsewhere too, where notes are asked for. `shown.rt` keeps control
+//! characters of names from the terminal.
 #![tactic(auto)]
 
 ghost use Rattle.std.specs.Prelude.{⊤, IfErr, IfOk};
 ghost use Rattle.htl_command.specs.Refusals.{IsUsageWith};
 ghost use Rattle.hleak.specs.Arguments.{AreArguments};
 
-mod absence;
 mod explaining;
 mod file;
 mod input;
 mod input_source;
+mod lacking;
 mod listener;
 mod machine;
 mod note;
 mod progress;
+mod reason;
 mod shown;
 mod terminal;
 
@@ -34,6 +36,7 @@ use htl_program::{Console, Inputs, program, refuse};
 use listener::Listener;
 use machine::Machine;
 use progress::Progress;
+use reason::LastRefusal;
 use std::alloc::AllocError;
 use std::io::IsTerminal;
 use std::process::ExitCode;
@@ -48,7 +51,12 @@ fn main(rt: HostRuntime) -> ExitCode {
         None
     };
     let progress = progress.as_ref();
-    let world = Machine { rt, progress };
+    let refusal = LastRefusal::new();
+    let world = Machine {
+        rt,
+        progress,
+        refusal: &refusal,
+    };
     let mut console = Console {
         out: Writing::new(io::writer(&rt)),
         person: Terminal {
@@ -56,6 +64,7 @@ fn main(rt: HostRuntime) -> ExitCode {
             progress,
             is_watched,
             sees_output: rt.stdout().is_terminal(),
+            refusal: &refusal,
         },
     };
     let status = match arguments(&rt) {
@@ -66,7 +75,7 @@ fn main(rt: HostRuntime) -> ExitCode {
             arguments,
             &mut Inputs::new(rt.alloc()),
             &mut console,
-            &mut Listener::new(rt),
+            &mut Listener::new(rt, progress, &refusal),
         ),
         Err(fault) => refuse(&fault, &mut console),
     };

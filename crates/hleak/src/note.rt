@@ -1,8 +1,10 @@
 //! What a person reads of the segments themselves, after an answer or before a dialogue.
 
 ghost use Rattle.std.specs.Prelude.{◌≡◌};
-ghost use Rattle.hleak.specs.Notes.{cut_noted, gap_word as word_of, gaps_noted};
+ghost use Rattle.hleak.specs.Notes.{gap_word as word_of, gaps_noted};
 
+use crate::explaining::Task;
+use crate::shown::Shown;
 use htl_main::{Coverage, CutInputs};
 use std::fmt;
 
@@ -11,8 +13,8 @@ use std::fmt;
 pub enum Note {
     /// Some are missing: the answer holds for those that are there.
     Gaps(Coverage),
-    /// Inputs end within a segment, which is left out.
-    Cut(CutInputs),
+    /// The table of symbols has none of the addresses that an answer shows.
+    Unnamed,
 }
 
 impl Note {
@@ -24,16 +26,6 @@ impl Note {
             return None;
         }
         Some(Note::Gaps(coverage))
-    }
-
-    /// The note on inputs that end within a segment, where some do.
-    pub fn on_cut(inputs: Option<CutInputs>) -> Option<Note>
-        ensures { result ≡ cut_noted inputs }
-    {
-        match inputs {
-            None => None,
-            Some(inputs) => Some(Note::Cut(inputs)),
-        }
     }
 }
 
@@ -50,18 +42,14 @@ impl fmt::Display for Note {
                 write!(
                     f,
                     "\
-hleak: note: {gaps} {word}: segments are missing; answers are complete to {complete_to}"
+hleak: note: {gaps} {word}: segments are missing (summary lists them); ask with --until complete: \
+answers are complete to {complete_to}"
                 )
             }
-            Note::Cut(CutInputs { first, others: 0 }) => {
-                write!(f, "hleak: note: input {first} ends within a segment")
-            }
-            Note::Cut(CutInputs { first, others }) => {
-                write!(
-                    f,
-                    "hleak: note: input {first} ends within a segment, and {others} more"
-                )
-            }
+            Note::Unnamed => write!(
+                f,
+                "hleak: note: the symbol table has none of the addresses: is it of this build?"
+            ),
         }
     }
 }
@@ -71,4 +59,30 @@ fn gap_word(gaps: u64) -> &'static str
     ensures { result.now ≡ word_of gaps }
 {
     if gaps == 1 { "gap" } else { "gaps" }
+}
+
+/// The note on inputs that end within a segment, which is left out.
+#[derive(Clone, Copy)]
+pub struct CutNote<'a> {
+    /// What names the inputs.
+    pub task: Task<'a>,
+    pub inputs: CutInputs,
+}
+
+impl fmt::Display for CutNote<'_> {
+    ghost use Rattle.std.specs.Prelude.{Some};
+    ghost use Rattle.hleak.specs.Notes.{cut_text};
+
+    ghost output = { λ note. Some (cut_text note.task note.inputs) };
+
+    fn fmt<W: fmt::Write>(&self, f: &mut fmt::Formatter<W>) -> fmt::Result {
+        let name = Shown::name(self.task.input(self.inputs.first));
+        match self.inputs.others {
+            0 => write!(f, "hleak: note: {name} ends within a segment"),
+            others => write!(
+                f,
+                "hleak: note: {name} ends within a segment, and {others} more"
+            ),
+        }
+    }
 }

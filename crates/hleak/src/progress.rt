@@ -2,10 +2,11 @@
 //!
 //! Nothing is shown of reading that ends within a second. After that a line on standard error says
 //! how much was read, and of how much where each input is a file. It is written over from time to
-//! time and goes away when the last input has ended. A line that can't be written is left out.
+//! time and goes away when the last input has ended, or before a fault is said. A line that can't be
+//! written is left out.
 //!
 //! The width of the terminal can't be asked for here, so the line is short enough for narrow ones:
-//! it has `WIDTH` characters, whatever it says, and as many blanks are written over it.
+//! it has at most `WIDTH` characters, and as many blanks are written over it.
 
 ghost use Rattle.std.specs.Prelude.{◌≡◌, ◌+◌, ◌-◌, ◌*◌, ◌^◌, ◌<◌, ◌≤◌, ◌↔◌, None, Some};
 ghost use Rattle.std.specs.Prelude.{IsTrue, IfSome, IfNone, min};
@@ -21,8 +22,8 @@ const PATIENCE: u64 = 1;
 /// How long the line stands before it is written over, in milliseconds.
 const PERIOD: u64 = 200;
 
-/// How many characters the line has.
-const WIDTH: usize = 17;
+/// How many characters the line has at most: those of `read 999.9 of 999.9 MB`.
+const WIDTH: usize = 22;
 
 /// How much of the inputs was read. Times are counted from when the `Progress` was made.
 #[derive(Clone, Copy)]
@@ -109,8 +110,8 @@ impl fmt::Display for Meter {
         let unit = Unit::for_bytes(self.total.unwrap_or(0).max(self.read));
         let read = unit.amount(self.read);
         match self.total {
-            Some(total) => write!(f, "{read} of {} {unit}", unit.amount(total)),
-            None => write!(f, "reading, {read} {unit}"),
+            Some(total) => write!(f, "read {read} of {} {unit}", unit.amount(total)),
+            None => write!(f, "read {read} {unit}"),
         }
     }
 }
@@ -235,6 +236,14 @@ impl Progress {
         if meter.inputs == 0 {
             self.clear();
         }
+    }
+
+    /// Reading ended before its inputs did. The line is cleared, and what is read next begins anew.
+    pub fn stop(&self) {
+        self.clear();
+        let mut meter = self.meter.get();
+        meter.inputs = 0;
+        self.meter.set(meter);
     }
 
     /// Clears the line.

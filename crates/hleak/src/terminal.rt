@@ -3,15 +3,16 @@
 
 ghost use Rattle.std.specs.Prelude.{None};
 
-use crate::absence::Absence;
 use crate::explaining::{Explanation, Stopped, Task};
-use crate::note::Note;
+use crate::lacking::Lacking;
+use crate::note::{CutNote, Note};
 use crate::progress::Progress;
+use crate::reason::LastRefusal;
 use crate::shown::Shown;
 use htl_command::{Command, ParseFault};
 use htl_dialogue::DialogueFault;
 use htl_main::{Coverage, CutInputs, Refused, RunFault};
-use htl_program::{Person, Subject};
+use htl_program::{Lack, Person};
 use std::io::IsTerminal;
 
 /// Standard error. A line that can't be written is left out.
@@ -24,6 +25,8 @@ pub struct Terminal<'p> {
     pub is_watched: bool,
     /// Whether standard output is a terminal.
     pub sees_output: bool,
+    /// Why something could not be opened or read.
+    pub refusal: &'p LastRefusal,
 }
 
 impl Terminal<'_> {
@@ -98,21 +101,28 @@ impl Person for Terminal<'_> {
                 task,
                 fault: refused.fault,
                 between: refused.between,
+                reason: self.refusal.reason(),
             };
             let _ = eprintln!(self.rt; "{explanation}");
         }
     }
 
-    fn lacks(&mut self, subject: Subject) {
-        let _ = eprintln!(self.rt; "{}", Absence { subject });
+    fn lacks(&mut self, lack: Lack) {
+        let _ = eprintln!(self.rt; "{}", Lacking { lack });
+    }
+
+    fn finds_no_name(&mut self) {
+        let _ = eprintln!(self.rt; "{}", Note::Unnamed);
     }
 
     fn finds_gaps(&mut self, coverage: Coverage) {
         let _ = eprintln!(self.rt; "{}", Note::Gaps(coverage));
     }
 
-    fn finds_cut(&mut self, inputs: CutInputs) {
-        let _ = eprintln!(self.rt; "{}", Note::Cut(inputs));
+    fn finds_cut(&mut self, command: &Command, inputs: CutInputs) {
+        if let Some(task) = Task::of(command) {
+            let _ = eprintln!(self.rt; "{}", CutNote { task, inputs });
+        }
     }
 
     fn stops(&mut self, stopped: DialogueFault) {
@@ -120,6 +130,13 @@ impl Person for Terminal<'_> {
     }
 
     fn explains_stop(&mut self, stopped: DialogueFault) {
-        let _ = eprintln!(self.rt; "{}", Stopped { fault: stopped });
+        let reason = self.refusal.reason();
+        let _ = eprintln!(self.rt;
+            "{}",
+            Stopped {
+                fault: stopped,
+                reason
+            }
+        );
     }
 }

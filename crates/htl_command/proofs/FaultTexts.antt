@@ -1,23 +1,24 @@
 -- What is read of a text as a printed fault is all that the text can be.
-use Rattle.std.proofs.Common.{◌≡◌, ◌∙◌, ap, sym, subst, refl, true, false, ℕ, zero, suc, List, [], ◌∷◌, ◌++◌, inl, inr, ◌⊎◌, ◌<◌}
-use Rattle.std.proofs.Common.{length, get_or, map, eqb, arith}
-use Rattle.std.specs.Prelude.{Bool, Contains, MatchOption, None, Option, Some, find, ⊤}
+use Rattle.std.proofs.Common.{◌≡◌, ◌≢◌, ◌∙◌, ap, sym, subst, refl, true, false, ℕ, zero, suc, List, [], ◌∷◌, ◌++◌, inl, inr, ◌⊎◌, ◌<◌}
+use Rattle.std.proofs.Common.{length, get_or, map, eqb, arith, take, drop, take-append-drop}
+use Rattle.std.specs.Prelude.{◌||◌, Bool, Contains, MatchOption, None, Option, Some, find, ⊤}
 use Rattle.std.specs.Char.{is_digit, to_ascii_lowercase}
 use Rattle.std.specs.List.{list_any}
-use Rattle.std.specs.Str.{bytes_eq}
+use Rattle.std.specs.Str.{bytes_eq, trim, trim_end}
+use Rattle.std.specs.Str.Pattern.{RFindsChar}
 use Rattle.std.proofs.lemmas.Bool.{and_parts, eqb-true, or_parts}
 use Rattle.std.proofs.lemmas.List.Folds.{list_all_at}
 use Rattle.std.proofs.lemmas.Option.{cond_some}
 use Rattle.std.proofs.lemmas.Slice.Eq.{bytes_eq-Decides}
-use Rattle.std.proofs.lemmas.Str.Pattern.{IsSplitOnceResult, split_after}
+use Rattle.std.proofs.lemmas.Str.Pattern.{IsSplitOnceResult, NoCharPasses-char, drop_at_char, split_after}
 use Rattle.htl_numbers.specs.Numbers.{number_of}
 use Rattle.htl_command.specs.Codes.{all_codes, code_name}
-use Rattle.htl_command.specs.Printed.{AreInside, AreTwo, Follow, IsPrinted, field_names, form_of}
+use Rattle.htl_command.specs.Printed.{AreInside, AreTwo, Follow, IsNameOf, IsPrinted, behind_colon, field_names, form_of, is_colon, is_parenthesis}
 use Rattle.htl_command.specs.Steps.{AreFault, Finds, after_blank, code_named, is_called}
 use Rattle.htl_command.specs.Values.{sequence_in}
 use Rattle.htl_command.specs.declared.code.Code.{Code}
 use Rattle.htl_command.specs.declared.code.Code.TheVariants.{S1, S2, S3, S4, S5, S6, S7, S8, S9, S10, S11, S12, S13, S14, S15, S16, S17, H1, H2, H3}
-use Rattle.htl_command.specs.declared.code.Code.TheVariants.{C1, C2, C3, C4, C5, C6, C7, C8, C9, Y1, Y2, Y3, Y4, Y5, Y6, Y7, E1, E2}
+use Rattle.htl_command.specs.declared.code.Code.TheVariants.{C1, C2, C3, C4, C5, C6, C7, C8, C9, C10, Y1, Y2, Y3, Y4, Y5, Y6, Y7, E1, E2}
 use Rattle.htl_command.specs.declared.printed.Form.{Form}
 use Rattle.htl_command.specs.declared.printed.Form.TheVariants as form
 use Rattle.htl_command.specs.declared.printed.Parts.{Parts}
@@ -40,76 +41,119 @@ find-passes test (y ∷ ys) x is = go (test y) refl (find-passes test ys x)
     go true pass later = let same : Some y ≡ Some x = rw pass at is in let same' : y ≡ x = cc in rw (← same') pass
     go false fail later = later (rw fail at is)
 
--- each code is that of its name, in which there is no parenthesis
-own : (code : Code) → (find (is_called (code_name code)) all_codes ≡ Some code)
-    × (list_any (λ b. eqb b 40) (map to_ascii_lowercase (code_name code)) ≡ false)
-own S1 = (refl, refl)
-own S2 = (refl, refl)
-own S3 = (refl, refl)
-own S4 = (refl, refl)
-own S5 = (refl, refl)
-own S6 = (refl, refl)
-own S7 = (refl, refl)
-own S8 = (refl, refl)
-own S9 = (refl, refl)
-own S10 = (refl, refl)
-own S11 = (refl, refl)
-own S12 = (refl, refl)
-own S13 = (refl, refl)
-own S14 = (refl, refl)
-own S15 = (refl, refl)
-own S16 = (refl, refl)
-own S17 = (refl, refl)
-own H1 = (refl, refl)
-own H2 = (refl, refl)
-own H3 = (refl, refl)
-own C1 = (refl, refl)
-own C2 = (refl, refl)
-own C3 = (refl, refl)
-own C4 = (refl, refl)
-own C5 = (refl, refl)
-own C6 = (refl, refl)
-own C7 = (refl, refl)
-own C8 = (refl, refl)
-own C9 = (refl, refl)
-own Y1 = (refl, refl)
-own Y2 = (refl, refl)
-own Y3 = (refl, refl)
-own Y4 = (refl, refl)
-own Y5 = (refl, refl)
-own Y6 = (refl, refl)
-own Y7 = (refl, refl)
-own E1 = (refl, refl)
-own E2 = (refl, refl)
+-- each code is that of its name
+own : (code : Code) → find (is_called (code_name code)) all_codes ≡ Some code
+own S1 = refl
+own S2 = refl
+own S3 = refl
+own S4 = refl
+own S5 = refl
+own S6 = refl
+own S7 = refl
+own S8 = refl
+own S9 = refl
+own S10 = refl
+own S11 = refl
+own S12 = refl
+own S13 = refl
+own S14 = refl
+own S15 = refl
+own S16 = refl
+own S17 = refl
+own H1 = refl
+own H2 = refl
+own H3 = refl
+own C1 = refl
+own C2 = refl
+own C3 = refl
+own C4 = refl
+own C5 = refl
+own C6 = refl
+own C7 = refl
+own C8 = refl
+own C9 = refl
+own C10 = refl
+own Y1 = refl
+own Y2 = refl
+own Y3 = refl
+own Y4 = refl
+own Y5 = refl
+own Y6 = refl
+own Y7 = refl
+own E1 = refl
+own E2 = refl
 
 -- a name that equals that of a code, in letters of either case, names this code
-pub named : (name : List ℕ) (code : Code) → map to_ascii_lowercase name ≡ map to_ascii_lowercase (code_name code) → code_named name ≡ Some code
+pub named : (name : List ℕ) (code : Code) → IsNameOf code name → code_named name ≡ Some code
 unfolding code_named
 named name code same =
-    subst (λ (text : List ℕ). find (λ (c : Code). bytes_eq (map to_ascii_lowercase (code_name c)) text) all_codes ≡ Some code) (sym same) (own code).0
+    subst (λ (text : List ℕ). find (λ (c : Code). bytes_eq (map to_ascii_lowercase (code_name c)) text) all_codes ≡ Some code) (sym same) (own code)
 
 -- a name that names a code equals that of this code, in letters of either case
-pub called : (name : List ℕ) (code : Code) → code_named name ≡ Some code → map to_ascii_lowercase name ≡ map to_ascii_lowercase (code_name code)
+pub called : (name : List ℕ) (code : Code) → code_named name ≡ Some code → IsNameOf code name
 unfolding code_named
-called name code is = sym ((bytes_eq-Decides _ _).0 (find-passes (is_called name) all_codes code is))
+called name code is = sym ((bytes_eq-Decides _ _).0 (find-passes (is_called (trim_end name)) all_codes code is))
+
+-- ---- what stands behind the last colon
+
+abbrev LacksColon : List ℕ → Type 0
+LacksColon text = (i : ℕ) → i < length text → get_or text i 0 ≢ 58
+
+any-false : (text : List ℕ) → LacksColon text → list_any is_colon text ≡ false
+any-false [] lacks = refl
+any-false (b ∷ text) lacks = go (eqb b 58) refl (any-false text (λ i below. lacks (suc i) (omega arith)))
+  where
+    go : (t : Bool) → eqb b 58 ≡ t → list_any is_colon text ≡ false → list_any is_colon (b ∷ text) ≡ false
+    go true colon later = absurd (lacks zero (omega arith) (eqb-true b 58 colon))
+    go false other later = rw other later
+
+pub behind_none : (text : List ℕ) → LacksColon text → text ≡ behind_colon text
+behind_none [] lacks = refl
+behind_none (b ∷ text) lacks = rw (any-false (b ∷ text) lacks) refl
+
+any-true : (front back : List ℕ) → list_any is_colon (front ++ (58 ∷ back)) ≡ true
+any-true [] back = refl
+any-true (b ∷ front) back = rw (any-true front back) (or-true (eqb b 58))
+  where
+    or-true : (t : Bool) → (t || true) ≡ true
+    or-true true = refl
+    or-true false = refl
+
+pub behind_last : (front back : List ℕ) → LacksColon back → back ≡ behind_colon (front ++ (58 ∷ back))
+behind_last [] back lacks = behind_none back lacks
+behind_last (b ∷ front) back lacks = rw (any-true (b ∷ front) back) (behind_last front back lacks)
+
+-- what follows a colon, and has none, stands behind the last colon
+pub behind_found : (text back : List ℕ) (i j : ℕ) → RFindsChar 58 text (Some (i, j)) → back ≡ drop j text → back ≡ behind_colon text
+behind_found text back i j finds is =
+    let rest : drop i text ≡ 58 ∷ drop j text = drop_at_char 58 text i j finds.1 (omega arith) in
+    let whole : take i text ++ (58 ∷ drop j text) ≡ text = rw (← rest) (take-append-drop i text) in
+    let last : drop j text ≡ behind_colon (take i text ++ (58 ∷ drop j text)) =
+    behind_last (take i text) (drop j text) (λ k below. NoCharPasses-char 58 (drop j text) k finds.0 (omega arith) below) in
+    is ∙ (last ∙ ap behind_colon whole)
 
 -- ---- the name ends at the first parenthesis
 
 abbrev pub Lacks : List ℕ → Type 0
 Lacks text = (i : ℕ) → i < length text → get_or text i 0 ≡ 40 → ⊥
 
+lacks : (name : List ℕ) → list_any is_parenthesis name ≡ false → Lacks name
+lacks [] none i below is = omega arith
+lacks (b ∷ name) none zero below is =
+    let bad : true ≡ false = subst (λ (x : ℕ). list_any is_parenthesis (x ∷ name) ≡ false) is none in cc
+lacks (b ∷ name) none (suc i) below is = lacks name (or_parts _ _ none).1 i (omega arith) is
+
+up_to : (name : List ℕ) → Lacks name → list_any is_parenthesis name ≡ false
+up_to [] apart = refl
+up_to (b ∷ name) apart = go (eqb b 40) refl (up_to name (λ i below. apart (suc i) (omega arith)))
+  where
+    go : (t : Bool) → eqb b 40 ≡ t → list_any is_parenthesis name ≡ false → list_any is_parenthesis (b ∷ name) ≡ false
+    go true is later = absurd (apart zero (omega arith) (eqb-true b 40 is))
+    go false other later = rw other later
+
 abbrev pub Starts : List ℕ → Type 0
 Starts [] = ⊤
 Starts (b ∷ text) = b ≡ 40
-
-lacks : (name : List ℕ) → list_any (λ b. eqb b 40) (map to_ascii_lowercase name) ≡ false → Lacks name
-lacks [] none i below is = omega arith
-lacks (b ∷ name) none zero below is =
-    let bad : true ≡ false = subst (λ (x : ℕ). list_any (λ b. eqb b 40) (map to_ascii_lowercase (x ∷ name)) ≡ false) is none in cc
-lacks (b ∷ name) none (suc i) below is = lacks name (or_parts _ _ none).1 i (omega arith) is
-
-lacks-name : (name : List ℕ) (code : Code) → map to_ascii_lowercase name ≡ map to_ascii_lowercase (code_name code) → Lacks name
-lacks-name name code same = lacks name (ap (list_any (λ b. eqb b 40)) same ∙ (own code).1)
 
 same_front : (n t m s : List ℕ) → Lacks n → Lacks m → Starts t → Starts s → n ++ t ≡ m ++ s → (n ≡ m) × (t ≡ s)
 same_front [] t [] s apart apart' at at' e = (refl, e)
@@ -128,14 +172,15 @@ starts f (Numbers m n) tail is = rw is.1 refl
 starts f (Field name) tail is = rw is.1 refl
 
 -- a text with its first parenthesis is a printed fault where its halves are one
-pub of_halves : (text name tail : List ℕ) (found : Option PrintedFault) → text ≡ name ++ tail → Lacks name → Starts tail
+pub of_halves : (text name tail : List ℕ) (found : Option PrintedFault) → trim (behind_colon text) ≡ name ++ tail → Lacks name → Starts tail
     → Finds (AreFault name tail) found → Finds (IsPrinted text) found
 of_halves text name tail None is apart at none =
     λ (fault : PrintedFault) (p : IsPrinted text fault).
-    let same = same_front p.name p.tail name tail (lacks-name p.name fault.code p.code) apart (starts (form_of fault.code) fault.parts p.tail p.parts)
+    let same = same_front p.name p.tail name tail (lacks p.name p.up_to) apart (starts (form_of fault.code) fault.parts p.tail p.parts)
     at (sym p.whole ∙ is) in
     none fault (record { code = rw same.0 at p.code; parts = rw same.1 at p.parts })
-of_halves text name tail (Some fault) is apart at of = record { name = name; tail = tail; whole = is; code = of.code; parts = of.parts }
+of_halves text name tail (Some fault) is apart at of =
+    record { name = name; tail = tail; whole = is; up_to = up_to name apart; code = of.code; parts = of.parts }
 
 -- ---- what stands in parentheses
 

@@ -3,14 +3,14 @@ use Rattle.std.specs.Prelude.{ℕ, List, [], ◌∷◌, codes}
 use Rattle.htl_command.specs.declared.code.Code.{Code}
 use Rattle.htl_command.specs.declared.code.Code.TheVariants.{S1, S2, S3, S4, S5, S6, S7, S8, S9, S10, S11, S12, S13, S14, S15, S16, S17}
 use Rattle.htl_command.specs.declared.code.Code.TheVariants.{H1, H2, H3}
-use Rattle.htl_command.specs.declared.code.Code.TheVariants.{C1, C2, C3, C4, C5, C6, C7, C8, C9}
+use Rattle.htl_command.specs.declared.code.Code.TheVariants.{C1, C2, C3, C4, C5, C6, C7, C8, C9, C10}
 use Rattle.htl_command.specs.declared.code.Code.TheVariants.{Y1, Y2, Y3, Y4, Y5, Y6, Y7}
 use Rattle.htl_command.specs.declared.code.Code.TheVariants.{E1, E2}
 
 abbrev pub all_codes : List Code
 all_codes =
     S1 ∷ S2 ∷ S3 ∷ S4 ∷ S5 ∷ S6 ∷ S7 ∷ S8 ∷ S9 ∷ S10 ∷ S11 ∷ S12 ∷ S13 ∷ S14 ∷ S15 ∷ S16 ∷ S17 ∷ H1 ∷ H2 ∷ H3 ∷ C1 ∷ C2 ∷
-    C3 ∷ C4 ∷ C5 ∷ C6 ∷ C7 ∷ C8 ∷ C9 ∷ Y1 ∷ Y2 ∷ Y3 ∷ Y4 ∷ Y5 ∷ Y6 ∷ Y7 ∷ E1 ∷ E2 ∷ []
+    C3 ∷ C4 ∷ C5 ∷ C6 ∷ C7 ∷ C8 ∷ C9 ∷ C10 ∷ Y1 ∷ Y2 ∷ Y3 ∷ Y4 ∷ Y5 ∷ Y6 ∷ Y7 ∷ E1 ∷ E2 ∷ []
 
 -- each code as a fault's line has it
 abbrev pub code_name : Code → List ℕ
@@ -43,6 +43,7 @@ code_name C6 = codes "C6"
 code_name C7 = codes "C7"
 code_name C8 = codes "C8"
 code_name C9 = codes "C9"
+code_name C10 = codes "C10"
 code_name Y1 = codes "Y1"
 code_name Y2 = codes "Y2"
 code_name Y3 = codes "Y3"

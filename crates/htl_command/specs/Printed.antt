@@ -1,10 +1,13 @@
 -- Faults as the program prints them, and the texts that `explain` takes for them (this project's own).
-use Rattle.std.specs.Prelude.{◌≡◌, ◌⊎◌, ◌++◌, ℕ, List, [], ◌∷◌, Some, Contains, codes, map}
+use Rattle.std.specs.Prelude.{◌≡◌, ◌==◌, ◌⊎◌, ◌++◌, ℕ, Bool, false, List, [], ◌∷◌, Some, Contains, codes, if◌then◌else◌, map}
 use Rattle.std.specs.Char.{to_ascii_lowercase}
+use Rattle.std.specs.List.{list_any}
+use Rattle.std.specs.Str.{trim, trim_end}
 use Rattle.htl_command.specs.Codes.{code_name}
 use Rattle.htl_command.specs.Values.{sequence_in}
 use Rattle.htl_command.specs.declared.code.Code.{Code}
-use Rattle.htl_command.specs.declared.code.Code.TheVariants.{S11, S12, S13, S14, S15, H1, C2, C3, C4, C5, C7, C8, Y2, Y3, Y4, Y5, Y6, E1}
+use Rattle.htl_command.specs.declared.code.Code.TheVariants.{S11, S12, S13, S14, S15, H1, C2, C3, C4, C5, C7, C8, C10}
+use Rattle.htl_command.specs.declared.code.Code.TheVariants.{Y2, Y3, Y4, Y5, Y6, E1}
 use Rattle.htl_command.specs.declared.printed.Form.{Form}
 use Rattle.htl_command.specs.declared.printed.Form.TheVariants as form
 use Rattle.htl_command.specs.declared.printed.Parts.{Parts}
@@ -25,6 +28,7 @@ form_of C4 = form.Numbers
 form_of C5 = form.Number
 form_of C7 = form.Numbers
 form_of C8 = form.Numbers
+form_of C10 = form.Number
 form_of Y2 = form.Number
 form_of Y3 = form.Number
 form_of Y4 = form.Number
@@ -61,10 +65,27 @@ abbrev pub Follow : Form → Parts → List ℕ → Type 0
 Follow f Nothing tail = tail ≡ []
 Follow f parts tail = (text : List ℕ) × (tail ≡ codes "(" ++ (text ++ codes ")")) × AreInside f parts text
 
--- a text is a printed fault: the name of its code, in either case, and what follows it
+abbrev pub is_colon : ℕ → Bool
+is_colon b = b == 58
+
+abbrev pub is_parenthesis : ℕ → Bool
+is_parenthesis b = b == 40
+
+-- what stands behind the last colon, or all where there is none
+abbrev pub behind_colon : List ℕ → List ℕ
+behind_colon [] = []
+behind_colon (b ∷ rest) = if list_any is_colon (b ∷ rest) then behind_colon rest else b ∷ rest
+
+-- a name is that of the code, in either case and with or without blanks behind it
+abbrev pub IsNameOf : Code → List ℕ → Type 0
+IsNameOf code name = map to_ascii_lowercase (trim_end name) ≡ map to_ascii_lowercase (code_name code)
+
+-- A text is a printed fault, alone or at the end of its line, with or without blanks round it: up to the first parenthesis the name of its
+-- code, and then what follows it.
 pub record IsPrinted (text : List ℕ) (fault : PrintedFault) : Type 0 where
   pub name : List ℕ
   pub tail : List ℕ
-  pub whole : text ≡ name ++ tail
-  pub code : map to_ascii_lowercase name ≡ map to_ascii_lowercase (code_name fault.code)
+  pub whole : trim (behind_colon text) ≡ name ++ tail
+  pub up_to : list_any is_parenthesis name ≡ false
+  pub code : IsNameOf fault.code name
   pub parts : Follow (form_of fault.code) fault.parts tail

@@ -2,7 +2,7 @@
 use Rattle.std.specs.Prelude.{◌≡◌, ◌≢◌, ◌==◌, ⊤, ℕ, Bool, true, false, List, [], ◌∷◌, ◌++◌, Option, Some, None, MatchOption, find}
 use Rattle.std.specs.Prelude.{if◌then◌else◌, is_none, map, string_bytes, unwrap_or}
 use Rattle.std.specs.Char.{to_ascii_lowercase}
-use Rattle.std.specs.Str.{bytes_eq}
+use Rattle.std.specs.Str.{bytes_eq, trim_end}
 use Rattle.clap.specs.Words.{App, Row, Text, app_of, found_of, rows_of}
 use Rattle.clap.specs.declared.builder.Command.{Command}
 use Rattle.clap.specs.declared.builder.Command.TheViews.{out-Command as fields_of}
@@ -10,7 +10,7 @@ use Rattle.clap.specs.declared.error.ErrorKind.{ErrorKind}
 use Rattle.clap.specs.declared.error.ErrorKind.TheVariants.{OutOfMemory}
 use Rattle.clap.specs.declared.parser.ArgMatches.{ArgMatches}
 use Rattle.htl_command.specs.Codes.{all_codes, code_name}
-use Rattle.htl_command.specs.Printed.{Follow, form_of}
+use Rattle.htl_command.specs.Printed.{Follow, IsNameOf, form_of}
 use Rattle.htl_command.specs.Refusals.{HasReason, IsUsageText, is_mistake, is_wish}
 use Rattle.htl_command.specs.Requests.{defaulted, given as given_in, is_given, optional, value, workers}
 use Rattle.htl_command.specs.Values.{count_in, handle_in, moment_in, object_in, points_in, process_in, since_in, tag_in}
@@ -37,9 +37,9 @@ pub record Describes (a : App) (command : Command) : Type 0 where
 abbrev pub is_called : List ℕ → Code → Bool
 is_called name code = bytes_eq (map to_ascii_lowercase (code_name code)) (map to_ascii_lowercase name)
 
--- the code of a name
+-- the code of a name, with or without blanks behind it
 unfoldable pub code_named : List ℕ → Option Code
-code_named name = find (is_called name) all_codes
+code_named name = find (is_called (trim_end name)) all_codes
 
 -- P holds of what was found, and of nothing at all where nothing was
 abbrev pub Finds : {X : Type 0} → (X → Type 0) → Option X → Type 0
@@ -52,7 +52,7 @@ after_blank (byte ∷ rest) = if byte == 32 then rest else byte ∷ rest
 
 -- a name and what follows it are a printed fault
 pub record AreFault (name tail : List ℕ) (fault : PrintedFault) : Type 0 where
-  pub code : map to_ascii_lowercase name ≡ map to_ascii_lowercase (code_name fault.code)
+  pub code : IsNameOf fault.code name
   pub parts : Follow (form_of fault.code) fault.parts tail
 
 -- the refusal of a value names its option and the text that was given for it

@@ -36,6 +36,7 @@ pub enum Code {
     C7,
     C8,
     C9,
+    C10,
     Y1,
     Y2,
     Y3,
@@ -48,7 +49,7 @@ pub enum Code {
 }
 
 /// All codes.
-const CODES: [Code; 38] = [
+const CODES: [Code; 39] = [
     Code::S1,
     Code::S2,
     Code::S3,
@@ -78,6 +79,7 @@ const CODES: [Code; 38] = [
     Code::C7,
     Code::C8,
     Code::C9,
+    Code::C10,
     Code::Y1,
     Code::Y2,
     Code::Y3,
@@ -124,6 +126,7 @@ impl Code {
             Code::C7 => "C7",
             Code::C8 => "C8",
             Code::C9 => "C9",
+            Code::C10 => "C10",
             Code::Y1 => "Y1",
             Code::Y2 => "Y2",
             Code::Y3 => "Y3",
@@ -136,12 +139,12 @@ impl Code {
         }
     }
 
-    /// The code of this name, which may be in either case.
+    /// The code of this name, which may be in either case and have blanks behind it.
     #[tactic(auto, unfolding(crate::specs::Steps::code_named))]
     pub(crate) fn from_name(name: &str) -> Option<Code>
         ensures { result ≡ code_named name.now }
     {
-        code_among(&CODES, name)
+        code_among(&CODES, name.trim_end())
     }
 
     /// Whether this is the code's name, in either case.

@@ -4,9 +4,11 @@ ghost use Rattle.clap.specs.Words.{kind_of};
 ghost use Rattle.htl_command.specs.Refusals.{IsUsageWith};
 ghost use Rattle.htl_command.specs.Steps.{Reports};
 
+use crate::builder::Place;
 use crate::help::CODE_EXPECTED;
 use crate::names::CommandName;
 use crate::no_job::NoJob;
+use crate::tip::{Tip, around_tip};
 use clap::error::ErrorKind;
 use std::alloc::{AllocError, Global};
 use thiserror::Error;
@@ -71,7 +73,11 @@ For more information, try 'hleak encode --help'.";
     pub fn no_files(alloc: Global) -> ParseFault
         ensures { IsUsageWith ⊤ result }
     {
-        wrong_line(alloc, "'read' takes files, and no option")
+        let why = "\
+'read' takes files, and no option
+
+  tip: a name that begins with '-' follows '--', as in 'read -- -a.hls'";
+        wrong_line(alloc, why)
     }
 
     /// The fault of a question that needs the events where these are forgotten.
@@ -106,9 +112,14 @@ impl From<AllocError> for ParseFault {
     }
 }
 
-/// The fault that `clap` reports, in its own words. Where there is a tip, it stands in a mistake in
-/// the place of `clap`'s own tip to pass a word as a file.
-pub(crate) fn from_clap(alloc: Global, error: &clap::Error, tip: Option<&str>) -> ParseFault
+/// The fault that `clap` reports of arguments, in its own words. A tip that helps stands in the place
+/// of `clap`'s.
+pub(crate) fn from_clap(
+    alloc: Global,
+    error: &clap::Error,
+    arguments: &[String],
+    place: Place,
+) -> ParseFault
     ensures { Reports (kind_of error.now) result }
 {
     if matches!(error.kind(), ErrorKind::OutOfMemory) {
@@ -116,49 +127,37 @@ pub(crate) fn from_clap(alloc: Global, error: &clap::Error, tip: Option<&str>) -
     }
     match error.to_string(alloc) {
         Err(_) => ParseFault::Memory,
-        Ok(text) if error.use_stderr() => mistake(alloc, why_of(&text), tip),
+        Ok(text) if error.use_stderr() => mistake(alloc, why_of(&text), arguments, place),
         Ok(text) => ParseFault::Help(text),
     }
 }
 
-/// The fault of a mistake, without a tip that would lead to another one.
-fn mistake(alloc: Global, why: &str, tip: Option<&str>) -> ParseFault
+/// The fault of a mistake. What no line of a dialogue is about has the words of a line.
+fn mistake(alloc: Global, why: &str, arguments: &[String], place: Place) -> ParseFault
     ensures { IsUsageWith ⊤ result }
 {
-    let (before, after) = around_tip(why, tip.is_some());
-    let tip = tip.unwrap_or("");
+    if place.is_dialogue() && is_other_command(arguments) {
+        return other_command(alloc);
+    }
+    let Some(tip) = Tip::of(why, arguments, place) else {
+        return usage(alloc, why, "");
+    };
+    let (before, after) = around_tip(why);
     match format!(in alloc; "{before}{tip}{after}") {
         Ok(why) => usage(alloc, &why, ""),
         Err(_) => ParseFault::Memory,
     }
 }
 
-/// The text before `clap`'s tip and the text after it, where the tip would mislead. Else the whole
-/// text is the first, and the second is empty.
-fn around_tip(why: &str, is_known: bool) -> (&str, &str) {
-    match why.split_once("\n\n  tip: ") {
-        Some((before, tip)) if is_file_tip(tip, is_known) || is_fold_tip(before, tip) => {
-            let end = tip.find("\n\n").unwrap_or(tip.len());
-            (before, tip.get(end..).unwrap_or(""))
-        }
-        _ => (why, ""),
-    }
-}
-
-/// Whether the tip is to pass a word as a file, which is known to be none, or begins with `--`, as
-/// the options of other commands do.
-fn is_file_tip(tip: &str, is_known: bool) -> bool {
-    match tip.strip_prefix("to pass '") {
-        Some(word) => is_known || word.starts_with("--"),
+/// Whether the first argument is a command that is no question.
+fn is_other_command(arguments: &[String]) -> bool {
+    match arguments.first() {
+        Some(first) => match CommandName::from_name(first) {
+            Some(name) => !name.is_question(),
+            None => false,
+        },
         None => false,
     }
-}
-
-/// Whether the tip takes `--fold` of a dialogue and `--folded` of a question for each other.
-fn is_fold_tip(before: &str, tip: &str) -> bool {
-    (before.ends_with("'--folded' found") && tip.starts_with("a similar argument exists: '--fold'"))
-        || (before.ends_with("'--fold' found")
-            && tip.starts_with("a similar argument exists: '--folded'"))
 }
 
 /// The fault of entries that are no job, in the form of `clap`'s texts. The program's name is empty
@@ -230,11 +229,7 @@ a line is a question with its own options
 fn wrong_line(alloc: Global, why: &str) -> ParseFault
     ensures { IsUsageWith ⊤ result }
 {
-    usage(
-        alloc,
-        why,
-        "\n\nFor more information, try 'hleak ask --help'.",
-    )
+    usage(alloc, why, "\n\nFor more information, try 'help'.")
 }
 
 /// What an error of `clap`'s says, without the frame that every usage fault has.

@@ -12,14 +12,16 @@ debugger's !htrace and !obtrace.";
 pub(crate) const AFTER_HELP: &str = "\
 Options of every question, from summary to growth:
       --until <N>       Only events up to this sequence count: decimal, at most
-                        18446744073709551615, or 'complete' for the one up to
-                        which no segment is missing: 0 if a processor is idle
+                        18446744073709551615, or 'complete' for complete_to,
+                        up to which answers are final: 0 if a processor is idle
       --symbols <FILE>  Names for addresses: CSV of start,end,module,name
       --workers <N>     Use up to N threads: 1 to 8 [default: 1]
       --json            One JSON object a line, for other programs
-      --complete        Refuse segments of which one is missing (C8)
+      --complete        Refuse segments with a gap (C8). Without a gap the last
+                        segments of a processor may still be missing
       --hex             The files hold hexadecimal digits, not bytes
-      --partial         A file may end within a segment, which is left out
+      --partial         Behind its whole segments a file may have bytes that
+                        begin as a segment does; they are left out
       --notes           Notes, and the file and the words of a fault, also where
                         standard error is no terminal
   [FILES]...            Trace segments; standard input where no file is given
@@ -46,14 +48,18 @@ pub(crate) const DIALOGUE_ABOUT: &str = "A line is a question over the segments 
 pub(crate) const DIALOGUE_USAGE: &str = "<COMMAND> [OPTIONS]";
 
 pub(crate) const DIALOGUE_AFTER_HELP: &str = "\
+Other lines:
+  read FILE ..  Read more segments; a name that begins with '-' follows '--'
+  quit          End the dialogue, as exit and q do
+
 Options of every question:
       --until <N>  Only events up to this sequence count: decimal, at most
-                   18446744073709551615, or 'complete' for the one up to
-                   which no segment is missing: 0 if a processor is idle
+                   18446744073709551615, or 'complete' for complete_to,
+                   up to which answers are final: 0 if a processor is idle
       --json       One JSON object a line, for other programs
 
-'COMMAND --help' lists the options of a question. 'read FILE ..' reads more
-segments. An argument with blanks stands in double quotes. 'quit' ends.
+'COMMAND --help' lists the options of a question. An argument with blanks stands
+in double quotes.
 
 With --fold no line asks for 'trace', 'growth' or '--until'.";
 
@@ -67,11 +73,10 @@ pub(crate) const TEXTS_HELP: &str = "Texts of segments; standard input where no 
 
 pub(crate) const DIALOGUE_FILES_HELP: &str = "Trace segments";
 
-pub(crate) const CODE_HELP: &str =
-    "The code of a fault, as S10, or with its numbers, as 'C8(0, 2)'";
+pub(crate) const CODE_HELP: &str = "The code of a fault, as S10 or 'C8(0, 2)', or its whole line";
 
 /// Which codes there are, as a refusal reports it.
-pub(crate) const CODE_EXPECTED: &str = "S1 to S17, H1 to H3, C1 to C9, Y1 to Y7, E1 or E2";
+pub(crate) const CODE_EXPECTED: &str = "S1 to S17, H1 to H3, C1 to C10, Y1 to Y7, E1 or E2";
 
 impl CommandName {
     /// What the command is for, in one line.
@@ -103,8 +108,9 @@ Example:
 Each line of standard input is a question with its options, as
 'leaks --process 4 --top 5'. An argument with blanks stands in double quotes.
 The answer is written with an empty line after it. 'read FILE ..' reads more
-segments, and replies how many. A line that is neither gets the empty line
-alone, and status 2 at the end. 'quit' ends.
+segments, and replies how many; answers are final up to its complete_to. A line
+that is neither gets the empty line alone, and status 2 at the end. One without
+an argument (blanks, \"\") gets no reply. 'quit' ends.
 
 Example:
   hleak ask --symbols names.csv cpu0.hls cpu1.hls"
@@ -134,7 +140,14 @@ impl QuestionName {
     /// A command line to begin with, after what else is to be known.
     pub(crate) fn example<'a>(self) -> &'a str {
         match self {
-            QuestionName::Summary => "Example:\n  hleak summary cpu0.hls cpu1.hls",
+            QuestionName::Summary => {
+                "\
+With gaps=0 the last segments of a processor may still be missing. Answers are
+final up to complete_to, which --until complete asks for.
+
+Example:
+  hleak summary cpu0.hls cpu1.hls"
+            }
             QuestionName::Outstanding =>
                 "Example:\n  hleak outstanding --process 4 --symbols names.csv cpu0.hls cpu1.hls",
             QuestionName::Diff =>
@@ -209,8 +222,8 @@ The handle: 1 to 16 hexadecimal digits, with or without
             CommandOption::Until => {
                 "\
 Only events up to this sequence count: decimal, at most
-18446744073709551615, or 'complete' for the one up to
-which no segment is missing: 0 if a processor is idle"
+18446744073709551615, or 'complete' for complete_to,
+up to which answers are final: 0 if a processor is idle"
             }
         }
     }
@@ -246,9 +259,17 @@ impl CommandFlag {
 Keep what the events come to, not the events: trace,
 growth and --until are not answered then"
             }
-            CommandFlag::Complete => "Refuse segments of which one is missing (C8)",
+            CommandFlag::Complete => {
+                "\
+Refuse segments with a gap (C8). Without a gap the last
+segments of a processor may still be missing"
+            }
             CommandFlag::Hex => "The files hold hexadecimal digits, not bytes",
-            CommandFlag::Partial => "A file may end within a segment, which is left out",
+            CommandFlag::Partial => {
+                "\
+Behind its whole segments a file may have bytes that
+begin as a segment does; they are left out"
+            }
             CommandFlag::Notes => {
                 "\
 Notes, and the file and the words of a fault, also where

@@ -10,8 +10,8 @@
 //! `printed.rt` (faults as they are printed), `names.rt` (the commands and their options, by name),
 //! `builder.rt` (the commands as `clap` gets them), `command.rt` (`parse`), `line.rt` (a question of
 //! a dialogue), `matching.rt` and `entries.rt` (what `clap` finds), `reading.rt` (what that asks for),
-//! `options.rt` and `values.rt` (the values of options), `no_job.rt`, `fault.rt` and `help.rt` (what a
-//! person reads).
+//! `options.rt` and `values.rt` (the values of options), `no_job.rt`, `fault.rt`, `tip.rt` and `help.rt`
+//! (what a person reads).
 #![tactic(auto)]
 
 mod builder;
@@ -28,6 +28,7 @@ mod options;
 mod printed;
 mod question;
 mod reading;
+mod tip;
 mod values;
 
 pub use code::Code;

@@ -174,6 +174,14 @@ impl QuestionName {
             QuestionName::Stacks | QuestionName::Trace | QuestionName::Growth => &[],
         }
     }
+
+    /// Whether it has an option of this name that not every question has.
+    pub(crate) fn has_own(self, name: &str) -> bool {
+        self.own_options()
+            .iter()
+            .any(|option| option.as_str() == name)
+            || self.own_flags().iter().any(|flag| flag.as_str() == name)
+    }
 }
 
 fn named_among(commands: &[CommandName], name: &str) -> Option<CommandName>

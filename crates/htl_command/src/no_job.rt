@@ -56,31 +56,56 @@ impl fmt::Display for InvalidValue<'_> {
 }
 
 impl InvalidValue<'_> {
-    /// What was meant, where a number is written as a debugger shows it.
+    /// What was meant, where a number is written as a debugger or a language shows it.
     fn write_tip<W: fmt::Write>(&self, f: &mut fmt::Formatter<W>) -> fmt::Result {
         let given = self.given;
         match self.option {
-            CommandOption::Process | CommandOption::Since | CommandOption::Until
-                if given.starts_with("0x") => {
-                match values::object(given) {
+            CommandOption::Process | CommandOption::Since | CommandOption::Until => {
+                match hexadecimal(given) {
                     Some(number) => write!(f, "\n\n  tip: {given} is {number}"),
                     None => Ok(()),
                 }
             }
-            CommandOption::Object => match given.split_once('`') {
-                Some((high, low)) if is_address(high, low) => {
+            option => match (given.split_once('`'), digits(option, given)) {
+                (Some((high, low)), _) if is_address(option, high, low) => {
                     write!(f, "\n\n  tip: write {high}{low}")
                 }
+                (_, Some(digits)) => write!(f, "\n\n  tip: write 0x{digits}"),
                 _ => Ok(()),
             },
-            _ => Ok(()),
         }
     }
 }
 
-/// Whether these are the halves of an address, which a debugger separates by a backquote.
-fn is_address(high: &str, low: &str) -> bool {
-    low.len() == 8
+/// The number that is written in hexadecimal behind `0x` or `0X`.
+fn hexadecimal(given: &str) -> Option<u64> {
+    match given.strip_prefix("0X") {
+        Some(digits) if !digits.starts_with("0x") => values::object(digits),
+        None if given.starts_with("0x") => values::object(given),
+        _ => None,
+    }
+}
+
+/// The digits behind `0X`, where they are a value of the option behind `0x`.
+fn digits(option: CommandOption, given: &str) -> Option<&str> {
+    let digits = given.strip_prefix("0X")?;
+    let is_value = match option {
+        CommandOption::Object => values::object(digits).is_some(),
+        CommandOption::Handle => values::handle(digits).is_some(),
+        CommandOption::Tag => digits.len() == 8 && values::handle(digits).is_some(),
+        _ => false,
+    };
+    if is_value && !digits.starts_with("0x") {
+        Some(digits)
+    } else {
+        None
+    }
+}
+
+/// Whether these are the halves of an object's address, which a debugger separates by a backquote.
+fn is_address(option: CommandOption, high: &str, low: &str) -> bool {
+    matches!(option, CommandOption::Object)
+        && low.len() == 8
         && !low.starts_with("0x")
         && values::object(high).is_some()
         && values::object(low).is_some()

@@ -1,7 +1,8 @@
 //! Faults as the program prints them.
 ghost use Rattle.std.specs.Prelude.{◌≡◌, ◌∷◌, [], Contains, find, map};
 ghost use Rattle.std.specs.Str.{bytes_eq};
-ghost use Rattle.htl_command.specs.Printed.{AreInside, AreTwo, IsPrinted, field_names, form_of};
+ghost use Rattle.htl_command.specs.Printed.{AreInside, AreTwo, IsPrinted, behind_colon, field_names};
+ghost use Rattle.htl_command.specs.Printed.{form_of};
 ghost use Rattle.htl_command.specs.Steps.{AreFault, Finds, after_blank};
 
 use crate::code::Code;
@@ -19,7 +20,7 @@ pub struct PrintedFault {
 pub enum Parts {
     /// The code stands alone.
     Nothing,
-    /// A record, byte, segment, sequence or row, as in `S12(1)`.
+    /// A record, byte, segment, sequence, input or row, as in `S12(1)`.
     Number(u64),
     /// A processor and the number of a segment, as in `C8(0, 2)`.
     Numbers(u64, u64),
@@ -59,7 +60,7 @@ impl Form {
     {
         match code {
             Code::S11 | Code::S12 | Code::S13 | Code::S14 | Code::S15 => Form::Number,
-            Code::H1 | Code::C2 | Code::C3 | Code::C5 => Form::Number,
+            Code::H1 | Code::C2 | Code::C3 | Code::C5 | Code::C10 => Form::Number,
             Code::Y2 | Code::Y3 | Code::Y4 | Code::Y5 | Code::Y6 => Form::Number,
             Code::C4 | Code::C7 | Code::C8 => Form::Numbers,
             Code::E1 => Form::Field,
@@ -69,13 +70,15 @@ impl Form {
 }
 
 impl PrintedFault {
-    /// The fault that is printed as this text, with its code in either case, and with or without the
-    /// blank between two numbers.
+    /// The fault that is printed as this text or at the end of this line, with its code in either case,
+    /// and with or without the blank between two numbers. Blanks may stand round it, and behind the
+    /// code.
     pub(crate) fn from_text(text: &str) -> Option<PrintedFault>
         ensures { Finds (IsPrinted text.now) result }
     {
-        match text.split_once('(') {
-            None => PrintedFault::alone(text),
+        let fault = behind_colon(text).trim();
+        match fault.split_once('(') {
+            None => PrintedFault::alone(fault),
             Some((name, tail)) => PrintedFault::with_parts(name, tail),
         }
     }
@@ -98,6 +101,16 @@ impl PrintedFault {
         let inner = tail.strip_suffix(')')?;
         let parts = parts_of(Form::of(code), inner)?;
         Some(PrintedFault { code, parts })
+    }
+}
+
+/// What stands behind the last colon, or the whole text where there is none.
+fn behind_colon(text: &str) -> &str
+    ensures { result.now ≡ behind_colon text.entry.now }
+{
+    match text.rsplit_once(':') {
+        Some((_, behind)) => behind,
+        None => text,
     }
 }
 

@@ -1,4 +1,5 @@
 -- What public contracts cite.
 pub mod Devices
+pub mod Failures
 
 -- What only private contracts cite: nothing.

@@ -1,13 +1,15 @@
 //! Sinks of bytes.
 
-ghost use Rattle.std.specs.Prelude.{◌≡◌, ◌≤◌, ℕ, Bool, List, Option, None, false, length};
-ghost use Rattle.std.specs.Prelude.{IfOk, true};
+ghost use Rattle.std.specs.Prelude.{◌≡◌, ◌≢◌, ◌≤◌, ℕ, Bool, List, Option, None, Some, false, length};
+ghost use Rattle.std.specs.Prelude.{is_some, IfErr, IfOk, true};
 ghost use Rattle.std.specs.Io.KnownBytes.{WriteAppends};
+ghost use Rattle.std.specs.IoError.{error_kind};
 ghost use Rattle.htl_device.specs.Devices.{write_fails};
+ghost use Rattle.htl_device.specs.Failures.{is_broken_pipe};
 
 use crate::Failed;
 use std::io;
-use std::io::Write;
+use std::io::{ErrorKind, Write};
 
 /// A sink of bytes, which are written one after the other.
 pub trait Sink {
@@ -25,12 +27,12 @@ pub trait Sink {
         ensures fails { has_failed self.new ≡ write_fails result bytes.now };
 }
 
-/// A writer of std as a sink.
+/// A writer of std as a sink. A write that a signal interrupts is no failure: it is tried again.
 #[derive(Drop)]
 pub struct Writing<W> {
     writer: W,
-    failed: bool,
-    is_pipe_broken: bool,
+    /// Of which kind the error of the failed write is, where one has failed.
+    pub failure: Option<ErrorKind>,
 }
 
 impl<W: Write> Writing<W> {
@@ -41,37 +43,57 @@ impl<W: Write> Writing<W> {
     {
         Writing {
             writer,
-            failed: false,
-            is_pipe_broken: false,
+            failure: None,
         }
     }
 
     /// Whether a write failed because nobody reads the pipe any more.
     pub fn is_pipe_broken(&self) -> bool
-        ensures { result ≡ true → ⟦<Writing<W> as Sink>⟧.has_failed self.now ≡ true }
+        ensures is { result ≡ is_broken_pipe self.now.failure }
+        ensures failed { result ≡ true → ⟦<Writing<W> as Sink>⟧.has_failed self.now ≡ true }
     {
-        self.failed && self.is_pipe_broken
+        matches!(self.failure, Some(ErrorKind::BrokenPipe))
     }
 }
 
 impl<W: Write> Sink for Writing<W> {
     ghost contents = { λ s. W.contents s.writer };
 
-    ghost has_failed = { λ s. s.failed };
+    ghost has_failed = { λ s. is_some s.failure };
 
-    fn write(&mut self, bytes: &[u8]) -> Result<usize, Failed> {
-        match self.writer.write(bytes) {
-            Ok(count) => {
-                if count == 0 && !bytes.is_empty() {
-                    self.failed = true;
-                }
-                Ok(count)
+    fn write(&mut self, bytes: &[u8]) -> Result<usize, Failed>
+        requires { is_some self.old.failure ≡ false }
+        ensures bound { IfOk result (λ n. n ≤ length bytes.now) }
+        ensures bytes { WriteAppends (W.contents self.old.writer) (W.contents self.new.writer) result
+            bytes.now }
+        ensures fails { is_some self.new.failure ≡ write_fails result bytes.now }
+        ensures retried { self.new.failure ≢ Some ErrorKind.Interrupted }
+    {
+        match write_uninterrupted(&mut self.writer, bytes) {
+            Ok(0) if !bytes.is_empty() => {
+                self.failure = Some(ErrorKind::WriteZero);
+                Ok(0)
             }
+            Ok(count) => Ok(count),
             Err(error) => {
-                self.failed = true;
-                self.is_pipe_broken = error.kind() == io::ErrorKind::BrokenPipe;
+                self.failure = Some(error.kind());
                 Err(Failed)
             }
         }
     }
+}
+
+/// Writes once, but for writes that a signal interrupts.
+fn write_uninterrupted<W: Write>(writer: &mut W, bytes: &[u8]) -> io::Result<usize>
+    ensures bound { IfOk result (λ n. n ≤ length bytes.now) }
+    ensures bytes { WriteAppends (W.contents writer.old) (W.contents writer.new) result bytes.now }
+    ensures retried { IfErr result (λ error. error_kind error ≢ ErrorKind.Interrupted) }
+{
+    for _try in 0..u64::MAX {
+        match writer.write(bytes) {
+            Err(error) if error.kind() == ErrorKind::Interrupted => {}
+            ended => return ended,
+        }
+    }
+    Err(io::Error::from(ErrorKind::TimedOut))
 }

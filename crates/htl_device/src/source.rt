@@ -1,12 +1,14 @@
 //! Sources of bytes.
 
-ghost use Rattle.std.specs.Prelude.{◌≡◌, ◌≤◌, ℕ, Bool, List, Option, None, false, length};
-ghost use Rattle.std.specs.Prelude.{is_err, IfOk, true};
+ghost use Rattle.std.specs.Prelude.{◌≡◌, ◌≢◌, ◌≤◌, ℕ, Bool, List, Option, None, Some, false, length};
+ghost use Rattle.std.specs.Prelude.{is_err, is_some, IfErr, IfOk, true};
 ghost use Rattle.std.specs.Io.KnownBytes.{ReadConsumes};
+ghost use Rattle.std.specs.IoError.{error_kind};
 ghost use Rattle.htl_device.specs.Devices.{finds_end, reads_after};
 
 use crate::Failed;
-use std::io::Read;
+use std::io;
+use std::io::{ErrorKind, Read};
 
 /// The most bytes that a read asks for.
 pub const MAX_READ_LEN: usize = 65_536;
@@ -46,19 +48,20 @@ pub trait Source {
         ensures ends { has_ended self.new ≡ finds_end result };
 }
 
-/// A reader of std as a source.
+/// A reader of std as a source. A read that a signal interrupts is no failure: it is tried again.
 #[derive(Drop)]
 pub struct Reading<R> {
     /// The reader, of which the bytes that were read are gone.
     pub reader: R,
-    failed: bool,
+    /// Of which kind the error of the failed read is, where one has failed.
+    pub failure: Option<ErrorKind>,
     reads: u64,
     ended: bool,
 }
 
 impl<R: Read> Reading<R> {
-    /// A source that was not read yet, and gives the bytes of the reader. Every error of the reader is a
-    /// failure, even one after which a caller might try again.
+    /// A source that was not read yet, and gives the bytes of the reader. Every error of the reader but
+    /// an interrupted read is a failure, even one after which a caller might try again.
     pub fn new(reader: R) -> Reading<R>
         ensures fresh { ⟦<Reading<R> as Source>⟧.has_failed result ≡ false }
         ensures unread { ⟦<Reading<R> as Source>⟧.good_reads result ≡ 0 }
@@ -68,7 +71,7 @@ impl<R: Read> Reading<R> {
     {
         Reading {
             reader,
-            failed: false,
+            failure: None,
             reads: 0,
             ended: false,
         }
@@ -78,7 +81,7 @@ impl<R: Read> Reading<R> {
 impl<R: Read> Source for Reading<R> {
     ghost remaining = { λ s. R.remaining s.reader };
 
-    ghost has_failed = { λ s. s.failed };
+    ghost has_failed = { λ s. is_some s.failure };
 
     ghost good_reads = { λ s. s.reads };
 
@@ -88,8 +91,18 @@ impl<R: Read> Source for Reading<R> {
         self.ended
     }
 
-    fn read(&mut self, buffer: &mut [u8]) -> Result<usize, Failed> {
-        match self.reader.read(buffer) {
+    fn read(&mut self, buffer: &mut [u8]) -> Result<usize, Failed>
+        requires fresh { is_some self.old.failure ≡ false }
+        requires inside { self.old.ended ≡ false }
+        ensures bound { IfOk result (λ n. n ≤ length buffer.new) }
+        ensures bytes { ReadConsumes (R.remaining self.old.reader) (R.remaining self.new.reader)
+            result buffer.new }
+        ensures fails { is_some self.new.failure ≡ is_err result }
+        ensures counts { self.new.reads ≡ reads_after self.old.reads result }
+        ensures ends { self.new.ended ≡ finds_end result }
+        ensures retried { self.new.failure ≢ Some ErrorKind.Interrupted }
+    {
+        match read_uninterrupted(&mut self.reader, buffer) {
             Ok(0) => {
                 self.ended = true;
                 Ok(0)
@@ -98,10 +111,26 @@ impl<R: Read> Source for Reading<R> {
                 self.reads = self.reads.saturating_add(1);
                 Ok(count)
             }
-            Err(_) => {
-                self.failed = true;
+            Err(error) => {
+                self.failure = Some(error.kind());
                 Err(Failed)
             }
         }
     }
+}
+
+/// Reads once, but for reads that a signal interrupts.
+fn read_uninterrupted<R: Read>(reader: &mut R, buffer: &mut [u8]) -> io::Result<usize>
+    ensures bound { IfOk result (λ n. n ≤ length buffer.new) }
+    ensures same { length buffer.new ≡ length buffer.old }
+    ensures bytes { ReadConsumes (R.remaining reader.old) (R.remaining reader.new) result buffer.new }
+    ensures retried { IfErr result (λ error. error_kind error ≢ ErrorKind.Interrupted) }
+{
+    for _try in 0..u64::MAX {
+        match reader.read(buffer) {
+            Err(error) if error.kind() == ErrorKind::Interrupted => {}
+            ended => return ended,
+        }
+    }
+    Err(io::Error::from(ErrorKind::TimedOut))
 }

@@ -125,9 +125,10 @@ module _ {S Host : Type 0} {answers : Answers S} {wanted : Bool} {told : Host â†
       {so_far = so_far} {conversed = conversed} {of = of} line are next same keeps =
       let reply = next.replies in
       let own = awaits âˆ· (reply.early ++ reply.late) in
-      let absent = rw same at reply.absence in
+      let told_late = rw same at reply.told_late in
       let own_fault : first_fault own â‰¡ first_fault reply.early =
-      line_fault (answers.has_subject before) wanted (saying_in answers.forgets line) reply.early reply.late absent in
+      line_fault answers.has_table (answers.has_outcome before) (answers.has_absence before) wanted (saying_in answers.forgets line)
+      reply.early reply.late told_late in
       let all_faults : first_fault (are.notes ++ own) â‰¡ option_or (first_fault are.notes) (first_fault own) =
       first_fault-append are.notes own in
       record {
@@ -137,7 +138,7 @@ module _ {S Host : Type 0} {answers : Answers S} {wanted : Bool} {told : Host â†
           early = reply.early;
           late = reply.late;
           replied = reply_is_of_line answers line of before after reply.reply reply.early same keeps reply.replied;
-          absence = absent;
+          told = told_late;
           all = refl;
         });
         written = Appends-trans old mid_out new are.replies reply.reply are.written reply.written;

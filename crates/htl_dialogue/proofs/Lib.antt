@@ -4,6 +4,7 @@ pub mod Takings
 pub mod NextLines
 pub mod Noting
 pub mod Hearing
+pub mod Named
 pub mod Exchanging
 pub mod Conversing
 pub mod Stopping

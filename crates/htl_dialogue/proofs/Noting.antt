@@ -1,9 +1,13 @@
 -- Notes come after other notes, and the first files that are refused give the fault among them.
 use Rattle.std.proofs.Common.{◌≡◌, ◌∙◌, Bool, true, false, List, [], ◌∷◌, ◌++◌, None, Some, Ok, Err, refl, sym, ap}
 use Rattle.std.specs.Option.{option_or}
-use Rattle.std.specs.Prelude.{Option}
+use Rattle.std.specs.Prelude.{Option, Result}
 use Rattle.htl_command.specs.declared.question.Job.{Job}
-use Rattle.htl_dialogue.specs.Notes.{IsAbsence, IsAbsenceOf, Note, after_notes, awaits, begins, first_fault, lacks, reads, refuses}
+use Rattle.htl_dialogue.specs.Notes.{AreTold, AreToldOf, Note, after_notes, answered, awaits, begins, declines, first_fault, reads, refuses}
+use Rattle.htl_dialogue.specs.Notes.{told_after}
+use Rattle.htl_main.specs.declared.completed.Absence.{Absence}
+use Rattle.htl_main.specs.declared.fault.RunFault.{RunFault}
+use Rattle.htl_main.specs.declared.printing.AnswerText.{AnswerText}
 use Rattle.htl_dialogue.specs.Sayings.{Saying, asks, nothing, quits, reads as says_reads, wrong}
 
 -- notes after others
@@ -28,35 +32,49 @@ line_more told host now mid end notes own heard waited then =
 -- the first fault of notes put together is that of the first of them which has one
 pub first_fault-append : (xs ys : List Note) → first_fault (xs ++ ys) ≡ option_or (first_fault xs) (first_fault ys)
 first_fault-append [] ys = refl
-first_fault-append (begins gaps to cut ∷ xs) ys = first_fault-append xs ys
+first_fault-append (begins names gaps to cut ∷ xs) ys = first_fault-append xs ys
 first_fault-append (awaits ∷ xs) ys = first_fault-append xs ys
 first_fault-append (refuses fault ∷ xs) ys = first_fault-append xs ys
 first_fault-append (reads files (Ok added) ∷ xs) ys = first_fault-append xs ys
 first_fault-append (reads files (Err refused) ∷ xs) ys = refl
-first_fault-append (lacks question ∷ xs) ys = first_fault-append xs ys
+first_fault-append (declines fault ∷ xs) ys = refl
+first_fault-append (answered job absence remarks ∷ xs) ys = first_fault-append xs ys
 
--- what follows a reply is no fault of files
-absence_has_no_fault_of : (HasSubject : Job → Bool → Type 0) (wanted : Bool) (job : Job) (notes : List Note)
-    → IsAbsenceOf HasSubject wanted job notes → first_fault notes ≡ None
-absence_has_no_fault_of HasSubject false job notes is = ap first_fault is
-absence_has_no_fault_of HasSubject true job notes (true, has, is) = ap first_fault is
-absence_has_no_fault_of HasSubject true job notes (false, has, is) = ap first_fault is
+-- what follows a reply is no fault
+after_has_no_fault : (has_table : Bool) (job : Job) (absence : Option Absence) (outcome : Result AnswerText RunFault)
+    → first_fault (told_after has_table job absence outcome) ≡ None
+after_has_no_fault has_table job absence (Ok answer) = refl
+after_has_no_fault has_table job absence (Err fault) = refl
 
-absence_has_no_fault : (HasSubject : Job → Bool → Type 0) (wanted : Bool) (said : Saying) (notes : List Note)
-    → IsAbsence HasSubject wanted said notes → first_fault notes ≡ None
-absence_has_no_fault HasSubject wanted (asks job) notes is = absence_has_no_fault_of HasSubject wanted job notes is
-absence_has_no_fault HasSubject wanted (says_reads files) notes is = ap first_fault is
-absence_has_no_fault HasSubject wanted nothing notes is = ap first_fault is
-absence_has_no_fault HasSubject wanted quits notes is = ap first_fault is
-absence_has_no_fault HasSubject wanted wrong notes is = ap first_fault is
+module _ (has_table : Bool) (HasOutcome : Job → Result AnswerText RunFault → Type 0) (HasAbsence : Job → Option Absence → Type 0) where
+  told_has_no_fault_of : (wanted : Bool) (job : Job) (notes : List Note)
+      → AreToldOf has_table HasOutcome HasAbsence wanted job notes → first_fault notes ≡ None
+  told_has_no_fault_of false job notes is = ap first_fault is
+  told_has_no_fault_of true job notes is = ap first_fault is.4 ∙ after_has_no_fault has_table job is.2 is.0
+
+  told_has_no_fault : (wanted : Bool) (said : Saying) (notes : List Note)
+      → AreTold has_table HasOutcome HasAbsence wanted said notes → first_fault notes ≡ None
+  told_has_no_fault wanted (asks job) notes is = told_has_no_fault_of wanted job notes is
+  told_has_no_fault wanted (says_reads files) notes is = ap first_fault is
+  told_has_no_fault wanted nothing notes is = ap first_fault is
+  told_has_no_fault wanted quits notes is = ap first_fault is
+  told_has_no_fault wanted wrong notes is = ap first_fault is
+
+-- what is told of one outcome is told of one that is such
+pub told_of_such : (has_table : Bool) (HasOutcome Such : Job → Result AnswerText RunFault → Type 0) (HasAbsence : Job → Option Absence → Type 0)
+    (wanted : Bool) (job : Job) (notes : List Note) → ((outcome : Result AnswerText RunFault) → HasOutcome job outcome → Such job outcome)
+    → AreToldOf has_table HasOutcome HasAbsence wanted job notes → AreToldOf has_table Such HasAbsence wanted job notes
+told_of_such has_table HasOutcome Such HasAbsence false job notes such is = is
+told_of_such has_table HasOutcome Such HasAbsence true job notes such is = (is.0, such is.0 is.1, is.2, is.3, is.4)
 
 none_after : {X : Type 0} (o : Option X) → option_or o None ≡ o
 none_after None = refl
 none_after (Some x) = refl
 
 -- the fault of a line is that before its reply
-pub line_fault : (HasSubject : Job → Bool → Type 0) (wanted : Bool) (said : Saying) (early late : List Note)
-    → IsAbsence HasSubject wanted said late → first_fault (awaits ∷ (early ++ late)) ≡ first_fault early
-line_fault HasSubject wanted said early late absent =
-    first_fault-append early late ∙ ap (λ o. option_or (first_fault early) o) (absence_has_no_fault HasSubject wanted said late absent)
+pub line_fault : (has_table : Bool) (HasOutcome : Job → Result AnswerText RunFault → Type 0) (HasAbsence : Job → Option Absence → Type 0)
+    (wanted : Bool) (said : Saying) (early late : List Note) → AreTold has_table HasOutcome HasAbsence wanted said late
+    → first_fault (awaits ∷ (early ++ late)) ≡ first_fault early
+line_fault has_table HasOutcome HasAbsence wanted said early late told =
+    first_fault-append early late ∙ ap (λ o. option_or (first_fault early) o) (told_has_no_fault has_table HasOutcome HasAbsence wanted said late told)
     ∙ none_after (first_fault early)

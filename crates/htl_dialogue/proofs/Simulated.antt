@@ -4,45 +4,53 @@ use Rattle.std.specs.Prelude.{Option, Result}
 use Rattle.htl_command.specs.declared.fault.ParseFault.{ParseFault}
 use Rattle.htl_command.specs.declared.question.Job.{Job}
 use Rattle.htl_dialogue.specs.Dialogues.{Answers, AreExchanges, Converses, GotAt, IsReplied, DialogueStops, asked_lines}
-use Rattle.htl_dialogue.specs.Notes.{IsAbsence, IsAbsenceOf, IsFaultOf, Note}
+use Rattle.htl_dialogue.specs.Notes.{AreTold, AreToldOf, IsFaultOf, Note}
 use Rattle.htl_dialogue.specs.Sayings.{Saying, asks, nothing, quits, reads, saying_in, wrong}
 use Rattle.htl_dialogue.specs.declared.dialogue.Conversed.{Conversed}
 use Rattle.htl_dialogue.specs.declared.dialogue.DialogueFault.{DialogueFault}
 use Rattle.htl_dialogue.specs.declared.dialogue.DialogueFault.TheVariants.{Questions, Write, NoMemory}
 use Rattle.htl_main.specs.declared.adding.Added.{Added}
+use Rattle.htl_main.specs.declared.completed.Absence.{Absence}
+use Rattle.htl_main.specs.declared.fault.RunFault.{RunFault}
+use Rattle.htl_main.specs.declared.printing.AnswerText.{AnswerText}
 use Rattle.htl_main.specs.declared.refused.Refused.{Refused}
 
 -- The other answers what the first does, and reads files where the first does, with the same end, so that it follows. Both forget events,
--- or keep them.
-module _ {A B : Type 0} (one : Answers A) (other : Answers B) (alike : one.forgets ≡ other.forgets) (Follows : A → B → Type 0)
-    (text_too : (a : A) (b : B) (job : Job) (text : List ℕ) → Follows a b → one.has_text a job text → other.has_text b job text)
-    (subject_too : (a : A) (b : B) (job : Job) (found : Bool) → Follows a b → one.has_subject a job found → other.has_subject b job found)
+-- or keep them, and both have a table of symbols, or none.
+module _ {A B : Type 0} (one : Answers A) (other : Answers B) (alike : one.forgets ≡ other.forgets)
+    (same_table : one.has_table ≡ other.has_table) (Follows : A → B → Type 0)
+    (outcome_too : (a : A) (b : B) (job : Job) (outcome : Result AnswerText RunFault) → Follows a b → one.has_outcome a job outcome
+    → other.has_outcome b job outcome)
+    (absence_too : (a : A) (b : B) (job : Job) (absence : Option Absence) → Follows a b → one.has_absence a job absence
+    → other.has_absence b job absence)
     (reads_too : (a : A) (b : B) (files : List (List ℕ)) (after : A) (ended : Result Added Refused) → Follows a b
     → one.reads a files after ended → (there : B) × Follows after there × other.reads b files there ended) where
   replied_too : (IsWhy : ParseFault → Type 0) (a : A) (b : B) (said : Saying) (after : A) (reply : List ℕ) (notes : List Note)
       → Follows a b → IsReplied one IsWhy a said after reply notes
       → (there : B) × Follows after there × IsReplied other IsWhy b said there reply notes
   replied_too IsWhy a b (asks job) after reply notes follows is =
-      let answer = is.1 in
-      (b, rw (is.0) follows, (refl, (answer.0, text_too a b job answer.0 follows answer.1, answer.2), is.2))
+      (b, rw (is.0) follows, (refl, is.1, outcome_too a b job is.1 follows is.2, is.3, is.4))
   replied_too IsWhy a b (reads files) after reply notes follows is =
       let then = reads_too a b files after is.0 follows is.1 in (then.0, then.1, (is.0, then.2, is.2, is.3))
   replied_too IsWhy a b wrong after reply notes follows is = (b, rw (is.0) follows, (refl, is.1, is.2))
   replied_too IsWhy a b nothing after reply notes follows is = (b, rw (is.0) follows, (refl, is.1, is.2))
   replied_too IsWhy a b quits after reply notes follows is = (b, rw (is.0) follows, (refl, is.1, is.2))
 
-  absence_of_too : (wanted : Bool) (a : A) (b : B) (job : Job) (notes : List Note) → Follows a b
-      → IsAbsenceOf (one.has_subject a) wanted job notes → IsAbsenceOf (other.has_subject b) wanted job notes
-  absence_of_too false a b job notes follows is = is
-  absence_of_too true a b job notes follows is = (is.0, subject_too a b job is.0 follows is.1, is.2)
+  told_of_too : (wanted : Bool) (a : A) (b : B) (job : Job) (notes : List Note) → Follows a b
+      → AreToldOf one.has_table (one.has_outcome a) (one.has_absence a) wanted job notes
+      → AreToldOf other.has_table (other.has_outcome b) (other.has_absence b) wanted job notes
+  told_of_too false a b job notes follows is = is
+  told_of_too true a b job notes follows is =
+      (is.0, outcome_too a b job is.0 follows is.1, is.2, absence_too a b job is.2 follows is.3, rw (← same_table) is.4)
 
-  absence_too : (wanted : Bool) (a : A) (b : B) (said : Saying) (notes : List Note) → Follows a b
-      → IsAbsence (one.has_subject a) wanted said notes → IsAbsence (other.has_subject b) wanted said notes
-  absence_too wanted a b (asks job) notes follows is = absence_of_too wanted a b job notes follows is
-  absence_too wanted a b (reads files) notes follows is = is
-  absence_too wanted a b wrong notes follows is = is
-  absence_too wanted a b nothing notes follows is = is
-  absence_too wanted a b quits notes follows is = is
+  told_too : (wanted : Bool) (a : A) (b : B) (said : Saying) (notes : List Note) → Follows a b
+      → AreTold one.has_table (one.has_outcome a) (one.has_absence a) wanted said notes
+      → AreTold other.has_table (other.has_outcome b) (other.has_absence b) wanted said notes
+  told_too wanted a b (asks job) notes follows is = told_of_too wanted a b job notes follows is
+  told_too wanted a b (reads files) notes follows is = is
+  told_too wanted a b wrong notes follows is = is
+  told_too wanted a b nothing notes follows is = is
+  told_too wanted a b quits notes follows is = is
 
   exchanges_too : (wanted : Bool) (a : A) (b : B) (lines : List (List ℕ)) (after : A) (replies : List ℕ) (notes : List Note)
       → Follows a b → AreExchanges one wanted a lines after replies notes
@@ -65,7 +73,7 @@ module _ {A B : Type 0} (one : Answers A) (other : Answers B) (alike : one.forge
             early = first.early;
             late = first.late;
             replied = here.2;
-            absence = absence_too wanted a b (saying_in forgets line) first.late follows (rw alike at first.absence);
+            told = told_too wanted a b (saying_in forgets line) first.late follows (rw alike at first.told);
             all = first.all;
           },
           then.2,

@@ -7,27 +7,43 @@ use Rattle.std.specs.Io.KnownBytes.{Appends, Consumes}
 use Rattle.htl_command.specs.declared.fault.ParseFault.{ParseFault}
 use Rattle.htl_command.specs.declared.question.Job.{Job}
 use Rattle.htl_dialogue.specs.Lines.{lines_of_dialogue}
-use Rattle.htl_dialogue.specs.Notes.{IsAbsence, IsFaultOf, Note, after_notes, awaits, first_fault, refuses, reads as notes_reading}
+use Rattle.htl_dialogue.specs.Notes.{AreTold, IsFaultOf, Note, after_notes, awaits, declined, first_fault, refuses}
+use Rattle.htl_dialogue.specs.Notes.{reads as notes_reading}
 use Rattle.htl_dialogue.specs.Sayings.{Saying, nothing, quits, asks, reads, wrong, saying_in, saying_of}
 use Rattle.htl_dialogue.specs.declared.dialogue.Conversed.{Conversed}
 use Rattle.htl_dialogue.specs.declared.dialogue.DialogueFault.{DialogueFault}
 use Rattle.htl_dialogue.specs.declared.dialogue.DialogueFault.TheVariants.{Questions, Write, NoMemory}
 use Rattle.htl_main.specs.Adding.{added_text}
 use Rattle.htl_main.specs.declared.adding.Added.{Added}
+use Rattle.htl_main.specs.declared.completed.Absence.{Absence}
+use Rattle.htl_main.specs.declared.fault.RunFault.{RunFault}
+use Rattle.htl_main.specs.declared.printing.AnswerText.{AnswerText}
 use Rattle.htl_main.specs.declared.refused.Refused.{Refused}
 
--- Who answers: whether it forgets events; and by what holds in each of its states, which texts answer a job, whether what a job's
--- question names has an event, and to which state it leads that files of these names are read, and how that ends.
+-- Who answers: whether it forgets events, and whether it has a table of symbols; and by what holds in each of its states, the answer to a
+-- job, or why it isn't answered; why nothing can be found of what a job's question is about; and to which state it leads that files of
+-- these names are read, and how that ends.
 pub record Answers (S : Type 0) : Type 1 where
   pub forgets : Bool
-  pub has_text : S → Job → List ℕ → Type 0
-  pub has_subject : S → Job → Bool → Type 0
+  pub has_table : Bool
+  pub has_outcome : S → Job → Result AnswerText RunFault → Type 0
+  pub has_absence : S → Job → Option Absence → Type 0
   pub reads : S → List (List ℕ) → S → Result Added Refused → Type 0
 
-abbrev pub answers_by : {S : Type 0} → Bool → (S → Job → List ℕ → Type 0) → (S → Job → Bool → Type 0)
+abbrev pub answers_by : {S : Type 0} → Bool → Bool → (S → Job → Result AnswerText RunFault → Type 0) → (S → Job → Option Absence → Type 0)
     → (S → List (List ℕ) → S → Result Added Refused → Type 0) → Answers S
-answers_by forgets has_text has_subject reads_files =
-    record { forgets = forgets; has_text = has_text; has_subject = has_subject; reads = reads_files }
+answers_by forgets has_table has_outcome has_absence reads_files = record {
+  forgets = forgets;
+  has_table = has_table;
+  has_outcome = has_outcome;
+  has_absence = has_absence;
+  reads = reads_files;
+}
+
+-- the reply to a question: the lines of its answer and a line feed, or the line feed alone where it isn't answered
+abbrev pub question_reply : Result AnswerText RunFault → List ℕ
+question_reply (Ok answer) = answer.lines.items ++ 10 ∷ []
+question_reply (Err fault) = 10 ∷ []
 
 -- the reply to files that were to be read: what they brought, or the line feed alone
 abbrev pub reading_reply : Result Added Refused → List ℕ
@@ -35,11 +51,12 @@ reading_reply (Ok added) = added_text added ++ 10 ∷ (10 ∷ [])
 reading_reply (Err refused) = 10 ∷ []
 
 -- What becomes of what a line says, up to its reply: the state that it leads to, the reply, and the notes before it. A question gets the
--- text of its answer and a line feed, a wrong line the line feed alone, and a line that says nothing gets nothing. Why a line is wrong is
--- given first.
+-- text of its answer and a line feed; a wrong line, or a question that isn't answered, the line feed alone; and a line that says nothing
+-- gets nothing. Why a line is wrong, or isn't answered, is given first.
 abbrev pub IsReplied : {S : Type 0} → Answers S → (ParseFault → Type 0) → S → Saying → S → List ℕ → List Note → Type 0
 IsReplied answers IsWhy before (asks job) after reply notes =
-    (after ≡ before) × ((text : List ℕ) × answers.has_text before job text × (reply ≡ text ++ 10 ∷ [])) × (notes ≡ [])
+    (after ≡ before) × (outcome : Result AnswerText RunFault) × answers.has_outcome before job outcome × (reply ≡ question_reply outcome)
+    × (notes ≡ declined outcome)
 IsReplied answers IsWhy before (reads files) after reply notes =
     (ended : Result Added Refused) × answers.reads before files after ended × (reply ≡ reading_reply ended)
     × (notes ≡ notes_reading files ended ∷ [])
@@ -54,7 +71,8 @@ pub record IsExchange {S : Type 0} (answers : Answers S) (wanted : Bool) (before
   pub early : List Note
   pub late : List Note
   pub replied : IsReplied answers (IsFaultOf answers.forgets line) before (saying_in answers.forgets line) after reply early
-  pub absence : IsAbsence (answers.has_subject before) wanted (saying_in answers.forgets line) late
+  pub told : AreTold answers.has_table (answers.has_outcome before) (answers.has_absence before) wanted
+      (saying_in answers.forgets line) late
   pub all : notes ≡ awaits ∷ (early ++ late)
 
 -- Lines got their replies, one after the other.
@@ -90,7 +108,7 @@ abbrev pub Gets : {Host : Type 0} → Option (List ℕ) → Option (List ℕ) �
 Gets old new told host after replies notes = Appends old new replies × (after ≡ after_notes told host notes)
 
 -- Converses: all lines of the text got their replies and the host its notes on them. What is said of it is whether a line was wrong, and
--- the fault of the first files that are refused.
+-- the fault of the first files that are refused, or of the first question that isn't answered.
 pub record Converses {S : Type 0} (answers : Answers S) (wanted : Bool) (before : S) (text : List ℕ)
     (Got : List ℕ → List Note → Type 0) (conversed : Conversed) : Type 0 where
   pub after : S

@@ -1,37 +1,41 @@
 -- What a host is told beside the replies (this project's own).
-use Rattle.std.specs.Prelude.{◌≡◌, ◌≢◌, ◌&&◌, ⊤, not, ℕ, Bool, true, false, List, [], ◌∷◌, Option, None, Some, Result, Err}
-use Rattle.std.specs.Prelude.{if◌then◌else◌}
+use Rattle.std.specs.Prelude.{◌≡◌, ◌≢◌, ◌&&◌, ⊤, not, ℕ, Bool, true, false, List, [], ◌∷◌, Option, None, Some, Result, Ok, Err}
 use Rattle.htl_command.specs.Refusals.{IsUsageWith, RefusesQuestion}
 use Rattle.htl_command.specs.declared.fault.ParseFault.{ParseFault}
 use Rattle.htl_command.specs.declared.fault.ParseFault.TheVariants.{Memory}
 use Rattle.htl_command.specs.declared.question.Job.{Job}
-use Rattle.htl_command.specs.declared.question.Question.{Question}
 use Rattle.htl_dialogue.specs.Lines.{arguments_of}
 use Rattle.htl_dialogue.specs.Sayings.{Saying, asks_forgotten, is_read, is_readable, meant, saying_of}
 use Rattle.htl_dialogue.specs.Sayings.{nothing, quits, asks, reads as says_reads, wrong}
 use Rattle.htl_main.specs.declared.adding.Added.{Added}
+use Rattle.htl_main.specs.declared.completed.Absence.{Absence}
 use Rattle.htl_main.specs.declared.fault.RunFault.{RunFault}
+use Rattle.htl_main.specs.declared.printing.AnswerText.{AnswerText}
 use Rattle.htl_main.specs.declared.refused.Refused.{Refused}
+use Rattle.htl_main.specs.declared.remarks.Remarks.{Remarks}
 
--- One note: that questions can come over a case with so many gaps, which is complete up to a sequence, and of which inputs end within a
--- segment, the place of the first and how many others; that a line is awaited; why a line is wrong; what files brought that were to be
--- read, or why they are refused; or that what a question names has no event.
+-- One note: that questions can come over the files of these names, whose case has so many gaps and is complete up to a sequence, and of
+-- which inputs end within a segment, the place of the first and how many others; that a line is awaited; why a line is wrong; what files
+-- brought that were to be read, or why they are refused; why a question isn't answered; or, of one that was, why nothing can be found of
+-- what it is about, and what is told of its answer.
 pub data Note : Type 0 where
-  begins : ℕ → ℕ → Option (ℕ × ℕ) → Note
+  begins : List (List ℕ) → ℕ → ℕ → Option (ℕ × ℕ) → Note
   awaits : Note
   refuses : ParseFault → Note
   reads : List (List ℕ) → Result Added Refused → Note
-  lacks : Question → Note
+  declines : RunFault → Note
+  answered : Job → Option Absence → Remarks → Note
 
 -- the host after one note after the other
 abbrev pub after_notes : {Host : Type 0} → (Host → Note → Host) → Host → List Note → Host
 after_notes told host [] = host
 after_notes told host (note ∷ more) = after_notes told (told host note) more
 
--- the fault of the first files that are refused
+-- the fault of the first files that are refused, or of the first question that isn't answered, whichever comes first
 abbrev pub first_fault : List Note → Option RunFault
 first_fault [] = None
 first_fault (reads files (Err refused) ∷ more) = Some refused.fault
+first_fault (declines fault ∷ more) = Some fault
 first_fault (other ∷ more) = first_fault more
 
 -- why arguments are wrong: since they are no question (`true`), or for another reason (`false`)
@@ -39,7 +43,7 @@ abbrev pub IsFaultIn : Bool → List (List ℕ) → ParseFault → Type 0
 IsFaultIn true arguments fault = RefusesQuestion (meant arguments) fault
 IsFaultIn false arguments fault = IsUsageWith ⊤ fault
 
--- why arguments are wrong: they ask for no job, or the word `read` stands without files or before an option
+-- why arguments are wrong: they ask for no job, or the word `read` stands without files or before an option (`reading` says when)
 abbrev pub IsFaultBy : List (List ℕ) → ParseFault → Type 0
 IsFaultBy arguments fault = IsFaultIn (not (is_read arguments)) arguments fault
 
@@ -50,16 +54,33 @@ IsFaultOf forgets line fault =
     (fault ≢ Memory) × IsFaultIn (not (asks_forgotten forgets (saying_of line)) && (is_readable line && not (is_read (arguments_of line))))
     (arguments_of line) fault
 
--- the notes after the reply to a question: that what it names has no event, where the host wants to know
-abbrev pub IsAbsenceOf : (Job → Bool → Type 0) → Bool → Job → List Note → Type 0
-IsAbsenceOf HasSubject false job notes = notes ≡ []
-IsAbsenceOf HasSubject true job notes =
-    (found : Bool) × HasSubject job found × (notes ≡ (if found then [] else lacks job.question ∷ []))
+-- the note before the reply to a question: why it isn't answered
+abbrev pub declined : Result AnswerText RunFault → List Note
+declined (Ok answer) = []
+declined (Err fault) = declines fault ∷ []
+
+-- what is told of an answer whose addresses are printed by a table of symbols, or by none
+abbrev pub told_of : Bool → Remarks → Remarks
+told_of has_table remarks = record remarks { is_unnamed = has_table && remarks.is_unnamed }
+
+-- the note after it, where it was answered
+abbrev pub told_after : Bool → Job → Option Absence → Result AnswerText RunFault → List Note
+told_after has_table job absence (Ok answer) = answered job absence (told_of has_table answer.remarks) ∷ []
+told_after has_table job absence (Err fault) = []
+
+-- the notes after the reply to a question, where the host wants to know
+abbrev pub AreToldOf : Bool → (Job → Result AnswerText RunFault → Type 0) → (Job → Option Absence → Type 0) → Bool → Job → List Note
+    → Type 0
+AreToldOf has_table HasOutcome HasAbsence false job notes = notes ≡ []
+AreToldOf has_table HasOutcome HasAbsence true job notes =
+    (outcome : Result AnswerText RunFault) × HasOutcome job outcome × (absence : Option Absence) × HasAbsence job absence
+    × (notes ≡ told_after has_table job absence outcome)
 
 -- the notes after the reply to a line
-abbrev pub IsAbsence : (Job → Bool → Type 0) → Bool → Saying → List Note → Type 0
-IsAbsence HasSubject wanted (asks job) notes = IsAbsenceOf HasSubject wanted job notes
-IsAbsence HasSubject wanted nothing notes = notes ≡ []
-IsAbsence HasSubject wanted quits notes = notes ≡ []
-IsAbsence HasSubject wanted (says_reads files) notes = notes ≡ []
-IsAbsence HasSubject wanted wrong notes = notes ≡ []
+abbrev pub AreTold : Bool → (Job → Result AnswerText RunFault → Type 0) → (Job → Option Absence → Type 0) → Bool → Saying → List Note
+    → Type 0
+AreTold has_table HasOutcome HasAbsence wanted (asks job) notes = AreToldOf has_table HasOutcome HasAbsence wanted job notes
+AreTold has_table HasOutcome HasAbsence wanted nothing notes = notes ≡ []
+AreTold has_table HasOutcome HasAbsence wanted quits notes = notes ≡ []
+AreTold has_table HasOutcome HasAbsence wanted (says_reads files) notes = notes ≡ []
+AreTold has_table HasOutcome HasAbsence wanted wrong notes = notes ≡ []

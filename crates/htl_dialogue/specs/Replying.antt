@@ -8,15 +8,18 @@ use Rattle.htl_command.specs.declared.fault.ParseFault.{ParseFault}
 use Rattle.htl_command.specs.declared.fault.ParseFault.TheVariants.{Memory}
 use Rattle.htl_command.specs.declared.question.Job.{Job}
 use Rattle.htl_dialogue.specs.Dialogues.{Answers, IsReplied, is_wrong}
-use Rattle.htl_dialogue.specs.Notes.{IsAbsence, IsAbsenceOf, IsFaultOf, Note, after_notes, first_fault}
+use Rattle.htl_dialogue.specs.Notes.{AreTold, AreToldOf, IsFaultOf, Note, after_notes, first_fault}
 use Rattle.htl_dialogue.specs.Sayings.{saying}
 use Rattle.htl_dialogue.specs.declared.dialogue.Conversed.{Conversed}
 use Rattle.htl_dialogue.specs.declared.dialogue.DialogueFault.{DialogueFault}
 use Rattle.htl_dialogue.specs.declared.dialogue.DialogueFault.TheVariants.{Questions, Write, NoMemory}
 use Rattle.htl_dialogue.specs.declared.saying.Said.{Said}
 use Rattle.htl_main.specs.declared.adding.Added.{Added}
+use Rattle.htl_main.specs.declared.completed.Absence.{Absence}
 use Rattle.htl_main.specs.declared.fault.RunFault.{RunFault}
+use Rattle.htl_main.specs.declared.printing.AnswerText.{AnswerText}
 use Rattle.htl_main.specs.declared.refused.Refused.{Refused}
+use Rattle.htl_main.specs.declared.remarks.Remarks.{Remarks}
 use Rattle.htl_dialogue.specs.declared.saying.Said.TheVariants as said
 
 -- the fault of a dialogue whose lines could not be read
@@ -50,25 +53,26 @@ abbrev pub IsSaidFault : Said → ParseFault → Type 0
 IsSaidFault of fault = HasFault (λ kept. fault ≡ kept) of
 
 -- What was said got its reply: the known bytes of a sink got it, and the host the notes before it and after it. It is told whether a line
--- was wrong, and the fault of files that were to be read.
+-- was wrong, and the fault of files that were to be read, or of a question that isn't answered.
 pub record Replies {S Host : Type 0} (answers : Answers S) (wanted : Bool) (of : Said) (before after : S) (old new : Option (List ℕ))
     (told : Host → Note → Host) (host heard : Host) (conversed : Conversed) : Type 0 where
   pub reply : List ℕ
   pub early : List Note
   pub late : List Note
   pub replied : IsReplied answers (IsSaidFault of) before (saying of) after reply early
-  pub absence : IsAbsence (answers.has_subject before) wanted (saying of) late
+  pub told_late : AreTold answers.has_table (answers.has_outcome before) (answers.has_absence before) wanted (saying of) late
   pub written : Appends old new reply
   pub all : heard ≡ after_notes told host (early ++ late)
   pub wrong : conversed.has_wrong ≡ is_wrong (saying of)
   pub first : conversed.first_fault ≡ first_fault early
 
--- a host heard whether what a question names has an event, where it wants to know
-pub record Lacks {Host : Type 0} (HasSubject : Job → Bool → Type 0) (wanted : Bool) (told : Host → Note → Host) (host : Host)
-    (job : Job) (after : Host) : Type 0 where
-  pub absence : List Note
-  pub is : IsAbsenceOf HasSubject wanted job absence
-  pub heard : after ≡ after_notes told host absence
+-- a host heard of a question whose answer has these remarks, where it wants to know
+pub record Tells {Host : Type 0} (has_table : Bool) (HasAbsence : Job → Option Absence → Type 0) (remarks : Remarks) (wanted : Bool)
+    (told : Host → Note → Host) (host : Host) (job : Job) (after : Host) : Type 0 where
+  pub late : List Note
+  pub is : (answer : AnswerText) → answer.remarks ≡ remarks
+      → AreToldOf has_table (λ _ outcome. outcome ≡ Ok answer) HasAbsence wanted job late
+  pub heard : after ≡ after_notes told host late
 
 -- a write failed after some first part of the reply, and after the notes before it
 pub record Breaks {S Host : Type 0} (answers : Answers S) (of : Said) (before : S) (old new : Option (List ℕ)) (told : Host → Note → Host)

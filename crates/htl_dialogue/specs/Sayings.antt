@@ -1,7 +1,7 @@
 -- What a line says (this project's own): a question, or that files are read, or that the dialogue ends, or nothing; or it is wrong.
 use Rattle.std.specs.Prelude.{ℕ, ◌&&◌, ◌||◌, ◌==◌, Bool, true, false, not, List, [], ◌∷◌, codes, if◌then◌else◌, length, map, nat_le}
-use Rattle.std.specs.Prelude.{string_bytes}
-use Rattle.std.specs.List.{list_all, list_any}
+use Rattle.std.specs.Prelude.{string_bytes, take}
+use Rattle.std.specs.List.{list_all, list_any, position, remove}
 use Rattle.std.specs.Option.{option_map_or}
 use Rattle.std.specs.Str.{bytes_eq, is_utf8}
 use Rattle.htl_command.specs.Needs.{needs_events}
@@ -41,16 +41,33 @@ abbrev pub is_read : List (List ℕ) → Bool
 is_read [] = false
 is_read (first ∷ more) = bytes_eq first (codes "read")
 
--- the argument begins as an option does
+-- the argument begins as an option does: `-` alone is the name of a file
 abbrev pub is_option : List ℕ → Bool
 is_option [] = false
-is_option (b ∷ more) = b == 45
+is_option (b ∷ []) = false
+is_option (b ∷ (c ∷ more)) = b == 45
 
--- what a line says that reads: after the word stand the names of files, at least one, and no option
+-- `--`, after which there are only files
+abbrev pub ends_options : List ℕ → Bool
+ends_options argument = bytes_eq argument (codes "--")
+
+-- the arguments that may be options: those before the first `--`
+unfoldable pub before_files : List (List ℕ) → List (List ℕ)
+before_files arguments = option_map_or (λ place. take place arguments) (position ends_options arguments) arguments
+
+-- the names of files: all arguments but the first `--`
+unfoldable pub names_among : List (List ℕ) → List (List ℕ)
+names_among arguments = option_map_or (λ place. remove arguments place) (position ends_options arguments) arguments
+
+-- files of these names are read, if there is one
+abbrev pub reads_some : List (List ℕ) → Saying
+reads_some [] = wrong
+reads_some (file ∷ more) = reads (file ∷ more)
+
+-- what a line says that reads: after the word stand the names of files, at least one, and no option before a `--`
 abbrev pub reading : List (List ℕ) → Saying
 reading [] = wrong
-reading (word ∷ []) = wrong
-reading (word ∷ (file ∷ more)) = if list_any is_option (file ∷ more) then wrong else reads (file ∷ more)
+reading (word ∷ more) = if list_any is_option (before_files more) then wrong else reads_some (names_among more)
 
 -- what a question says
 abbrev pub asking : List (List ℕ) → Saying

@@ -1,21 +1,22 @@
 //! A dialogue: what its host is told, how it went, and why it ends before its lines do.
 
-use htl_command::{ParseFault, Question};
+use htl_command::{Job, ParseFault};
 use htl_device::ReadFault;
 use htl_event::NoMemory;
-use htl_main::{Added, Refused, RunFault};
+use htl_main::{Absence, Added, Refused, Remarks, RunFault};
 use std::alloc::{AllocError, AllocFailed};
 use thiserror::Error;
 
 /// Who hears what goes on beside the replies. What a host shows isn't part of the replies.
 pub trait Host {
     ghost use Rattle.std.specs.Prelude.{◌≡◌, Bool, map, string_bytes};
-    ghost use Rattle.htl_dialogue.specs.Notes.{Note, awaits, lacks, reads, refuses};
+    ghost use Rattle.htl_dialogue.specs.Notes.{Note, answered, awaits, declines, reads};
+    ghost use Rattle.htl_dialogue.specs.Notes.{refuses};
 
     // The host once it was told a note.
     ghost told: { Self → Note → Self };
 
-    // Whether it wants to know which questions name what has no event.
+    // Whether it wants to know what is told of questions that were answered.
     ghost wants_absence: { Self → Bool };
 
     /// A line is awaited.
@@ -33,13 +34,19 @@ pub trait Host {
         ensures told { self.new ≡ told self.old (reads (map string_bytes files.now) ended) }
         ensures same { wants_absence self.new ≡ wants_absence self.old };
 
-    /// Whether `lacks` is wanted, which costs a look at all events for each question.
+    /// A question isn't answered, for this reason.
+    fn declines(&mut self, fault: RunFault)
+        ensures told { self.new ≡ told self.old (declines fault) }
+        ensures same { wants_absence self.new ≡ wants_absence self.old };
+
+    /// Whether `answered` is wanted, which costs a look at all events for each question.
     fn notes_absence(&self) -> bool
         ensures { result ≡ wants_absence self.now };
 
-    /// A question was answered, and what it names has no event.
-    fn lacks(&mut self, question: Question)
-        ensures told { self.new ≡ told self.old (lacks question) }
+    /// A question was answered: why nothing can be found of what it is about, if nothing can, and
+    /// what is told of its answer.
+    fn answered(&mut self, job: &Job, absence: Option<Absence>, remarks: Remarks)
+        ensures told { self.new ≡ told self.old (answered job.now absence remarks) }
         ensures same { wants_absence self.new ≡ wants_absence self.old };
 }
 
@@ -48,7 +55,7 @@ pub trait Host {
 pub struct Conversed {
     /// Whether a line was wrong.
     pub has_wrong: bool,
-    /// The fault of the first line whose files were refused.
+    /// The fault of the first line whose files were refused, or whose question wasn't answered.
     pub first_fault: Option<RunFault>,
 }
 
@@ -56,7 +63,7 @@ impl Conversed {
     ghost use Rattle.std.specs.Prelude.{◌≡◌, ◌||◌, None, false};
     ghost use Rattle.std.specs.Option.{option_or};
 
-    /// A dialogue without a wrong line and without refused files.
+    /// A dialogue without a wrong line, refused files and a question that wasn't answered.
     pub fn fine() -> Conversed
         ensures wrong { result.has_wrong ≡ false }
         ensures first { result.first_fault ≡ None }

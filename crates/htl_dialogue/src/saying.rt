@@ -1,16 +1,17 @@
 //! What a line says.
 
-ghost use Rattle.std.specs.Prelude.{◌≡◌, ◌<◌, ⊤, ℕ, List, IfErr, IfOk, Some, false, length, map};
+ghost use Rattle.std.specs.Prelude.{◌≡◌, ◌<◌, ⊤, ℕ, List, IfErr, IfOk, IfSome, Some, false, length, map};
 ghost use Rattle.std.specs.Prelude.{string_bytes};
-ghost use Rattle.std.specs.List.{list_any};
+ghost use Rattle.std.specs.List.{list_any, position};
 ghost use Rattle.htl_command.specs.Refusals.{IsUsageWith, RefusesQuestion};
 ghost use Rattle.htl_command.specs.Requests.{asked_in};
 ghost use Rattle.htl_dialogue.specs.Reading.{IsLine};
 ghost use Rattle.htl_dialogue.specs.Notes.{IsFaultBy};
 ghost use Rattle.htl_dialogue.specs.Replying.{HasReason, KeepsFault};
-ghost use Rattle.htl_dialogue.specs.Sayings.{asking, asks_forgotten, is_farewell, is_help_sign};
-ghost use Rattle.htl_dialogue.specs.Sayings.{is_option, is_quit, is_read, meant, reading, saying};
-ghost use Rattle.htl_dialogue.specs.Sayings.{saying_by, saying_in, saying_of};
+ghost use Rattle.htl_dialogue.specs.Sayings.{asking, asks_forgotten, before_files, ends_options};
+ghost use Rattle.htl_dialogue.specs.Sayings.{is_farewell, is_help_sign, is_option, is_quit, is_read};
+ghost use Rattle.htl_dialogue.specs.Sayings.{meant, names_among, reading, saying, saying_by, saying_in};
+ghost use Rattle.htl_dialogue.specs.Sayings.{saying_of};
 ghost use Rattle.htl_dialogue.specs.Sayings.{wrong as says_wrong};
 
 use crate::line::Line;
@@ -120,7 +121,8 @@ fn is_read(arguments: &[String]) -> bool
     }
 }
 
-/// What a `read` line says: the names of one or more files after the word, and no option.
+/// What a `read` line says: the names of one or more files after the word, and no option. After `--`
+/// each argument is a name.
 fn files_of(alloc: Global, mut arguments: Vec<String>) -> Result<Said, NoMemory>
     requires some { 0 < length arguments.items }
     ensures said { IfOk result (λ said.
@@ -128,24 +130,68 @@ fn files_of(alloc: Global, mut arguments: Vec<String>) -> Result<Said, NoMemory>
     ensures fault { IfOk result (HasReason (IsUsageWith ⊤)) }
 {
     let _word = arguments.remove(0);
-    if arguments.is_empty() || has_option(&arguments) {
+    if has_option(&arguments) {
         return wrong(ParseFault::no_files(alloc));
     }
-    Ok(Said::Reads(arguments))
+    let names = names_of(arguments);
+    if names.is_empty() {
+        return wrong(ParseFault::no_files(alloc));
+    }
+    Ok(Said::Reads(names))
+}
+
+/// The names of files among arguments: all of them but the first `--`.
+#[tactic(auto, using(crate::proofs::Named::names_some, crate::proofs::Named::names_none))]
+fn names_of(mut arguments: Vec<String>) -> Vec<String>
+    ensures { map string_bytes result.items ≡ names_among (map string_bytes arguments.items) }
+{
+    match options_end(&arguments) {
+        Some(place) => {
+            let _sign = arguments.remove(place);
+            arguments
+        }
+        None => arguments,
+    }
+}
+
+/// Whether an argument before the first `--` begins as an option does.
+#[tactic(auto, using(crate::proofs::Named::before_some, crate::proofs::Named::before_none))]
+fn has_option(arguments: &[String]) -> bool
+    ensures { result ≡ list_any is_option (before_files (map string_bytes arguments.now)) }
+{
+    match options_end(arguments) {
+        Some(place) => any_option(&arguments[..place]),
+        None => any_option(arguments),
+    }
 }
 
 /// Whether one of the arguments begins as an option does.
-fn has_option(arguments: &[String]) -> bool
+fn any_option(arguments: &[String]) -> bool
     ensures { result ≡ list_any is_option (map string_bytes arguments.now) }
 {
     arguments.iter().any(|argument| is_option(argument))
 }
 
-/// Whether an argument begins as an option does.
+/// The place of the first `--`.
+fn options_end(arguments: &[String]) -> Option<usize>
+    ensures place { result ≡ position ends_options (map string_bytes arguments.now) }
+    ensures bound { IfSome result (λ place. place < length arguments.now) }
+{
+    arguments.iter().position(|argument| ends_options(argument))
+}
+
+/// Whether only files follow the argument.
+fn ends_options(argument: &str) -> bool
+    ensures { result ≡ ends_options argument.now }
+{
+    argument == "--"
+}
+
+/// Whether an argument begins as an option does. `-` alone is the name of a file.
 fn is_option(argument: &str) -> bool
     ensures { result ≡ is_option argument.now }
 {
-    argument.starts_with('-')
+    matches!(argument.as_bytes(), [b'-', _, ..])
 }
 
 /// Whether the arguments are a word alone that ends the dialogue.

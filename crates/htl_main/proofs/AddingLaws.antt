@@ -1,5 +1,5 @@
 -- What was loaded before counts as one more input behind the others, and a case has no fewer segments than one whose segments it has.
-use Rattle.std.proofs.Common.{◌≡◌, ◌≢◌, ◌⊎◌, ◌≤◌, ◌<◌, ◌∙◌, ℕ, Bool, true, List, [], ◌∷◌, ◌++◌, length, map, Option, Some, None, refl, sym}
+use Rattle.std.proofs.Common.{◌≡◌, ◌≢◌, ◌⊎◌, ◌≤◌, ◌<◌, ◌∙◌, ℕ, Bool, true, false, List, [], ◌∷◌, ◌++◌, length, map, Option, Some, None, refl, sym}
 use Rattle.std.proofs.Common.{ap, subst, arith, inl, inr}
 use Rattle.std.specs.Prelude.{Contains, slice_get}
 use Rattle.std.proofs.lemmas.List.{length-map, take-append-le, take_all}
@@ -18,7 +18,11 @@ use Rattle.htl_command.specs.declared.question.InputForm.{InputForm}
 use Rattle.htl_command.specs.declared.question.Job.{Job}
 use Rattle.htl_command.specs.declared.question.Setting.{Setting}
 use Rattle.htl_main.specs.Causes.{IsCauseAfter}
+use Rattle.htl_main.specs.CutInputs.{AreCutEnds, Decoding, decoding}
 use Rattle.htl_main.specs.Inputs.{DecodeAll, Decodes, IsReportedOfInput, StopsAtInput}
+use Rattle.htl_main.specs.declared.cut_inputs.CutEnd.{CutEnd}
+use Rattle.htl_main.proofs.CutLaws.{ends_whole}
+use Rattle.htl_main.proofs.EndLaws.{nothing_left}
 use Rattle.htl_main.specs.Loading.{in_setting}
 use Rattle.htl_main.specs.Origins.{HasSegment, IsBetween}
 use Rattle.htl_main.specs.Spans.{AreSpans}
@@ -115,10 +119,21 @@ stops_too form Reported Now inputs later fault too stops = record {
   reported = too stops.place stops.input stops.reported;
 }
 
+-- an input of whole segments is one where inputs may be partial too
+pub may_be_partial : (form : InputForm) (input : List ℕ) (segments : List Content) → Decodes (record form { partial = false }) input segments
+    → Decodes form input segments
+may_be_partial form input segments decoded = record {
+  bytes = decoded.bytes;
+  has = decoded.has;
+  rest = decoded.rest;
+  splits = decoded.splits;
+  left = rw (decoded.left) (nothing_left form.partial);
+}
+
 -- what ends adding once all inputs were read: memory for copies was refused, or it is a cause after decoding
-abbrev EndsAfter : List Content → Setting → RunFault → Type 0
-EndsAfter segments setting fault =
-    (fault ≡ Memory) ⊎ ((job : Job) → job.setting.complete ≡ setting.complete → job.until ≡ None → IsCauseAfter segments None job fault)
+abbrev EndsAfter : Decoding → Setting → RunFault → Type 0
+EndsAfter given setting fault =
+    (fault ≡ Memory) ⊎ ((job : Job) → job.setting.complete ≡ setting.complete → job.until ≡ None → IsCauseAfter given None job fault)
 
 module _ (setting : Setting) (inputs : List (List ℕ)) (earlier : List ℕ) (lefts : List (Option (List ℕ))) (ends : List Bool) where
   reported_too : (fault : RunFault) (place : ℕ) (input : List ℕ) → IsReportedAt setting.form lefts ends place input fault
@@ -187,16 +202,21 @@ module _ (setting : Setting) (inputs : List (List ℕ)) (earlier : List ℕ) (le
       some_long (s ∷ ss) other = omega arith
 
   -- why adding ends once all inputs were read
-  pub added_cause : (job : Job) (segments before : List Content) (fault : RunFault) → WorkersFit setting.workers
-      → DecodeAll setting.form inputs segments → Decodes setting.form earlier before → before ≢ []
+  pub added_cause : (job : Job) (segments before : List Content) (cuts : List CutEnd) (fault : RunFault) → WorkersFit setting.workers
+      → DecodeAll setting.form inputs segments → AreCutEnds setting.form.hex inputs cuts
+      → Decodes (record (setting.form) { partial = false }) earlier before → before ≢ []
       → length lefts ≡ length inputs → length ends ≡ length inputs → job.until ≡ None
-      → EndsAfter (segments ++ before) setting fault
+      → EndsAfter (decoding (segments ++ before) cuts) setting fault
       → IsSourcesCause (in_setting setting job) (inputs ++ earlier ∷ []) (lefts ++ Some [] ∷ []) (ends ++ true ∷ []) None fault
-  added_cause job segments before fault fit all decoded some as_many so_many as_of (inl memory) =
-      rw memory (fit, inl (stops_there segments before all decoded some as_many so_many))
-  added_cause job segments before fault fit all decoded some as_many so_many as_of (inr cause) =
+  added_cause job segments before cuts fault fit all are decoded some as_many so_many as_of (inl memory) =
+      rw memory (fit, inl (stops_there segments before all (may_be_partial setting.form earlier before decoded) some as_many so_many))
+  added_cause job segments before cuts fault fit all are decoded some as_many so_many as_of (inr cause) =
       sources_cause_of (in_setting setting job) (inputs ++ earlier ∷ []) (lefts ++ Some [] ∷ []) (ends ++ true ∷ []) None
-      (segments ++ before) fault fit (decode_more setting.form inputs earlier segments before all decoded)
+      (decoding (segments ++ before) cuts) fault fit
+      (record {
+        segments = decode_more setting.form inputs earlier segments before all (may_be_partial setting.form earlier before decoded);
+        cuts = ends_whole setting.form.hex inputs earlier cuts are (before, decoded);
+      })
       (cause (in_setting setting job) refl as_of)
 
 -- ---- how the sources are read where it ends so
@@ -205,21 +225,21 @@ abbrev job_of : Setting → Job
 job_of setting = record some_job { setting = setting; until = None }
 
 -- it is no failed write
-pub no_write_after : (segments : List Content) (setting : Setting) (fault : RunFault) → EndsAfter segments setting fault → fault ≢ Write
-no_write_after segments setting fault (inl memory) is = cc (memory, is)
-no_write_after segments setting fault (inr cause) is =
-    not_write segments None (job_of setting) fault (cause (job_of setting) refl refl) is
+pub no_write_after : (given : Decoding) (setting : Setting) (fault : RunFault) → EndsAfter given setting fault → fault ≢ Write
+no_write_after given setting fault (inl memory) is = cc (memory, is)
+no_write_after given setting fault (inr cause) is =
+    not_write given None (job_of setting) fault (cause (job_of setting) refl refl) is
 
 -- they are read as by a run that ends well
 pub reads_after : {R S T : Type 0} (is_text : Bool) (has_failed has_ended : R → Bool) (good_reads : R → ℕ)
-    (remaining : R → Option (List ℕ)) (old new : List R) (value : S) (segments : List Content) (setting : Setting) (fault : RunFault)
-    → AreRead is_text has_failed has_ended good_reads remaining old new (well value) → EndsAfter segments setting fault
+    (remaining : R → Option (List ℕ)) (old new : List R) (value : S) (given : Decoding) (setting : Setting) (fault : RunFault)
+    → AreRead is_text has_failed has_ended good_reads remaining old new (well value) → EndsAfter given setting fault
     → AreRead is_text has_failed has_ended good_reads remaining old new (ill {S = T} fault)
-reads_after is_text has_failed has_ended good_reads remaining old new value segments setting fault read (inl memory) =
+reads_after is_text has_failed has_ended good_reads remaining old new value given setting fault read (inl memory) =
     rw memory (read_then is_text has_failed has_ended good_reads remaining old new value (ill Memory) read (λ at told. cc told)
     (λ place before. before))
-reads_after is_text has_failed has_ended good_reads remaining old new value segments setting fault read (inr cause) =
-    reads_then is_text has_failed has_ended good_reads remaining old new value segments None (job_of setting) fault read
+reads_after is_text has_failed has_ended good_reads remaining old new value given setting fault read (inr cause) =
+    reads_then is_text has_failed has_ended good_reads remaining old new value given None (job_of setting) fault read
     (cause (job_of setting) refl refl)
 
 -- as many sources as texts were read

@@ -1,42 +1,43 @@
 -- What is answered over what was loaded is what a run prints, and what a run reports beside it holds of the inputs.
 use Rattle.std.proofs.Common.{◌≡◌, ◌≢◌, ℕ, Bool, true, List, Option, None, inr, refl}
 use Rattle.std.specs.Prelude.{Ok}
-use Rattle.htl_segment.specs.Content.{Content}
 use Rattle.htl_segment.specs.Traces.{Trace}
 use Rattle.htl_symbols.specs.Ranges.{Range}
 use Rattle.htl_command.specs.declared.question.Job.{Job}
 use Rattle.htl_command.specs.declared.question.Setting.{Setting}
-use Rattle.htl_main.specs.Answers.{Finds, FindsOver}
 use Rattle.htl_main.specs.Causes.{IsCause}
 use Rattle.htl_main.specs.Coverages.{Covers, IsCoverage}
-use Rattle.htl_main.specs.Inputs.{DecodeAll}
+use Rattle.htl_main.specs.CutInputs.{Decoding, IsDecoding}
 use Rattle.htl_main.specs.Loading.{AreLoaded, AreLoadedOf, in_setting}
 use Rattle.htl_main.specs.Printed.{IsText, Printed, WorkersFit}
 use Rattle.htl_main.specs.Printing.{EndsOver, PrintsOver}
 use Rattle.htl_main.specs.Sources.{EndsBefore, IsSourcesCause}
-use Rattle.htl_main.specs.Subjects.{HasSubject, ReportsSubject}
+use Rattle.htl_main.specs.Remarks.{RemarksOver, ReportsRemarks}
+use Rattle.htl_main.specs.Subjects.{HasAbsence, ReportsAbsence}
+use Rattle.htl_main.specs.declared.completed.Absence.{Absence}
 use Rattle.htl_main.specs.declared.coverage.Coverage.{Coverage}
 use Rattle.htl_main.specs.declared.fault.RunFault.{RunFault}
 use Rattle.htl_main.specs.declared.fault.RunFault.TheVariants.{Memory, NoSubject, Read, Write}
+use Rattle.htl_main.specs.declared.remarks.Remarks.{Remarks}
 use Rattle.htl_main.proofs.MomentLaws.{complete_until}
 
 -- what a run loads of its inputs, where its workers fit
-pub loaded_of : (job : Job) (inputs : List (List ℕ)) (symbols : Option (List ℕ)) (segments : List Content) (T : Trace) (table : List Range)
-    → WorkersFit job.setting.workers → DecodeAll job.setting.form inputs segments → AreLoaded segments symbols job.setting.complete job.until T table
+pub loaded_of : (job : Job) (inputs : List (List ℕ)) (symbols : Option (List ℕ)) (given : Decoding) (T : Trace) (table : List Range)
+    → WorkersFit job.setting.workers → IsDecoding job.setting.form inputs given → AreLoaded given symbols job.setting.complete job.until T table
     → AreLoadedOf inputs symbols job.setting job.until T table
-loaded_of job inputs symbols segments T table workers decoded loaded =
-    record { workers = workers; segments = segments; decoded = decoded; loaded = loaded }
+loaded_of job inputs symbols given T table workers decoded loaded =
+    record { workers = workers; given = given; decoded = decoded; loaded = loaded }
 
 -- what is loaded for answers as of the end is loaded for one as of whichever moment
 pub as_of : (inputs : List (List ℕ)) (symbols : Option (List ℕ)) (setting : Setting) (job : Job) (T : Trace) (table : List Range)
     → AreLoadedOf inputs symbols setting None T table → AreLoadedOf inputs symbols setting job.until T table
 as_of inputs symbols setting job T table loaded = record {
   workers = loaded.workers;
-  segments = loaded.segments;
+  given = loaded.given;
   decoded = loaded.decoded;
   loaded = record {
     case = loaded.loaded.case;
-    whole = λ complete. complete_until T job.until (loaded.loaded.whole complete);
+    whole = λ complete. complete_until T loaded.given.cuts job.until (loaded.loaded.whole complete);
     named = loaded.loaded.named;
   };
 }
@@ -44,11 +45,11 @@ as_of inputs symbols setting job T table loaded = record {
 module _ (setting : Setting) (inputs : List (List ℕ)) (symbols : Option (List ℕ)) (T : Trace) (table : List Range) (job : Job)
     (loaded : AreLoadedOf inputs symbols setting job.until T table) where
   -- the text of the answer over what was loaded is what a run of the job prints
-  pub runs_text : (lines : List ℕ) → (job.exit_code ≡ true → HasSubject T job true) → IsText T table job lines
+  pub runs_text : (lines : List ℕ) → (job.exit_code ≡ true → HasAbsence T job None) → IsText T table job lines
       → Printed (in_setting setting job) inputs symbols (Ok lines)
   runs_text lines about is = (
     loaded.workers,
-    loaded.segments,
+    loaded.given,
     loaded.decoded,
     record {
       trace = T;
@@ -67,28 +68,29 @@ module _ (setting : Setting) (inputs : List (List ℕ)) (symbols : Option (List 
 
   -- the coverage of what was loaded is that of the inputs
   pub runs_coverage : (coverage : Coverage) → IsCoverage T coverage → Covers setting.form inputs coverage
-  runs_coverage coverage is = (loaded.segments, loaded.decoded, (T, loaded.loaded.case, is))
+  runs_coverage coverage is = (loaded.given.segments, loaded.decoded.segments, (T, loaded.loaded.case, is))
 
-  -- whether what was loaded has an event of the subject is what a run of the job reports
-  pub runs_subject : (found : Bool) → HasSubject T job found → ReportsSubject inputs (in_setting setting job) found
-  runs_subject found over = (loaded.segments, loaded.decoded, (T, loaded.loaded.case, over))
+  -- why nothing can be found in what was loaded is what a run of the job reports
+  pub runs_absence : (absence : Option Absence) → HasAbsence T job absence → ReportsAbsence inputs (in_setting setting job) absence
+  runs_absence absence over = (loaded.given.segments, loaded.decoded.segments, (T, loaded.loaded.case, over))
 
-  -- what the answer over what was loaded finds is what that of a run of the job finds
-  pub runs_finding : (found : Bool) → FindsOver T job found → Finds (in_setting setting job) inputs found
-  runs_finding found over = (loaded.segments, loaded.decoded, (T, loaded.loaded.case, over))
+  -- what is told of the answer over what was loaded is told of that of a run of the job
+  pub runs_remarks : (remarks : Remarks) → RemarksOver T table job remarks → ReportsRemarks (in_setting setting job) inputs symbols remarks
+  runs_remarks remarks over =
+      (loaded.given.segments, loaded.decoded.segments, (T, loaded.loaded.case, table, loaded.loaded.named, over))
 
   -- why it isn't printed
   pub ends : (fault : RunFault) → EndsOver T job fault → (fault ≡ Write → (lines : List ℕ) × Printed (in_setting setting job) inputs symbols (Ok lines))
       → IsCause (in_setting setting job) inputs symbols fault
   ends NoSubject over written = (
     loaded.workers,
-    loaded.segments,
+    loaded.given,
     loaded.decoded,
-    (over.0, T, (loaded.loaded.case, loaded.loaded.whole), table, loaded.loaded.named, over.1),
+    (over.0, T, (loaded.loaded.case, loaded.loaded.whole), table, loaded.loaded.named, over.1, over.2),
   )
   ends Memory over written = (
     loaded.workers,
-    inr (loaded.segments, loaded.decoded, inr (T, (loaded.loaded.case, loaded.loaded.whole))),
+    inr (loaded.given, loaded.decoded, inr (T, (loaded.loaded.case, loaded.loaded.whole))),
   )
   ends Write over written = written refl
   ends fault over written = absurd over
@@ -99,13 +101,13 @@ module _ (setting : Setting) (inputs : List (List ℕ)) (symbols : Option (List 
       → IsSourcesCause (in_setting setting job) inputs lefts ended symbols fault
   sources_end lefts ended NoSubject over written = (
     loaded.workers,
-    loaded.segments,
+    loaded.given,
     loaded.decoded,
-    (over.0, T, (loaded.loaded.case, loaded.loaded.whole), table, loaded.loaded.named, over.1),
+    (over.0, T, (loaded.loaded.case, loaded.loaded.whole), table, loaded.loaded.named, over.1, over.2),
   )
   sources_end lefts ended Memory over written = (
     loaded.workers,
-    inr (loaded.segments, loaded.decoded, inr (T, (loaded.loaded.case, loaded.loaded.whole))),
+    inr (loaded.given, loaded.decoded, inr (T, (loaded.loaded.case, loaded.loaded.whole))),
   )
   sources_end lefts ended Write over written = written refl
   sources_end lefts ended fault over written = absurd over

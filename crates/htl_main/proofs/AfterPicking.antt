@@ -14,17 +14,17 @@ use Rattle.htl_case.specs.Picked.{Picked, IsPickedOf}
 use Rattle.htl_command.specs.declared.question.InputForm.{InputForm}
 use Rattle.htl_command.specs.declared.question.Job.{Job}
 use Rattle.htl_main.specs.Causes.{IsCauseAfter, Prints, PrintsPart}
-use Rattle.htl_main.specs.CutInputs.{AreCut}
+use Rattle.htl_main.specs.CutInputs.{AreCutEnds, Decoding, IsDecoding, decoding}
 use Rattle.htl_main.specs.Inputs.{DecodeAll}
 use Rattle.htl_main.specs.Picked.{NeverCase, Reports}
 use Rattle.htl_main.specs.Picking.{ArePickedFor, ArePicksOfAll, EndsPrinting, IsPickedFor, PrintsOf, ReportsOf}
 use Rattle.htl_main.specs.Printed.{WorkersFit}
 use Rattle.htl_main.specs.Sources.{IsSourcesCause}
 use Rattle.htl_main.specs.declared.completed.Completed.{Completed}
-use Rattle.htl_main.specs.declared.cut_inputs.CutInputs.{CutInputs}
+use Rattle.htl_main.specs.declared.cut_inputs.CutEnd.{CutEnd}
 use Rattle.htl_main.specs.declared.picked_run.Lacking.{Lacking}
 use Rattle.htl_main.specs.declared.fault.RunFault.{RunFault}
-use Rattle.htl_main.specs.declared.fault.RunFault.TheVariants.{Case, Incomplete, NoSubject, Symbols, Memory, Write}
+use Rattle.htl_main.specs.declared.fault.RunFault.TheVariants.{Case, Incomplete, NoSubject, Symbols, Memory, UnknownCut, Write}
 use Rattle.htl_main.proofs.AfterDecoding.{sources_cause_of}
 
 -- ---- what was picked
@@ -39,6 +39,11 @@ pub record IsPickedRun (job : Job) (interest : Interest) (inputs : List (List �
   pub segments : List Content
   pub decoded : DecodeAll job.setting.form inputs segments
   pub picked : ArePickedFor interest picks segments
+
+-- these segments and the cut ends are what the inputs are decoded to
+pub given_is : (job : Job) (interest : Interest) (inputs : List (List ℕ)) (picks : Picks) (run : IsPickedRun job interest inputs picks) (cuts : List CutEnd)
+    → AreCutEnds job.setting.form.hex inputs cuts → IsDecoding job.setting.form inputs (decoding run.segments cuts)
+given_is job interest inputs picks run cuts are = record { segments = run.decoded; cuts = are }
 
 -- what was picked of all inputs was picked of their segments
 pub picked_run : (job : Job) (inputs : List (List ℕ)) (interest : Interest) (picks : Picks)
@@ -59,24 +64,25 @@ picked_for interest picks segments case made are =
     record { trace = of.0; case_of = of.1; picked = of.2 }
 
 -- what is printed of decoded segments is printed of their inputs
-pub prints : (job : Job) (inputs : List (List ℕ)) (segments : List Content) (symbols old new : Option (List ℕ)) → WorkersFit job.setting.workers
-    → DecodeAll job.setting.form inputs segments → PrintsOf segments symbols job (Appends old new) → Prints job inputs symbols old new
-prints job inputs segments symbols old new fit decoded of = (of.lines, (fit, segments, decoded, of.are), of.written)
+pub prints : (job : Job) (inputs : List (List ℕ)) (given : Decoding) (symbols old new : Option (List ℕ)) → WorkersFit job.setting.workers
+    → IsDecoding job.setting.form inputs given → PrintsOf given symbols job (Appends old new) → Prints job inputs symbols old new
+prints job inputs given symbols old new fit decoded of = (of.lines, (fit, given, decoded, of.are), of.written)
 
 -- a first part of what is printed of decoded segments is one of what is printed of their inputs
-pub prints_part : (job : Job) (inputs : List (List ℕ)) (segments : List Content) (symbols old new : Option (List ℕ)) → WorkersFit job.setting.workers
-    → DecodeAll job.setting.form inputs segments → PrintsOf segments symbols job (AppendsPrefix old new) → PrintsPart job inputs symbols old new
-prints_part job inputs segments symbols old new fit decoded of = (of.lines, (fit, segments, decoded, of.are), of.written)
+pub prints_part : (job : Job) (inputs : List (List ℕ)) (given : Decoding) (symbols old new : Option (List ℕ)) → WorkersFit job.setting.workers
+    → IsDecoding job.setting.form inputs given → PrintsOf given symbols job (AppendsPrefix old new) → PrintsPart job inputs symbols old new
+prints_part job inputs given symbols old new fit decoded of = (of.lines, (fit, given, decoded, of.are), of.written)
 
 -- what is reported of decoded segments, and which inputs are cut, is reported of the inputs
-pub reports : (job : Job) (inputs : List (List ℕ)) (segments : List Content) (cut : Option CutInputs) (completed : Completed)
-    → DecodeAll job.setting.form inputs segments → AreCut job.setting.form.hex inputs cut → ReportsOf segments job cut completed
-    → Reports job inputs completed
-reports job inputs segments cut completed decoded are of = record {
+pub reports : (job : Job) (inputs : List (List ℕ)) (segments : List Content) (symbols : Option (List ℕ)) (cuts : List CutEnd)
+    (completed : Completed)
+    → DecodeAll job.setting.form inputs segments → AreCutEnds job.setting.form.hex inputs cuts → ReportsOf segments symbols job cuts completed
+    → Reports job inputs symbols completed
+reports job inputs segments symbols cuts completed decoded are of = record {
   coverage = (segments, decoded, of.coverage);
-  cut = rw (of.cut_are) are;
-  subject = (segments, decoded, of.subject);
-  finding = (segments, decoded, of.finding);
+  cut = of.cut_are job.setting.form.hex inputs are;
+  absence = (segments, decoded, of.absence);
+  remarks = (segments, decoded, of.remarks);
 }
 
 -- ---- how the run ends
@@ -97,23 +103,25 @@ if_lacking (Err e) P Q more is = tt
 
 -- a run of picks ends for a cause of the run over the sources
 pub ends_for : (job : Job) (inputs : List (List ℕ)) (lefts : List (Option (List ℕ))) (ends : List Bool) (symbols : Option (List ℕ))
-    (segments : List Content) (Written : List ℕ → Type 0) (result : Result (Result Completed Lacking) RunFault) → WorkersFit job.setting.workers
-    → DecodeAll job.setting.form inputs segments
-    → IfErr result EndsPrinting → IfErr result (λ fault. fault ≢ Write → IsCauseAfter segments symbols job fault)
-    → (result ≡ Err Write → PrintsOf segments symbols job Written)
+    (given : Decoding) (Written : List ℕ → Type 0) (result : Result (Result Completed Lacking) RunFault) → WorkersFit job.setting.workers
+    → IsDecoding job.setting.form inputs given
+    → IfErr result EndsPrinting → IfErr result (λ fault. fault ≢ Write → IsCauseAfter given symbols job fault)
+    → (result ≡ Err Write → PrintsOf given symbols job Written)
     → IfErr result (IsSourcesCause job inputs lefts ends symbols)
-ends_for job inputs lefts ends symbols segments W (Ok ended) fit decoded after cause write = tt
-ends_for job inputs lefts ends symbols segments W (Err Write) fit decoded after cause write =
-    let of = write refl in (of.lines, (fit, segments, decoded, of.are))
-ends_for job inputs lefts ends symbols segments W (Err (Incomplete processor number)) fit decoded after cause write =
-    sources_cause_of job inputs lefts ends symbols segments (Incomplete processor number) fit decoded (cause (λ e. cc e))
-ends_for job inputs lefts ends symbols segments W (Err (Symbols fault)) fit decoded after cause write =
-    sources_cause_of job inputs lefts ends symbols segments (Symbols fault) fit decoded (cause (λ e. cc e))
-ends_for job inputs lefts ends symbols segments W (Err NoSubject) fit decoded after cause write =
-    sources_cause_of job inputs lefts ends symbols segments NoSubject fit decoded (cause (λ e. cc e))
-ends_for job inputs lefts ends symbols segments W (Err Memory) fit decoded after cause write =
-    sources_cause_of job inputs lefts ends symbols segments Memory fit decoded (cause (λ e. cc e))
-ends_for job inputs lefts ends symbols segments W (Err other) fit decoded after cause write = absurd after
+ends_for job inputs lefts ends symbols given W (Ok ended) fit decoded after cause write = tt
+ends_for job inputs lefts ends symbols given W (Err Write) fit decoded after cause write =
+    let of = write refl in (of.lines, (fit, given, decoded, of.are))
+ends_for job inputs lefts ends symbols given W (Err (Incomplete processor number)) fit decoded after cause write =
+    sources_cause_of job inputs lefts ends symbols given (Incomplete processor number) fit decoded (cause (λ e. cc e))
+ends_for job inputs lefts ends symbols given W (Err (UnknownCut input)) fit decoded after cause write =
+    sources_cause_of job inputs lefts ends symbols given (UnknownCut input) fit decoded (cause (λ e. cc e))
+ends_for job inputs lefts ends symbols given W (Err (Symbols fault)) fit decoded after cause write =
+    sources_cause_of job inputs lefts ends symbols given (Symbols fault) fit decoded (cause (λ e. cc e))
+ends_for job inputs lefts ends symbols given W (Err NoSubject) fit decoded after cause write =
+    sources_cause_of job inputs lefts ends symbols given NoSubject fit decoded (cause (λ e. cc e))
+ends_for job inputs lefts ends symbols given W (Err Memory) fit decoded after cause write =
+    sources_cause_of job inputs lefts ends symbols given Memory fit decoded (cause (λ e. cc e))
+ends_for job inputs lefts ends symbols given W (Err other) fit decoded after cause write = absurd after
 
 -- a run that ends while it prints ends for no fault of a case
 pub ends_without_case : {S : Type 0} (result : Result S RunFault) → IfErr result EndsPrinting → NeverCase result

@@ -12,7 +12,9 @@ use Rattle.htl_case.proofs.Outcomes.{exact_case}
 use Rattle.htl_command.specs.declared.question.Job.{Job}
 use Rattle.htl_main.specs.Faults.{of_case}
 use Rattle.htl_main.specs.Causes.{IsCauseAfter}
+use Rattle.htl_main.specs.CutInputs.{Decoding, decoding}
 use Rattle.htl_main.specs.Inputs.{DecodeAll}
+use Rattle.htl_main.specs.declared.cut_inputs.CutEnd.{CutEnd}
 use Rattle.htl_main.specs.Origins.{IsBetween, IsBetweenOf}
 use Rattle.htl_main.specs.declared.fault.RunFault.{RunFault}
 use Rattle.htl_main.specs.declared.fault.RunFault.TheVariants.{Case}
@@ -21,9 +23,9 @@ use Rattle.htl_main.specs.declared.origin.Between.TheVariants.{Nothing, Two, Unk
 
 -- why segments are refused as a case is why nothing is printed of them
 pub cause_of_case : (segments : List Content) (fault : CaseFault) → IsRefusal segments fault
-    → (symbols : Option (List ℕ)) (job : Job) → IsCauseAfter segments symbols job (of_case fault)
-cause_of_case segments NoMemory refusal symbols job = inl refusal
-cause_of_case segments fault refusal symbols job = ((λ same. cc), refusal)
+    → (cuts : List CutEnd) (symbols : Option (List ℕ)) (job : Job) → IsCauseAfter (decoding segments cuts) symbols job (of_case fault)
+cause_of_case segments NoMemory refusal cuts symbols job = inl refusal
+cause_of_case segments fault refusal cuts symbols job = ((λ same. cc), refusal)
 
 no_memory_between : (form : InputForm) (inputs : List (List ℕ)) (segments : List Content) (between : Between)
     → IsBetweenOf form inputs segments NoMemory between → between ≡ Nothing
@@ -38,11 +40,11 @@ between_of_case form inputs segments NoMemory between decoded is = no_memory_bet
 between_of_case form inputs segments fault between decoded is = (segments, decoded, is)
 
 -- what ends a run after the case was made is about no two segments
-pub none_after : (form : InputForm) (all : List (List ℕ)) (segments : List Content) (T : Trace) (symbols : Option (List ℕ)) (job : Job)
-    (fault : RunFault) → IsCaseOf segments T → IsCauseAfter segments symbols job fault
+pub none_after : (form : InputForm) (all : List (List ℕ)) (given : Decoding) (T : Trace) (symbols : Option (List ℕ)) (job : Job)
+    (fault : RunFault) → IsCaseOf given.segments T → IsCauseAfter given symbols job fault
     → IsBetween form all fault Nothing
-none_after form all segments T symbols job (Case fault) is cause = absurd (elim (exact_case segments T (Err fault) is cause) [
+none_after form all given T symbols job (Case fault) is cause = absurd (elim (exact_case given.segments T (Err fault) is cause) [
   | inl same ↦ cc
   | inr same ↦ cc
 ])
-none_after form all segments T symbols job fault is cause = refl
+none_after form all given T symbols job fault is cause = refl

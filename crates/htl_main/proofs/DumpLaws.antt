@@ -27,7 +27,8 @@ use Rattle.htl_main.specs.Ends.{IsEnd, IsEndRefused}
 use Rattle.htl_main.specs.declared.fault.RunFault.{RunFault}
 use Rattle.htl_main.specs.declared.fault.RunFault.TheVariants.{Segment, Read, Memory, Write}
 use Rattle.htl_main.proofs.EndLaws.{input_of}
-use Rattle.htl_main.proofs.InputLaws.{decode_next}
+use Rattle.htl_main.proofs.InputLaws.{decode_next, late_reported}
+use Rattle.htl_reading.specs.declared.outcome.EarlyEnd.{EarlyEnd}
 use Rattle.htl_reading.specs.Keepers.{taken}
 use Rattle.htl_reading.specs.Sources.{IsReadToFault}
 use Rattle.htl_reading.proofs.FaultLaws.{read_more, read_without_fault, taken_splits}
@@ -92,12 +93,13 @@ front_refused place start bytes rest old new fault so_far is late some = record 
   segments = so_far.segments;
   rest = rest;
   splits = so_far.splits;
-  ends = λ more. (
+  ends = λ partial more. (
     refl,
     ap (λ (n : ℕ). start + n) (rest_at bytes rest so_far.segments so_far.splits),
     omega (arith, some, length-append rest more),
+    fault,
     late_stays rest more fault late is,
-    λ partial. late,
+    late_reported partial (rest ++ more) fault late,
   );
   written = so_far.written;
 }
@@ -109,7 +111,7 @@ front_memory place start bytes rest old new so_far none = record {
   segments = so_far.segments;
   rest = rest;
   splits = so_far.splits;
-  ends = λ more. no_fault_stays rest more none;
+  ends = λ partial more. no_fault_stays rest more none;
   written = so_far.written;
 }
 
@@ -121,20 +123,12 @@ front_unwritten place start bytes rest n s old mid new so_far front part = recor
   segments = so_far.segments ++ s ∷ [];
   rest = drop n rest;
   splits = one_more bytes rest n s so_far.segments so_far.splits front;
-  ends = λ more. tt;
+  ends = λ partial more. tt;
   written = subst (AppendsPrefix old new) (flat_map_more segment_text [] so_far.segments s)
       (prefix_after old mid new (texts_of so_far.segments) (segment_text s) so_far.written part);
 }
 
 -- ---- all bytes of an input
-
--- what ends it where inputs may be partial ends it where they have to be whole
-ends_whole : (partial : Bool) (place offset : ℕ) (rest : List ℕ) (fault : RunFault) → DumpEndsAt true place offset rest fault
-    → DumpEndsAt partial place offset rest fault
-ends_whole partial place offset rest (Segment at there fault) ends = (ends.0, ends.1, ends.2, ends.3, λ may. ends.4 refl)
-ends_whole partial place offset rest Memory ends = ends
-ends_whole partial place offset rest Write ends = ends
-ends_whole partial place offset rest fault ends = absurd ends
 
 -- a dump that stops whatever bytes follow stops for the whole bytes
 pub whole_of_front : (form : InputForm) (place : ℕ) (bytes : List ℕ) (old new : Option (List ℕ)) (fault : RunFault)
@@ -145,9 +139,8 @@ whole_of_front form place bytes old new fault stops = record {
   splits = stops.splits;
   ends =
       let start : 0 + length (bundle stops.segments) ≡ length (bundle stops.segments) = omega arith in
-      ends_whole form.partial place (length (bundle stops.segments)) stops.rest fault
-      (subst (λ (l : List ℕ). DumpEndsAt true place (length (bundle stops.segments)) l fault) (append-nil stops.rest)
-      (subst (λ (n : ℕ). DumpEndsAt true place n (stops.rest ++ []) fault) start (stops.ends [])));
+      subst (λ (l : List ℕ). DumpEndsAt form.partial place (length (bundle stops.segments)) l fault) (append-nil stops.rest)
+      (subst (λ (n : ℕ). DumpEndsAt form.partial place n (stops.rest ++ []) fault) start (stops.ends form.partial []));
   written = stops.written;
 }
 
@@ -159,20 +152,20 @@ whole_refused form place bytes rest old new fault front refused = rw (refused.is
   segments = front.segments;
   rest = rest;
   splits = front.splits;
-  ends = (refl, refl, refused.some, refused.first_is, λ partial. absurd (cc (partial, refused.whole)));
+  ends = (refl, refl, refused.some, refused.first, refused.first_is, refused.reported);
   written = front.written;
 }
 
 -- where the front was dumped and the rest is one that may be left, all bytes were dumped
-pub dumped_whole : (form : InputForm) (bytes rest : List ℕ) (old new : Option (List ℕ)) (result : Result Bool RunFault)
-    → FrontDumped bytes rest old new → IfOk result (IsEnd form rest)
-    → IfOk result (λ is_cut. (rest : List ℕ) × IsEnd form rest is_cut × FrontDumped bytes rest old new)
-dumped_whole form bytes rest old new (Ok is_cut) front end = (rest, end, front)
+pub dumped_whole : (form : InputForm) (bytes rest : List ℕ) (old new : Option (List ℕ)) (result : Result (Option EarlyEnd) RunFault)
+    (front : FrontDumped bytes rest old new) → IfOk result (IsEnd form front.segments rest)
+    → IfOk result (λ end. (rest : List ℕ) × (front : FrontDumped bytes rest old new) × IsEnd form front.segments rest end)
+dumped_whole form bytes rest old new (Ok is_cut) front end = (rest, front, end)
 dumped_whole form bytes rest old new (Err fault) front end = tt
 
 -- where the rest ends within a segment and may not, the dump of all bytes ends there
 pub refused_whole : (form : InputForm) (place : ℕ) (bytes rest : List ℕ) (old new : Option (List ℕ)) (offset : ℕ)
-    (result : Result Bool RunFault) (front : FrontDumped bytes rest old new) → offset ≡ length (bundle front.segments)
+    (result : Result (Option EarlyEnd) RunFault) (front : FrontDumped bytes rest old new) → offset ≡ length (bundle front.segments)
     → IfErr result (IsEndRefused form place offset rest) → IfErr result (WholeStops form place bytes old new)
 refused_whole form place bytes rest old new offset (Ok is_cut) front at refused = tt
 refused_whole form place bytes rest old new offset (Err fault) front at refused =
@@ -180,18 +173,18 @@ refused_whole form place bytes rest old new offset (Err fault) front at refused 
     (subst (λ (n : ℕ). IsEndRefused form place n rest fault) at refused)
 
 -- an input of which all bytes were dumped, but for those that end within a segment and may
-pub dumps_front : (form : InputForm) (input bytes rest : List ℕ) (is_cut : Bool) (old new : Option (List ℕ)) → HasBytes form.hex input bytes
-    → IsEnd form rest is_cut → FrontDumped bytes rest old new → DumpsInput form input is_cut old new
-dumps_front form input bytes rest is_cut old new has end front =
-    (front.segments, input_of form input bytes rest front.segments has front.splits is_cut end, front.written)
+pub dumps_front : (form : InputForm) (input bytes rest : List ℕ) (end : Option EarlyEnd) (old new : Option (List ℕ)) → HasBytes form.hex input bytes
+    → (front : FrontDumped bytes rest old new) → IsEnd form front.segments rest end → DumpsInput form input end old new
+dumps_front form input bytes rest end old new has front ends =
+    (front.segments, input_of form input bytes rest front.segments has front.splits end ends, front.written)
 
 segment_at : (bytes rest : List ℕ) (ss : List Content) → Splits bytes ss rest → first_fault rest ≡ None → SegmentAt bytes (length (bundle ss))
 segment_at bytes rest ss split none = record { before = ss; rest = rest; splits = split; offset_is = refl; no_fault = none }
 
-asks : (hex : Bool) (input bytes rest : List ℕ) (ss : List Content) → HasBytes hex input bytes → Splits bytes ss rest
-    → first_fault rest ≡ None → AsksMemory hex input
-asks true input bytes rest ss has split none = has.0
-asks false input bytes rest ss has split none = (length (bundle ss), rw (← has) (segment_at bytes rest ss split none))
+asks : (hex partial : Bool) (input bytes rest : List ℕ) (ss : List Content) → HasBytes hex input bytes → Splits bytes ss rest
+    → first_fault rest ≡ None → AsksMemory hex partial input
+asks true partial input bytes rest ss has split none = has.0
+asks false partial input bytes rest ss has split none = (length (bundle ss), inl (rw (← has) (segment_at bytes rest ss split none)))
 
 pub input_stops : (form : InputForm) (left : Option (List ℕ)) (ended : Bool) (place : ℕ) (input bytes : List ℕ) (old new : Option (List ℕ))
     (fault : RunFault) → HasBytes form.hex input bytes → WholeStops form place bytes old new fault
@@ -202,15 +195,14 @@ input_stops form left ended place input bytes old new (Segment at offset fault) 
     record {
       bytes = bytes;
       has = has;
-      is = record {
-        before = stops.segments;
-        rest = stops.rest;
-        splits = stops.splits;
-        offset_is = stops.ends.1;
-        some = stops.ends.2;
-        fault_is = stops.ends.3;
-      };
-      late = stops.ends.4;
+      before = stops.segments;
+      rest = stops.rest;
+      splits = stops.splits;
+      offset_is = stops.ends.1;
+      some = stops.ends.2;
+      first = stops.ends.3;
+      first_is = stops.ends.4;
+      reported = stops.ends.5;
     },
   );
   segments = stops.segments;
@@ -218,7 +210,7 @@ input_stops form left ended place input bytes old new (Segment at offset fault) 
   written = stops.written;
 }
 input_stops form left ended place input bytes old new Memory has stops = record {
-  reported = inl (asks form.hex input bytes stops.rest stops.segments has stops.splits stops.ends);
+  reported = inl (asks form.hex form.partial input bytes stops.rest stops.segments has stops.splits stops.ends);
   segments = stops.segments;
   are = inr (bytes, stops.rest, has, stops.splits);
   written = stops.written;
@@ -232,11 +224,11 @@ input_stops form left ended place input bytes old new Write has stops = record {
 input_stops form left ended place input bytes old new fault has stops = absurd (stops.ends)
 
 -- where all bytes that a text writes were dumped, the text was
-pub text_dumped : (form : InputForm) (text bytes : List ℕ) (old new : Option (List ℕ)) (result : Result Bool RunFault)
+pub text_dumped : (form : InputForm) (text bytes : List ℕ) (old new : Option (List ℕ)) (result : Result (Option EarlyEnd) RunFault)
     → HasBytes form.hex text bytes
-    → IfOk result (λ is_cut. (rest : List ℕ) × IsEnd form rest is_cut × FrontDumped bytes rest old new)
-    → IfOk result (λ is_cut. DumpsInput form text is_cut old new)
-text_dumped form text bytes old new (Ok is_cut) has dumped = dumps_front form text bytes dumped.0 is_cut old new has dumped.1 dumped.2
+    → IfOk result (λ end. (rest : List ℕ) × (front : FrontDumped bytes rest old new) × IsEnd form front.segments rest end)
+    → IfOk result (λ end. DumpsInput form text end old new)
+text_dumped form text bytes old new (Ok end) has dumped = dumps_front form text bytes dumped.0 end old new has dumped.1 dumped.2
 text_dumped form text bytes old new (Err fault) has dumped = tt
 
 -- ---- a source that is dumped as it is read
@@ -284,8 +276,7 @@ stops_behind xs ys zs place start held piece old out new fault so_far read stops
       segments = ss ++ ts;
       rest = stops.rest ++ zs;
       splits = record { parts = whole; fits = All-append Fits ss ts so_far.fits stops.splits.fits };
-      ends = ends_whole form.partial place (length (bundle (ss ++ ts))) (stops.rest ++ zs) fault
-          (subst (λ (n : ℕ). DumpEndsAt true place n (stops.rest ++ zs) fault) offset (stops.ends zs));
+      ends = subst (λ (n : ℕ). DumpEndsAt form.partial place n (stops.rest ++ zs) fault) offset (stops.ends form.partial zs);
       written = written_after old out new ss ts fault so_far.written stops.written;
     }
 
@@ -397,32 +388,32 @@ so_far_once_more first mid last start held piece old new so_far read few =
 pub front_no_read : (place start : ℕ) (bytes : List ℕ) (old new : Option (List ℕ)) (fault : RunFault) → FrontStops place start bytes old new fault
     → (at : ℕ) → fault ≡ Read at → ⊥
 front_no_read place start bytes old new fault stops at is =
-    (subst (λ (f : RunFault). FrontStops place start bytes old new f) is stops).ends []
+    (subst (λ (f : RunFault). FrontStops place start bytes old new f) is stops).ends false []
 
 -- a fault of bytes at a front names no input before the one at the place
 pub front_named : (place start : ℕ) (bytes : List ℕ) (old new : Option (List ℕ)) (fault : RunFault) → FrontStops place start bytes old new fault
     → (later : ℕ) → EndsBefore fault later → place < later
-front_named place start bytes old new (Segment at offset fault) stops later before = omega (arith, (stops.ends []).0, before)
+front_named place start bytes old new (Segment at offset fault) stops later before = omega (arith, (stops.ends false []).0, before)
 front_named place start bytes old new Memory stops later before = absurd before
 front_named place start bytes old new Write stops later before = absurd before
-front_named place start bytes old new fault stops later before = absurd (stops.ends [])
+front_named place start bytes old new fault stops later before = absurd (stops.ends false [])
 
 -- ---- the end of a source
 
 -- at the end of a source of bytes, its dump ends well where what is held is one that may be left
 pub finished : (form : InputForm) (first mid last : Option (List ℕ)) (start : ℕ) (held : List ℕ) (old new : Option (List ℕ))
-    (result : Result Bool RunFault) → form.hex ≡ false → DumpedSoFar first mid start held old new → Consumes mid last [] → IsAtEnd last
-    → ((segments : List Content) → start ≡ length (bundle segments) → IfOk result (IsEnd form held))
-    → IfOk result (λ is_cut. IfSome first (λ bytes. DumpsInput form bytes is_cut old new))
+    (result : Result (Option EarlyEnd) RunFault) → form.hex ≡ false → DumpedSoFar first mid start held old new → Consumes mid last [] → IsAtEnd last
+    → ((segments : List Content) → start ≡ length (bundle segments) → IfOk result (IsEnd form segments held))
+    → IfOk result (λ end. IfSome first (λ bytes. DumpsInput form bytes end old new))
 finished form None mid last start held old new (Ok is_cut) is so_far none end ends = tt
 finished form (Some xs) mid last start held old new (Ok is_cut) is so_far none end ends =
-    dumps_front form xs xs held is_cut old new (rw is refl) (ends so_far.segments so_far.start_is)
-    (so_far_ended (Some xs) mid last start held old new so_far none end).front
+    let at = so_far_ended (Some xs) mid last start held old new so_far none end in
+    dumps_front form xs xs held is_cut old new (rw is refl) at.front (ends at.front.segments at.start_is)
 finished form first mid last start held old new (Err fault) is so_far none end ends = tt
 
 -- at the end of a source of bytes, its dump ends within a segment where that may not be left
 pub finished_cut : (form : InputForm) (first mid last : Option (List ℕ)) (ended : Bool) (place start : ℕ) (held : List ℕ)
-    (old new : Option (List ℕ)) (result : Result Bool RunFault) → form.hex ≡ false → DumpedSoFar first mid start held old new
+    (old new : Option (List ℕ)) (result : Result (Option EarlyEnd) RunFault) → form.hex ≡ false → DumpedSoFar first mid start held old new
     → Consumes mid last [] → IsAtEnd last
     → ((segments : List Content) → start ≡ length (bundle segments) → IfErr result (IsEndRefused form place start held))
     → IfErr result (λ fault. IfSome first (λ bytes. InputStops form last ended place bytes old new fault))
@@ -447,10 +438,10 @@ rest_inside bytes rest old new so_far = omega (arith, ap length so_far.splits.pa
 -- ---- inputs one after another
 
 -- the dump of the inputs before a place, and that of the one there, is the dump of one input more
-pub dumps_next : (form : InputForm) (texts : List (List ℕ)) (place : ℕ) (input : List ℕ) (is_cut : Bool) (old mid new : Option (List ℕ))
-    → slice_get texts place ≡ Some input → Dumps form (take place texts) old mid → DumpsInput form input is_cut mid new
+pub dumps_next : (form : InputForm) (texts : List (List ℕ)) (place : ℕ) (input : List ℕ) (end : Option EarlyEnd) (old mid new : Option (List ℕ))
+    → slice_get texts place ≡ Some input → Dumps form (take place texts) old mid → DumpsInput form input end mid new
     → Dumps form (take (place + 1) texts) old new
-dumps_next form texts place input is_cut old mid new here so_far next = (
+dumps_next form texts place input end old mid new here so_far next = (
   so_far.0 ++ next.0,
   decode_next form texts place input so_far.0 next.0 here so_far.1 next.1.decoded,
   appends_after old mid new so_far.0 next.0 so_far.2 next.2,

@@ -1,16 +1,18 @@
 -- An input whose last bytes end within a segment comes to its segments where it may, and else to its fault.
 use Rattle.std.proofs.Common.{◌≡◌, ℕ, Bool, true, false, List, [], length, Option, Some, None, refl, arith, inl}
-use Rattle.std.proofs.Common.{IfErr, IfOk, IfSome, Result, Ok, Err, Vec, Global}
-use Rattle.std.specs.Prelude.{nat_lt}
+use Rattle.std.proofs.Common.{IfErr, IfOk, IfSome, Result, Ok, Err, Vec, Global, inr, subst, ◌<◌}
+use Rattle.std.specs.Prelude.{nat_lt, if◌then◌else◌}
 use Rattle.htl_command.specs.declared.question.InputForm.{InputForm}
 use Rattle.htl_segment.specs.Bundles.{bundle, cut_off, is_early_end, IsRest, Splits}
 use Rattle.htl_segment.specs.Content.{Content}
 use Rattle.htl_segment.proofs.BundleLaws.{early_end}
-use Rattle.htl_reading.specs.Sources.{IsLeft}
+use Rattle.htl_reading.specs.Sources.{IsLeft, begins_header}
 use Rattle.htl_reading.specs.declared.outcome.Bundle.{Bundle}
 use Rattle.htl_reading.specs.declared.outcome.EarlyEnd.{EarlyEnd}
 use Rattle.htl_main.specs.Ends.{IsEnd, IsEndRefused, IsInput}
-use Rattle.htl_main.specs.Inputs.{HasBytes, IsReportedOfInput, MayBeLeft}
+use Rattle.htl_segment.specs.declared.fault.Fault.{Fault}
+use Rattle.htl_segment.specs.declared.fault.Fault.TheVariants.{Magic}
+use Rattle.htl_main.specs.Inputs.{AsksMemory, HasBytes, IsReportedOfInput, MayBeLeft, reported_of}
 use Rattle.htl_main.specs.Sources.{IsReportedOfSource}
 use Rattle.htl_main.specs.declared.cut_inputs.Accepted.{Accepted}
 use Rattle.htl_main.specs.declared.fault.RunFault.{RunFault}
@@ -20,12 +22,12 @@ use Rattle.htl_main.specs.declared.fault.RunFault.TheVariants.{Segment}
 
 pub nothing_left : (partial : Bool) → MayBeLeft partial []
 nothing_left false = refl
-nothing_left true = record { cut_off = inl (omega arith) }
+nothing_left true = (record { cut_off = inl (omega arith) }, refl)
 
 -- what may be left has a fault, that of bytes which end too early
 pub left_fault : (partial : Bool) (rest : List ℕ) → MayBeLeft partial rest → IsRest rest
-left_fault false rest left = rw left (nothing_left true)
-left_fault true rest left = left
+left_fault false rest left = rw left (nothing_left true).0
+left_fault true rest left = left.0
 
 early_cut : (rest : List ℕ) (short : Bool) → nat_lt (length rest) 32 ≡ short → is_early_end (cut_off rest) ≡ true
 early_cut rest true is = rw is refl
@@ -35,29 +37,53 @@ early_cut rest false is = rw is refl
 pub cut_off_early : (rest : List ℕ) → is_early_end (cut_off rest) ≡ true
 cut_off_early rest = early_cut rest (nat_lt (length rest) 32) refl
 
--- bytes that end within a segment, where they may
-pub end_of : (form : InputForm) (segments : List Content) (rest : List ℕ) (end : EarlyEnd) → form.partial ≡ true
-    → IsLeft segments rest (Some end) → IsEnd form rest true
-end_of form segments rest end partial left = (partial, left.some, early_end rest end.fault left.fault_is left.early)
+begun_of : (begun : Bool) → None ≡ (if begun then None else Some Magic) → begun ≡ true
+begun_of true told = refl
+begun_of false told = absurd (cc told)
+
+-- bytes that end within a segment have no fault only where they may be left
+pub no_fault_told : (partial : Bool) (rest : List ℕ) (first : Fault) → is_early_end first ≡ true → None ≡ reported_of partial rest first
+    → (partial ≡ true) × (begins_header rest ≡ true)
+no_fault_told false rest first early told = absurd (cc told)
+no_fault_told true rest first early told = (refl, begun_of (begins_header rest) (rw early at told))
+
+-- memory is asked for where an input is cut, as it may be
+asks_cut : (hex partial : Bool) (input bytes rest : List ℕ) (segments : List Content) → HasBytes hex input bytes → Splits bytes segments rest
+    → partial ≡ true → 0 < length rest → MayBeLeft true rest → AsksMemory hex partial input
+asks_cut true partial input bytes rest segments has split may some left = has.0
+asks_cut false partial input bytes rest segments has split may some left = (
+  length (bundle segments),
+  inr (
+    may,
+    record {
+      before = segments;
+      rest = rest;
+      splits = subst (λ (b : List ℕ). Splits b segments rest) has split;
+      offset_is = refl;
+      some = some;
+      is_rest = left.0;
+    },
+    left,
+  ),
+)
 
 -- ---- the input
 
 module _ (form : InputForm) (input bytes rest : List ℕ) (segments : List Content) (has : HasBytes form.hex input bytes)
     (split : Splits bytes segments rest) where
   -- an input whose bytes are segments and a rest that may be left is these segments, and cut where the rest isn't empty
-  pub input_of : (is_cut : Bool) → IsEnd form rest is_cut → IsInput form input segments is_cut
-  input_of true end = record {
-    decoded = record { bytes = bytes; has = has; rest = rest; splits = split; left = rw (end.0) (end.2) };
-    cut = record {
-      bytes = bytes;
-      has = has;
-      offset = length (bundle segments);
-      there = record { before = segments; rest = rest; splits = split; offset_is = refl; some = end.1; is_rest = end.2 };
-    };
-  }
-  input_of false end = record {
-    decoded = record { bytes = bytes; has = has; rest = rest; splits = split; left = rw end (nothing_left form.partial) };
-    cut = (segments, record { bytes = bytes; has = has; rest = rest; splits = split; left = end });
+  pub input_of : (end : Option EarlyEnd) → IsEnd form segments rest end → IsInput form input segments end
+  input_of (Some end) is =
+      let left : MayBeLeft true rest = (early_end rest end.fault is.2.fault_is is.2.early, is.1) in
+      record {
+        decoded = record { bytes = bytes; has = has; rest = rest; splits = split; left = rw (is.0) left };
+        ends = record { bytes = bytes; has = has; segments = segments; rest = rest; splits = split; within = is.2 };
+        asks = λ some. asks_cut form.hex form.partial input bytes rest segments has split is.0 is.2.some left;
+      }
+  input_of None is = record {
+    decoded = record { bytes = bytes; has = has; rest = rest; splits = split; left = rw is (nothing_left form.partial) };
+    ends = (segments, record { bytes = bytes; has = has; rest = rest; splits = split; left = is });
+    asks = λ some. absurd (some refl);
   }
 
   pub input_refused : (place : ℕ) (fault : RunFault) → IsEndRefused form place (length (bundle segments)) rest fault
@@ -67,18 +93,24 @@ module _ (form : InputForm) (input bytes rest : List ℕ) (segments : List Conte
     record {
       bytes = bytes;
       has = has;
-      is = record { before = segments; rest = rest; splits = split; offset_is = refl; some = refused.some; fault_is = refused.first_is };
-      late = λ partial. absurd (cc (partial, refused.whole));
+      before = segments;
+      rest = rest;
+      splits = split;
+      offset_is = refl;
+      some = refused.some;
+      first = refused.first;
+      first_is = refused.first_is;
+      reported = refused.reported;
     },
   )
 
 -- what is accepted of it, and why it isn't
 pub accepted_input : (form : InputForm) (input bytes rest : List ℕ) (segments : List Content) (list : Vec Content Global)
     (result : Result (Accepted (Vec Content Global)) RunFault) → HasBytes form.hex input bytes → Splits bytes segments rest
-    → list.items ≡ segments → IfOk result (λ it. it.segments ≡ list) → IfOk result (λ it. IsEnd form rest it.is_cut)
-    → IfOk result (λ it. IsInput form input it.segments.items it.is_cut)
+    → list.items ≡ segments → IfOk result (λ it. it.segments ≡ list) → IfOk result (λ it. IsEnd form segments rest it.end)
+    → IfOk result (λ it. IsInput form input it.segments.items it.end)
 accepted_input form input bytes rest segments list (Ok it) has split same kept end =
-    rw (kept, same) (input_of form input bytes rest segments has split it.is_cut end)
+    rw (kept, same) (input_of form input bytes rest segments has split it.end end)
 accepted_input form input bytes rest segments list (Err fault) has split same kept end = tt
 
 -- where the rest of an input may not be left, its fault is reported of the input
@@ -105,8 +137,8 @@ source_refused form bytes rest segments is split left ended place fault refused 
 
 -- a source whose bytes are segments and a rest that may be left is these segments, and cut where the rest isn't empty
 pub source_of : (form : InputForm) (bytes rest : List ℕ) (segments : List Content) → form.hex ≡ false → Splits bytes segments rest
-    → (is_cut : Bool) → IsEnd form rest is_cut → IsInput form bytes segments is_cut
-source_of form bytes rest segments is split is_cut end = input_of form bytes bytes rest segments (rw is refl) split is_cut end
+    → (end : Option EarlyEnd) → IsEnd form segments rest end → IsInput form bytes segments end
+source_of form bytes rest segments is split end ends = input_of form bytes bytes rest segments (rw is refl) split end ends
 
 -- what was read of it
 abbrev WasRead : Bundle (Vec Content Global) → List ℕ → Type 0
@@ -116,11 +148,11 @@ WasRead read bytes = (rest : List ℕ) × Splits bytes read.segments.items rest 
 pub accepted_source : (form : InputForm) (given : Option (List ℕ)) (read : Bundle (Vec Content Global))
     (result : Result (Accepted (Vec Content Global)) RunFault) → form.hex ≡ false → IfSome given (WasRead read)
     → IfOk result (λ it. it.segments ≡ read.segments)
-    → ((segments : List Content) (rest : List ℕ) → IsLeft segments rest read.early_end → IfOk result (λ it. IsEnd form rest it.is_cut))
-    → IfOk result (λ it. IfSome given (λ bytes. IsInput form bytes it.segments.items it.is_cut))
+    → ((segments : List Content) (rest : List ℕ) → IsLeft segments rest read.early_end → IfOk result (λ it. IsEnd form segments rest it.end))
+    → IfOk result (λ it. IfSome given (λ bytes. IsInput form bytes it.segments.items it.end))
 accepted_source form None read (Ok it) is of kept end = tt
 accepted_source form (Some bytes) read (Ok it) is of kept end =
-    rw kept (source_of form bytes of.0 read.segments.items is of.1 it.is_cut (end read.segments.items of.0 of.2))
+    rw kept (source_of form bytes of.0 read.segments.items is of.1 it.end (end read.segments.items of.0 of.2))
 accepted_source form given read (Err fault) is of kept end = tt
 
 -- what was read of a source of bytes, where its rest may not be left, is reported

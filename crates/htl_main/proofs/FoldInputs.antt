@@ -11,8 +11,8 @@ use Rattle.htl_case.specs.declared.fault.CaseFault.{CaseFault}
 use Rattle.htl_case.specs.declared.fault.CaseFault.TheVariants as cases
 use Rattle.htl_command.specs.declared.question.InputForm.{InputForm}
 use Rattle.htl_command.specs.declared.question.Setting.{Setting}
-use Rattle.htl_device.specs.declared.whole.ReadFault.{ReadFault}
-use Rattle.htl_device.specs.declared.whole.ReadFault.TheVariants as reads
+use Rattle.htl_reading.specs.declared.digits.DigitsFault.{DigitsFault}
+use Rattle.htl_reading.specs.declared.digits.DigitsFault.TheVariants as reads
 use Rattle.htl_reading.specs.Sources.{IsLeft}
 use Rattle.htl_reading.specs.Taking.{TookBefore, TookToEnd}
 use Rattle.htl_reading.specs.declared.fault.SourceFault.{SourceFault}
@@ -26,20 +26,22 @@ use Rattle.htl_segment.specs.declared.fault.Fault.{Fault}
 use Rattle.htl_segment.specs.declared.fault.Fault.TheVariants as segments
 use Rattle.htl_segment.specs.declared.hexadecimal.HexFault.{HexFault}
 use Rattle.htl_segment.specs.declared.hexadecimal.HexFault.TheVariants as digits
-use Rattle.htl_main.specs.CutInputs.{AreCut}
+use Rattle.htl_main.specs.Completeness.{ReportsMissing}
+use Rattle.htl_main.specs.CutInputs.{AreCutEnds}
 use Rattle.htl_main.specs.Ends.{IsEnd, IsEndRefused, IsInput}
-use Rattle.htl_main.specs.Faults.{of_case, of_hex, of_read, of_segment, of_source}
+use Rattle.htl_main.specs.Faults.{of_case, of_digits, of_hex, of_segment, of_source}
 use Rattle.htl_main.specs.Folders.{AreAllTaken, Folds, GaveOwn, IsAddedToFolded, IsMissingOf, IsNotAdded, IsOfInput, IsSymbolsFault, KeepsAll}
 use Rattle.htl_main.specs.Folders.{folds_of, number_of}
 use Rattle.htl_main.specs.Folding.{AreAccepted, AreFolded, AreGiven, AreReadToFold, AreTaken, AsksFoldsMemory, IsBeginningRefused}
-use Rattle.htl_main.specs.Folding.{IsCollectionOf, IsFolded, IsFoldedFar, IsFoldedUpTo, IsFoldingRefused, IsFoldsFault, TakesUpTo, counted}
+use Rattle.htl_main.specs.Folding.{IsCollectionOf, IsFolded, IsFoldedFar, IsFoldedUpTo, IsFoldingRefused, IsFoldsFault, IsMissingOfFirsts}
+use Rattle.htl_main.specs.Folding.{TakesUpTo, counted}
 use Rattle.htl_main.specs.Inputs.{DecodeAll, HasBytes, StopsAtInput}
 use Rattle.htl_main.specs.Printed.{WorkersFit}
 use Rattle.htl_main.specs.Readings.{AreRead}
 use Rattle.htl_main.specs.Reads.{NeverRead}
 use Rattle.htl_main.specs.Sources.{EndsBefore, IsReportedAt, IsReportedOfSource}
 use Rattle.htl_main.specs.declared.adding.Added.{Added}
-use Rattle.htl_main.specs.declared.cut_inputs.CutInputs.{CutInputs}
+use Rattle.htl_main.specs.declared.cut_inputs.CutEnd.{CutEnd}
 use Rattle.htl_main.specs.declared.fault.RunFault.{RunFault}
 use Rattle.htl_main.specs.declared.fault.RunFault.TheVariants as faults
 use Rattle.htl_main.specs.declared.folder.Folder.{Folder}
@@ -60,8 +62,8 @@ module _ {S K : Type 0} (gathers : S → K → List Content → Type 0) where
       subst (gathers kind c) (append_assoc before first more) (two kind (before ++ first) (one kind before was))
 
   -- of an input it took these, or those before its fault
-  abbrev pub TookInput : K → K → InputForm → List ℕ → Bool → Type 0
-  TookInput old new form text is_cut = (given : List Content) × IsInput form text given is_cut × Took gathers old new given
+  abbrev pub TookInput : K → K → InputForm → List ℕ → Option EarlyEnd → Type 0
+  TookInput old new form text end = (given : List Content) × IsInput form text given end × Took gathers old new given
 
   -- a keeper took the segments that an input gave before its fault
   abbrev pub TookOwn : K → K → InputForm → Option (List ℕ) → List ℕ → RunFault → Type 0
@@ -77,15 +79,15 @@ module _ {S K : Type 0} (gathers : S → K → List Content → Type 0) where
     own_of_end left text bytes rest segments fault has split refused = rw (refused.is) (bytes, rest, has, split, refl)
 
     -- an input whose bytes were taken, and whose rest may be left, was taken
-    pub text_ok : (text bytes rest : List ℕ) (segments : List Content) (result : Result Bool RunFault) → HasBytes form.hex text bytes
-        → Splits bytes segments rest → Took gathers old new segments → IfOk result (IsEnd form rest)
+    pub text_ok : (text bytes rest : List ℕ) (segments : List Content) (result : Result (Option EarlyEnd) RunFault) → HasBytes form.hex text bytes
+        → Splits bytes segments rest → Took gathers old new segments → IfOk result (IsEnd form segments rest)
         → IfOk result (λ is_cut. TookInput old new form text is_cut)
     text_ok text bytes rest segments (Ok is_cut) has split took end =
         (segments, input_of form text bytes rest segments has split is_cut end, took)
     text_ok text bytes rest segments (Err fault) has split took end = tt
 
     -- where the rest of an input's bytes may not be left, the segments before it were taken before its fault
-    pub text_kept : (left : Option (List ℕ)) (text bytes rest : List ℕ) (segments : List Content) (result : Result Bool RunFault)
+    pub text_kept : (left : Option (List ℕ)) (text bytes rest : List ℕ) (segments : List Content) (result : Result (Option EarlyEnd) RunFault)
         → HasBytes form.hex text bytes → Splits bytes segments rest → Took gathers old new segments
         → IfErr result (IsEndRefused form place (length (bundle segments)) rest)
         → IfErr result (λ fault. TookOwn old new form left text fault)
@@ -105,9 +107,9 @@ module _ {S K : Type 0} (gathers : S → K → List Content → Type 0) where
     -- ---- a source of bytes
 
     -- a source of bytes that was taken to its end, and whose rest may be left, was taken as an input
-    pub source_ok : (first : Option (List ℕ)) (end : Option EarlyEnd) (result : Result Bool RunFault) → form.hex ≡ false
+    pub source_ok : (first : Option (List ℕ)) (end : Option EarlyEnd) (result : Result (Option EarlyEnd) RunFault) → form.hex ≡ false
         → IfSome first (TookToEnd gathers old new end)
-        → ((segments : List Content) (rest : List ℕ) → IsLeft segments rest end → IfOk result (IsEnd form rest))
+        → ((segments : List Content) (rest : List ℕ) → IsLeft segments rest end → IfOk result (IsEnd form segments rest))
         → IfOk result (λ is_cut. IfSome first (λ text. TookInput old new form text is_cut))
     source_ok None end (Ok is_cut) is took ends = tt
     source_ok (Some text) end (Ok is_cut) is took ends =
@@ -115,7 +117,7 @@ module _ {S K : Type 0} (gathers : S → K → List Content → Type 0) where
     source_ok first end (Err fault) is took ends = tt
 
     -- where the rest of a source may not be left, its fault is reported
-    pub source_err : (first left : Option (List ℕ)) (ended : Bool) (end : Option EarlyEnd) (result : Result Bool RunFault)
+    pub source_err : (first left : Option (List ℕ)) (ended : Bool) (end : Option EarlyEnd) (result : Result (Option EarlyEnd) RunFault)
         → form.hex ≡ false → IfSome first (TookToEnd gathers old new end)
         → ((segments : List Content) (rest : List ℕ) → IsLeft segments rest end
         → IfErr result (IsEndRefused form place (length (bundle segments)) rest))
@@ -126,7 +128,7 @@ module _ {S K : Type 0} (gathers : S → K → List Content → Type 0) where
         source_refused form text took.1 took.0 is took.2 left ended place fault (refused took.0 took.1 took.3)
 
     -- where the rest of a source may not be left, the segments before it were taken before its fault
-    pub source_kept : (first left : Option (List ℕ)) (end : Option EarlyEnd) (result : Result Bool RunFault) → form.hex ≡ false
+    pub source_kept : (first left : Option (List ℕ)) (end : Option EarlyEnd) (result : Result (Option EarlyEnd) RunFault) → form.hex ≡ false
         → IfSome first (TookToEnd gathers old new end)
         → ((segments : List Content) (rest : List ℕ) → IsLeft segments rest end
         → IfErr result (IsEndRefused form place (length (bundle segments)) rest))
@@ -157,7 +159,7 @@ module _ {S K : Type 0} (gathers : S → K → List Content → Type 0) where
     -- ---- a source of digits
 
     -- what was taken of a text is taken of the source whose known bytes it is
-    pub known_ok : (first : Option (List ℕ)) (text : List ℕ) (result : Result Bool RunFault) → IfSome first (λ xs. text ≡ xs)
+    pub known_ok : (first : Option (List ℕ)) (text : List ℕ) (result : Result (Option EarlyEnd) RunFault) → IfSome first (λ xs. text ≡ xs)
         → IfOk result (λ is_cut. TookInput old new form text is_cut)
         → IfOk result (λ is_cut. IfSome first (λ xs. TookInput old new form xs is_cut))
     known_ok None text (Ok is_cut) is took = tt
@@ -174,7 +176,7 @@ module _ {S K : Type 0} (gathers : S → K → List Content → Type 0) where
     any_left left other text fault own is gave = absurd gave
 
     -- what was taken of a text before its fault is taken so of the source whose known bytes it is
-    pub known_kept : (first left : Option (List ℕ)) (text : List ℕ) (result : Result Bool RunFault) → form.hex ≡ true
+    pub known_kept : (first left : Option (List ℕ)) (text : List ℕ) (result : Result (Option EarlyEnd) RunFault) → form.hex ≡ true
         → IfSome first (λ xs. text ≡ xs) → IfErr result (λ fault. TookOwn old new form None text fault)
         → IfErr result (λ fault. IfSome first (λ xs. TookOwn old new form left xs fault))
     known_kept first left text (Ok is_cut) hex is took = tt
@@ -190,11 +192,12 @@ module _ {S K : Type 0} (gathers : S → K → List Content → Type 0) where
   digits_kept k form place left text fault other = ([], refl, took_none k)
 
   -- and nothing of those that couldn't be gathered
-  pub unread_kept : (k : K) (form : InputForm) (place : ℕ) (first left : Option (List ℕ)) (fault : ReadFault) → form.hex ≡ true
-      → IfSome first (λ text. TookOwn k k form left text (of_read place fault))
+  pub unread_kept : (k : K) (form : InputForm) (place : ℕ) (first left : Option (List ℕ)) (fault : DigitsFault) → form.hex ≡ true
+      → IfSome first (λ text. TookOwn k k form left text (of_digits place fault))
   unread_kept k form place None left fault is = tt
   unread_kept k form place (Some text) left reads.NoMemory is = λ other. absurd (other refl)
-  unread_kept k form place (Some text) left reads.Failed is = λ other. ([], rw is refl, took_none k)
+  unread_kept k form place (Some text) left reads.Read is = λ other. ([], rw is refl, took_none k)
+  unread_kept k form place (Some text) left (reads.Foreign at) is = λ other. ([], refl, took_none k)
 
 -- ---- one input after another
 
@@ -217,9 +220,9 @@ module _ (form : InputForm) (inputs : List (List ℕ)) (lefts : List (Option (Li
 -- ---- what was taken of all inputs
 
 module _ (first now : Option State) (n : ℕ) (given before : List Content) (was : AreFolded first before) where
-  taken_all : Folds first now None n given → (form : InputForm) (texts : List (List ℕ)) (cut : Option CutInputs)
-      → DecodeAll form texts given → IsFoldedFar now → AreCut form.hex texts cut → AreAllTaken form before texts first now n cut
-  taken_all folds form texts cut decoded far cut_is =
+  taken_all : Folds first now None n given → (form : InputForm) (texts : List (List ℕ)) (cuts : List CutEnd)
+      → DecodeAll form texts given → IsFoldedFar now → AreCutEnds form.hex texts cuts → AreAllTaken form before texts first now n cuts
+  taken_all folds form texts cuts decoded far cut_ends =
       let takes = folds.takes before was in
       let all : given ≡ folds.taken = takes.cut ∙ ap (λ (l : List Content). folds.taken ++ l) takes.ends ∙ append-nil folds.taken in
       record {
@@ -231,16 +234,16 @@ module _ (first now : Option State) (n : ℕ) (given before : List Content) (was
           far = far;
         };
         number = folds.number ∙ ap counted (sym all);
-        cut_is = cut_is;
+        cut_ends = cut_ends;
         keeps = folds.keeps;
       }
 
   -- a folder that took all segments of the inputs, and folded all that it can, has taken the inputs
   pub all_taken : {U E : Type 0} (ended : Result U E) → Folds first now None n given → (form : InputForm) (texts : List (List ℕ))
-      (cut : Option CutInputs) → DecodeAll form texts given → OnOk ended (IsFoldedFar now) → AreCut form.hex texts cut
-      → OnOk ended (AreAllTaken form before texts first now n cut)
-  all_taken ended folds form texts cut decoded far cut_is =
-      on_ok_weaker ended (λ is_far. taken_all folds form texts cut decoded is_far cut_is) far
+      (cuts : List CutEnd) → DecodeAll form texts given → OnOk ended (IsFoldedFar now) → AreCutEnds form.hex texts cuts
+      → OnOk ended (AreAllTaken form before texts first now n cuts)
+  all_taken ended folds form texts cuts decoded far cut_ends =
+      on_ok_weaker ended (λ is_far. taken_all folds form texts cuts decoded is_far cut_ends) far
 
   pub some_given : (unfit : Option CaseFault) → Folds first now unfit n given → 0 < n → given ≢ []
   some_given unfit folds some none =
@@ -385,8 +388,8 @@ module _ (setting : Setting) (before : List Content) (texts : List (List ℕ)) (
 
   -- ---- once all segments were taken
 
-  module _ (fit : WorkersFit setting.workers) (old new : Option State) (n : ℕ) (cut : Option CutInputs)
-      (all : AreAllTaken setting.form before texts old new n cut) where
+  module _ (fit : WorkersFit setting.workers) (old new : Option State) (n : ℕ) (cuts : List CutEnd)
+      (all : AreAllTaken setting.form before texts old new n cuts) where
     takes_all : TakesUpTo before all.given all.given None
     takes_all = record { later = []; cut = sym (append-nil all.given); accepted = all.accepted; ends = refl }
 
@@ -405,30 +408,44 @@ module _ (setting : Setting) (before : List Content) (texts : List (List ℕ)) (
       why = (fit, (folded_in None is).taken);
     }
 
-    -- one is missing, or memory was refused
-    not_covered : (a : State) (fault : RunFault) → new ≡ Some a → IsMissingOf setting.complete a fault → Refuses new fault
-    not_covered a faults.Memory is missing = (fit, inr (inr (all.given, all.decoded, (folded_in (Some a) is).taken.0)))
-    not_covered a (faults.Incomplete processor number) is missing = record {
+    missing_there : (a : State) → new ≡ Some a → (fault : RunFault) → AreGiven setting.form texts lefts fault all.given
+        → IsFoldsFault setting before texts lefts ends all.given None fault → IsFoldedUpTo setting before texts lefts ends (AreFolded new) fault
+    missing_there a is fault given why = record {
       given = all.given;
-      are_given = all.decoded;
+      are_given = given;
       taken = all.given;
       unfit = None;
       takes = takes_all;
       kept = all.folded;
-      why = (fit, refl, missing.0, λ T case. missing.1 (before ++ all.given) T (folded_in (Some a) is) case);
+      why = why;
     }
-    not_covered a fault is missing = absurd missing
 
-    not_added_to : (now : Option State) → new ≡ now → (fault : RunFault) → IsNotAdded setting.complete now fault → Refuses new fault
+    reports : (a : State) → new ≡ Some a → (fault : RunFault) → setting.complete ≡ true
+        → ((segments : List Content) (T : Trace) → AreFolded (Some a) segments → IsCollectionOf segments T → ReportsMissing T cuts fault)
+        → IsMissingOfFirsts setting (before ++ all.given) texts fault
+    reports a is fault complete missing =
+        (complete, cuts, all.cut_ends, λ T case. missing (before ++ all.given) T (folded_in (Some a) is) case)
+
+    -- one is missing, or memory was refused
+    not_covered : (a : State) (fault : RunFault) → new ≡ Some a → IsMissingOf setting.complete cuts a fault → Refuses new fault
+    not_covered a fault is (inl memory) = rw memory (fit, inr (inr (all.given, all.decoded, (folded_in (Some a) is).taken.0)))
+    not_covered a (faults.Incomplete processor number) is (inr missing) =
+        missing_there a is (faults.Incomplete processor number) all.decoded
+        (fit, refl, reports a is (faults.Incomplete processor number) missing.1 missing.2)
+    not_covered a (faults.UnknownCut input) is (inr missing) =
+        missing_there a is (faults.UnknownCut input) all.decoded (fit, refl, reports a is (faults.UnknownCut input) missing.1 missing.2)
+    not_covered a fault is (inr missing) = absurd (missing.0)
+
+    not_added_to : (now : Option State) → new ≡ now → (fault : RunFault) → IsNotAdded setting.complete cuts now fault → Refuses new fault
     not_added_to None is fault told = rw told (none_there is)
     not_added_to (Some a) is fault told = not_covered a fault is told
 
     -- a reading that brings no segment, or misses one, is refused for that
-    pub not_added : (fault : RunFault) → IsNotAdded setting.complete new fault → Refuses new fault
+    pub not_added : (fault : RunFault) → IsNotAdded setting.complete cuts new fault → Refuses new fault
     not_added fault told = not_added_to new refl fault told
 
     -- all is well
-    pub is_folded : (added : Added) → AreFolded old before → IsAddedToFolded setting.complete new (number_of old) n cut added
+    pub is_folded : (added : Added) → AreFolded old before → IsAddedToFolded setting.complete new (number_of old) n cuts added
         → IsFolded setting before texts (AreFolded new) added
     is_folded added was is =
         let now = folded_in (Some is.analyst) is.there in
@@ -448,21 +465,27 @@ module _ (setting : Setting) (before : List Content) (texts : List (List ℕ)) (
               let new_are = is.new_are in
               omega (arith, first, last, more, new_are));
           coverage = λ T case. (is.covered (before ++ all.given) T now case).0;
+          cuts = cuts;
+          cut_ends = all.cut_ends;
           whole = λ asked T case. (is.covered (before ++ all.given) T now case).1 asked;
-          cut = subst (AreCut setting.form.hex texts) (sym is.cut_is) all.cut_is;
+          cut = is.cut_is setting.form.hex texts all.cut_ends;
         }
 
 -- ---- what a fault isn't
 
 -- that of a gap
-missing_no_read : {S : Type 0} (complete : Bool) (a : State) (fault : RunFault) → IsMissingOf complete a fault → NeverRead (ill {S = S} fault)
-missing_no_read complete a (faults.Read at) is = absurd is
-missing_no_read complete a fault is = λ place same. cc same
+missing_no_read : {S : Type 0} (complete : Bool) (cuts : List CutEnd) (a : State) (fault : RunFault) → IsMissingOf complete cuts a fault
+    → NeverRead (ill {S = S} fault)
+missing_no_read complete cuts a fault (inl memory) = λ place same. cc (memory, same)
+missing_no_read complete cuts a (faults.Read at) (inr missing) = absurd (missing.0)
+missing_no_read complete cuts a fault (inr missing) = λ place same. cc same
 
-missing_no_end : (complete : Bool) (a : State) (fault : RunFault) → IsMissingOf complete a fault → (place : ℕ) → EndsBefore fault place → ⊥
-missing_no_end complete a faults.Memory is = λ place before. before
-missing_no_end complete a (faults.Incomplete processor number) is = λ place before. before
-missing_no_end complete a fault is = absurd is
+missing_no_end : (complete : Bool) (cuts : List CutEnd) (a : State) (fault : RunFault) → IsMissingOf complete cuts a fault → (place : ℕ)
+    → EndsBefore fault place → ⊥
+missing_no_end complete cuts a fault (inl memory) = λ place. rw memory (λ before. before)
+missing_no_end complete cuts a (faults.Incomplete processor number) (inr missing) = λ place before. before
+missing_no_end complete cuts a (faults.UnknownCut input) (inr missing) = λ place before. before
+missing_no_end complete cuts a fault (inr missing) = absurd (missing.0)
 
 -- that of symbols
 symbols_no_read : {S : Type 0} (symbols : Option (List ℕ)) (fault : RunFault) → IsSymbolsFault symbols fault
@@ -490,18 +513,18 @@ module _ {R : Type 0} (is_text : Bool) (has_failed has_ended : R → Bool) (good
 
   module _ {S T : Type 0} (value : S) (read : AreRead is_text has_failed has_ended good_reads remaining old new (well value)) where
     -- there is no segment, or one is missing
-    pub read_to_gap : (complete : Bool) (now : Option State) (fault : RunFault) → IsNotAdded complete now fault
+    pub read_to_gap : (complete : Bool) (cuts : List CutEnd) (now : Option State) (fault : RunFault) → IsNotAdded complete cuts now fault
         → AreRead is_text has_failed has_ended good_reads remaining old new (ill {S = T} fault)
-    read_to_gap complete now fault told =
+    read_to_gap complete cuts now fault told =
         read_then is_text has_failed has_ended good_reads remaining old new value (ill fault) read (never now fault told) (names now fault told)
       where
-        never : (now : Option State) (fault : RunFault) → IsNotAdded complete now fault → NeverRead (ill {S = T} fault)
+        never : (now : Option State) (fault : RunFault) → IsNotAdded complete cuts now fault → NeverRead (ill {S = T} fault)
         never None fault told at is = cc (told, is)
-        never (Some a) fault told at is = missing_no_read complete a fault told at is
+        never (Some a) fault told at is = missing_no_read complete cuts a fault told at is
 
-        names : (now : Option State) (fault : RunFault) → IsNotAdded complete now fault → (place : ℕ) → EndsBefore fault place → ⊥
+        names : (now : Option State) (fault : RunFault) → IsNotAdded complete cuts now fault → (place : ℕ) → EndsBefore fault place → ⊥
         names None fault told place = rw told (λ before. before)
-        names (Some a) fault told place = missing_no_end complete a fault told place
+        names (Some a) fault told place = missing_no_end complete cuts a fault told place
 
     -- or the symbols have a fault
     pub read_to_symbols : (symbols : Option (List ℕ)) (fault : RunFault) → IsSymbolsFault symbols fault
@@ -550,6 +573,8 @@ module _ (setting : Setting) (symbols : Option (List ℕ)) (texts : List (List �
       segments = folded.segments;
       new = folded.new;
       coverage = folded.coverage;
+      cuts = folded.cuts;
+      cut_ends = folded.cut_ends;
       whole = folded.whole;
       cut = folded.cut;
     },

@@ -39,7 +39,8 @@ use Rattle.htl_analyst.specs.declared.fault.Took.TheVariants.{New, Repeat}
 use Rattle.htl_case.specs.Complete.{IsCompleteTo, IsFirstMissing}
 use Rattle.htl_case.specs.Faults.{key_of}
 use Rattle.htl_case.proofs.Sizes.{size_is}
-use Rattle.htl_main.specs.Completeness.{IsComplete, IsLeastMissing}
+use Rattle.htl_main.specs.CaseOutlines.{AreFrontsOf, IsMissed}
+use Rattle.htl_main.specs.declared.coverage.Missed.{Missed}
 use Rattle.htl_main.specs.Coverages.{IsCoverage}
 use Rattle.htl_main.specs.Folders.{IsFallen, IsNewTo, Keeps, KeepsAll, TookNext}
 use Rattle.htl_main.specs.declared.coverage.Coverage.{Coverage}
@@ -53,7 +54,6 @@ use Rattle.htl_command.specs.declared.question.Question.TheVariants as questions
 use Rattle.htl_main.specs.Questions.{IsOfParts}
 use Rattle.htl_main.proofs.Collections.{firsts_of}
 use Rattle.htl_main.proofs.Covered.{one_first}
-use Rattle.htl_main.proofs.Missing.{no_later}
 
 abbrev AreIdsOf : State → Content → Type 0
 AreIdsOf a s = (s.trace_id ≡ a.trace_id) × (s.processors ≡ a.processors)
@@ -156,34 +156,18 @@ module _ (segments : List Content) (a : State) (T : Trace) (took : HasTakenAll s
     reached = (front_at a.taken least.processor, front_missing far least.processor, least.reached);
   }
 
-  -- the first gap is of the processor whose front is the least missing number
-  pub least_of_gaps : IsFoldedFar (Some a) → (gap : Gap) (more : List Gap) → IsGaps (HasTaken a) a.processors (gap ∷ more)
-      → IsLeastMissing T (processor_of gap) (front_at a.taken (processor_of gap))
-  least_of_gaps far gap more listed =
-      let gaps = gaps_of_all (gap ∷ more) listed in
-      record {
-        gap = gap;
-        there = (gaps.members gap).0 (Contains-here gap more);
-        own = refl;
-        first = front_missing far (processor_of gap);
-        before = λ other there. elim (Contains-cases gap more other ((gaps.members other).1 there)) [
-          | inl same ↦ let e = ap processor_of same in omega (arith, e)
-          | inr later ↦ no_later gap other (at_member (IsGapBefore gap) more other gaps.rising.0 later)
-        ];
-      }
-
-  -- where its taken keys have no gap, the collection is complete
-  pub none_missing : IsGaps (HasTaken a) a.processors [] → IsComplete T
-  none_missing listed gap there = Contains-nil gap (((gaps_of_all [] listed).members gap).1 there)
-
-  -- the number of its gaps and the least of its last folded sequences are the coverage of the collection
-  pub covered : IsFoldedFar (Some a) → (gaps : List Gap) (coverage : Coverage) → IsGaps (HasTaken a) a.processors gaps
-      → coverage.gaps ≡ length gaps → IsLeastLastFolded T a coverage.complete_to → IsCoverage T coverage
-  covered far gaps coverage listed counted least = record {
-    gaps = gaps;
-    are_gaps = gaps_of_all gaps listed;
-    counted = counted;
-    complete_to = complete_of_all far coverage.complete_to least;
+  -- where all was folded that could be, its gaps and fronts, and the least of its last folded sequences, are what is missing of it
+  pub missed_of_all : IsFoldedFar (Some a) → (missed : Missed) → missed.trace_id ≡ a.trace_id
+      → IsGaps (HasTaken a) a.processors missed.gaps.items → AreFrontsOf a a.processors missed.fronts.items
+      → IsLeastLastFolded T a missed.complete_to → IsMissed T missed
+  missed_of_all far missed id listed fronts least = record {
+    id = id ∙ sym right_here.id;
+    gaps = gaps_of_all missed.gaps.items listed;
+    fronts = record {
+      each = fronts.each ∙ sym right_here.processors;
+      first = λ p n at. subst (IsFirstMissing T p) (fronts.front p n at) (front_missing far p);
+    };
+    complete_to = complete_of_all far missed.complete_to least;
   }
 
 -- ---- the next segment
@@ -389,11 +373,6 @@ module _ (segments : List Content) (a : State) (s : Content) (took : HasTakenAll
         (λ t has. (let ids = at_member (AreIdsOf a) segments t took.ids has in
         (ids.0 ∙ sym same, λ equal. differ (sym equal ∙ ids.1)))),
   )
-
--- a list of gaps without a first one is empty
-pub no_first : (gaps : List Gap) → slice_get gaps 0 ≡ None → gaps ≡ []
-no_first [] at = refl
-no_first (g ∷ gs) at = absurd (cc at)
 
 -- a key that isn't taken is none of the state's
 pub not_a_key : (a : State) (p n : ℕ) → (HasTaken a p n → ⊥) → keys a p n ≡ false

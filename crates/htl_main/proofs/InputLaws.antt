@@ -1,6 +1,6 @@
 -- Inputs are decoded one after another, and the first that is refused is reported.
-use Rattle.std.proofs.Common.{◌≡◌, ◌+◌, ◌<◌, ℕ, Bool, true, false, List, [], ◌∷◌, ◌++◌, length, map, take, refl, ap, ◌∙◌, sym}
-use Rattle.std.proofs.Common.{append_assoc, inl, inr, Some, arith, Vec, Global}
+use Rattle.std.proofs.Common.{◌≡◌, ◌≢◌, ◌⊎◌, ◌+◌, ◌<◌, ℕ, Bool, true, false, List, [], ◌∷◌, ◌++◌, length, map, take, refl, ap, ◌∙◌, sym}
+use Rattle.std.proofs.Common.{append_assoc, inl, inr, Option, None, Some, arith, Vec, Global}
 use Rattle.std.specs.Prelude.{slice_get}
 use Rattle.std.proofs.lemmas.List.{append-nil, take_more}
 use Rattle.std.proofs.lemmas.List.Elements.{All-nil, All-head}
@@ -9,7 +9,9 @@ use Rattle.htl_command.specs.declared.question.InputForm.{InputForm}
 use Rattle.htl_segment.specs.Content.{Content, Fits}
 use Rattle.htl_segment.specs.Encoding.{encoding}
 use Rattle.htl_segment.specs.Faults.{first_fault}
-use Rattle.htl_segment.specs.Bundles.{bundle, IsRefused, SegmentAt, Splits}
+use Rattle.htl_segment.specs.Bundles.{bundle, is_early_end, IsRefused, SegmentAt, Splits}
+use Rattle.htl_reading.specs.declared.outcome.EarlyEnd.{EarlyEnd}
+use Rattle.htl_main.specs.Ends.{IsInput}
 use Rattle.htl_segment.proofs.SegmentLaws.{segment_again}
 use Rattle.htl_segment.proofs.BundleLaws.{first_fault-no_memory}
 use Rattle.htl_segment.specs.Pieces.{is_memory}
@@ -17,7 +19,7 @@ use Rattle.htl_segment.specs.declared.fault.Fault.{Fault}
 use Rattle.htl_segment.specs.declared.fault.Fault.TheVariants as faults
 use Rattle.htl_main.specs.declared.fault.RunFault.TheVariants.{Segment}
 use Rattle.htl_main.specs.Faults.{of_segment}
-use Rattle.htl_main.specs.Inputs.{AsksMemory, Decodes, DecodeAll, HasBytes, IsReportedOfInput}
+use Rattle.htl_main.specs.Inputs.{AsksMemory, Decodes, DecodeAll, HasBytes, IsReportedOfInput, reported_of}
 
 -- out of memory is reported as itself, and every other fault by its input and offset
 pub segment_fault : (input offset : ℕ) (fault : Fault) → is_memory fault ≡ false
@@ -25,17 +27,36 @@ pub segment_fault : (input offset : ℕ) (fault : Fault) → is_memory fault ≡
 segment_fault input offset faults.NoMemory other = absurd cc
 segment_fault input offset fault other = refl
 
-asks_at : (hex : Bool) (input bytes : List ℕ) (offset : ℕ) → HasBytes hex input bytes → SegmentAt bytes offset → AsksMemory hex input
-asks_at true input bytes offset has there = has.0
-asks_at false input bytes offset has there = (offset, rw (← has) there)
+asks_at : (hex partial : Bool) (input bytes : List ℕ) (offset : ℕ) → HasBytes hex input bytes → SegmentAt bytes offset
+    → AsksMemory hex partial input
+asks_at true partial input bytes offset has there = has.0
+asks_at false partial input bytes offset has there = (offset, inl (rw (← has) there))
+
+-- a fault that more bytes don't mend is reported as it is
+pub late_reported : (partial : Bool) (rest : List ℕ) (fault : Fault) → is_early_end fault ≡ false → reported_of partial rest fault ≡ Some fault
+late_reported false rest fault late = refl
+late_reported true rest fault late = rw late refl
 
 -- why no more of an input's bytes are split is reported of it
 pub refused_bytes : (form : InputForm) (place : ℕ) (input bytes : List ℕ) (offset : ℕ) (fault : Fault) → HasBytes form.hex input bytes
     → IsRefused bytes offset fault → IsReportedOfInput form place input (of_segment place offset fault)
 refused_bytes form place input bytes offset fault has (inl found) =
-    rw (segment_fault place offset fault (first_fault-no_memory found.0.rest fault found.0.fault_is))
-    (refl, record { bytes = bytes; has = has; is = found.0; late = λ partial. found.1 })
-refused_bytes form place input bytes offset fault has (inr asked) = rw (asked.0) (asks_at form.hex input bytes offset has asked.1)
+    rw (segment_fault place offset fault (first_fault-no_memory found.0.rest fault found.0.fault_is)) (
+      refl,
+      record {
+        bytes = bytes;
+        has = has;
+        before = found.0.before;
+        rest = found.0.rest;
+        splits = found.0.splits;
+        offset_is = found.0.offset_is;
+        some = found.0.some;
+        first = fault;
+        first_is = found.0.fault_is;
+        reported = late_reported form.partial found.0.rest fault found.1;
+      },
+    )
+refused_bytes form place input bytes offset fault has (inr asked) = rw (asked.0) (asks_at form.hex form.partial input bytes offset has asked.1)
 
 -- one input more
 pub decode_more : (form : InputForm) (inputs : List (List ℕ)) (input : List ℕ) (before after : List Content) → DecodeAll form inputs before
@@ -72,14 +93,21 @@ first_at bytes t ts rest parts fits =
     }
 
 -- where an input has segments, memory is asked for
-asks : (hex : Bool) (input bytes rest : List ℕ) (segments : List Content) → HasBytes hex input bytes → Splits bytes segments rest
-    → 0 < length segments → AsksMemory hex input
-asks true input bytes rest segments has split some = has.0
-asks false input bytes rest [] has split some = absurd (omega arith)
-asks false input bytes rest (t ∷ ts) has split some =
-    (0, first_at input t ts rest (sym has ∙ split.parts) (All-head Fits t ts split.fits))
+asks : (hex partial : Bool) (input bytes rest : List ℕ) (segments : List Content) → HasBytes hex input bytes → Splits bytes segments rest
+    → 0 < length segments → AsksMemory hex partial input
+asks true partial input bytes rest segments has split some = has.0
+asks false partial input bytes rest [] has split some = absurd (omega arith)
+asks false partial input bytes rest (t ∷ ts) has split some =
+    (0, inl (first_at input t ts rest (sym has ∙ split.parts) (All-head Fits t ts split.fits)))
 
 -- memory is asked for where an input has a segment
 pub asked_for : (form : InputForm) (input : List ℕ) (segments : List Content) → Decodes form input segments → 0 < length segments
-    → AsksMemory form.hex input
-asked_for form input segments decoded some = asks form.hex input decoded.bytes decoded.rest segments decoded.has decoded.splits some
+    → AsksMemory form.hex form.partial input
+asked_for form input segments decoded some =
+    asks form.hex form.partial input decoded.bytes decoded.rest segments decoded.has decoded.splits some
+
+-- or one that is cut
+pub asked_of : (form : InputForm) (input : List ℕ) (segments : List Content) (end : Option EarlyEnd) → IsInput form input segments end
+    → (0 < length segments) ⊎ (end ≢ None) → AsksMemory form.hex form.partial input
+asked_of form input segments end is (inl some) = asked_for form input segments is.decoded some
+asked_of form input segments end is (inr cut) = is.asks cut

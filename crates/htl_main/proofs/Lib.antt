@@ -14,6 +14,7 @@ pub mod FolderLaws
 pub mod FoldInputs
 pub mod Outlined
 pub mod WholeLaws
+pub mod Laters
 pub mod Missing
 pub mod OneSummary
 pub mod OneAnswer
@@ -21,8 +22,10 @@ pub mod OneOutcome
 pub mod OneCoverage
 pub mod UnfoldedLaws
 pub mod OneSource
+pub mod DigitsLaws
 pub mod SpanLaws
 pub mod PairLaws
+pub mod CompleteLaws
 pub mod CaseRefused
 pub mod AfterDecoding
 pub mod AfterLoading

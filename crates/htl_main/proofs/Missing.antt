@@ -1,78 +1,43 @@
--- The least key that a case misses is the first of its first gap; and why a run ends that looks for gaps and symbols.
-use Rattle.std.proofs.Common.{◌≡◌, ℕ, ◌+◌, ◌-◌, ◌^◌, ◌≤◌, true, List, [], ◌∷◌, ◌++◌, Option, Some, None, ◌⊎◌}
-use Rattle.std.proofs.Common.{refl, ap, subst, sym, ◌∙◌, arith, inl, inr}
-use Rattle.std.specs.Prelude.{Contains, slice_get}
-use Rattle.std.proofs.lemmas.Bool.{cases_lt}
+-- Which processor of a trace is the first that misses a segment, and which cut end isn't known; and why a run ends that looks for gaps and symbols.
+use Rattle.std.proofs.Common.{◌≡◌, ℕ, zero, suc, ◌+◌, ◌-◌, ◌^◌, ◌<◌, ◌≤◌, Bool, true, false, List, [], ◌∷◌, ◌++◌, Option, Some, None, ◌⊎◌}
+use Rattle.std.proofs.Common.{refl, ap, subst, sym, ◌∙◌, arith, inl, inr, length, length-append, take, drop, All}
+use Rattle.std.specs.Prelude.{Contains, slice_get, option_map, nat_lt, if◌then◌else◌, is_some, map, IfNone, IfSome}
+use Rattle.std.proofs.lemmas.Bool.{cases_lt, ltb-false, ltb-true}
+use Rattle.std.proofs.lemmas.List.{take_more}
+use Rattle.std.proofs.lemmas.List.Elements.{All-append, All-cons, All-nil, Contains-append_cases, Contains-append_left, Contains-append_right}
+use Rattle.std.proofs.lemmas.Option.{get_or_from_slice_get, slice_get_within}
 use Rattle.htl_event.proofs.Members.{at_member, Contains-cases, Contains-here, Contains-nil, some_member}
-use Rattle.htl_segment.specs.Content.{Content}
+use Rattle.htl_segment.specs.Content.{Content, Fits}
 use Rattle.htl_segment.specs.Traces.{Trace, IsTrace, HasKey}
-use Rattle.htl_segment.specs.declared.outline.Outline.{Outline}
 use Rattle.htl_analyst.proofs.Held.{one_segment}
 use Rattle.htl_case.specs.Cases.{IsCaseOf}
 use Rattle.htl_case.specs.Faults.{AreOfOneTrace}
 use Rattle.htl_case.proofs.Outcomes.{case_one_count, case_one_trace}
-use Rattle.htl_taken.specs.Gaps.{IsGapBefore, IsGaps, first_of, processor_of}
-use Rattle.htl_taken.specs.GapLists.{gaps_from, gaps_of}
-use Rattle.htl_taken.specs.Rising.{Rises, reach_from}
+use Rattle.htl_taken.specs.Gaps.{IsGap, IsGapBefore, IsGaps, processor_of}
 use Rattle.htl_taken.specs.declared.gap.Gap.{Gap}
 use Rattle.htl_taken.specs.declared.gap.Gap.TheVariants.{Between, Absent}
-use Rattle.htl_taken.proofs.GapLists.{gaps-before, gaps-next}
-use Rattle.htl_taken.proofs.Reaching.{reach-next, reach-stop}
+use Rattle.htl_tables.proofs.FirstNoted.{get_cases}
+use Rattle.htl_reading.specs.declared.outcome.SegmentName.{SegmentName}
 use Rattle.htl_command.specs.declared.question.Job.{Job}
-use Rattle.htl_main.specs.CaseOutlines.{BeginWithFirst, IsMissed, numbers_of}
+use Rattle.std.specs.List.{AllByRecursion}
+use Rattle.htl_segment.specs.Outlines.{outline_of}
+use Rattle.htl_segment.specs.declared.outline.Outline.{Outline}
+use Rattle.htl_main.specs.CaseOutlines.{AreFronts, AreOutlinesOf, IsFirstShort, IsMissed, IsShortUpTo, lesser}
 use Rattle.htl_main.specs.Causes.{IsCauseAfter}
-use Rattle.htl_main.specs.Completeness.{IsComplete, IsLeastMissing, ReportsMissing}
+use Rattle.htl_main.specs.Completeness.{IsFirstUnknown, IsKnown, IsLeastMissing, IsOfKey, Misses, MissesUpTo, ReportsMissing, name_of}
+use Rattle.htl_main.specs.CutInputs.{Decoding}
+use Rattle.htl_main.specs.declared.cut_inputs.CutEnd.{CutEnd}
 use Rattle.htl_case.specs.Complete.{IsFirstMissing}
 use Rattle.htl_main.specs.declared.coverage.Missed.{Missed}
 use Rattle.htl_main.specs.declared.fault.RunFault.{RunFault}
-use Rattle.htl_main.specs.declared.fault.RunFault.TheVariants.{Incomplete, Memory}
+use Rattle.htl_main.specs.declared.fault.RunFault.TheVariants.{Incomplete, Memory, UnknownCut}
 use Rattle.htl_main.specs.Faults.{of_symbols}
 use Rattle.htl_main.specs.Moments.{IsCompleteUntil}
 use Rattle.htl_main.specs.Printed.{HasSymbolFault}
 use Rattle.htl_symbols.specs.declared.fault.SymbolFault.{SymbolFault}
 use Rattle.htl_symbols.specs.declared.fault.SymbolFault.TheVariants.{NoMemory}
-use Rattle.htl_main.proofs.Outlined.{AreOwnOutlines, own_first, own_rise}
 
--- ---- the first gap
-
--- of the gaps before these numbers, which rise from a least one on, the first begins with the first number that isn't next
-begin_from : (p least high : ℕ) (ns : List ℕ) (gap : Gap) (more : List Gap) → Rises least high ns → gaps_from p least ns ≡ gap ∷ more
-    → (processor_of gap ≡ p) × (first_of gap ≡ reach_from least ns)
-begin_from p least high [] gap more rises is = absurd (cc is)
-begin_from p least high (n ∷ ns) gap more rises is =
-    elim (cases_lt least n) [
-      | inl lt ↦
-          let here : Between p least (n - 1) ∷ gaps_from p (n + 1) ns ≡ gap ∷ more = sym (gaps-before p least n ns lt) ∙ is in
-          let same : Between p least (n - 1) ≡ gap = cc here in
-          let stop = reach-stop least n ns (λ e. omega (arith, e, lt)) in
-          (sym (ap processor_of same), sym (ap first_of same) ∙ sym stop)
-      | inr le ↦
-          let low = rises.0 in
-          let next : n ≡ least = omega (arith, le, low) in
-          let later = subst (λ (m : ℕ). Rises (m + 1) high ns) next rises.1 in
-          let rest = subst (λ (m : ℕ). gaps_from p (m + 1) ns ≡ gap ∷ more) next (sym (gaps-next p least n ns le) ∙ is) in
-          let found = begin_from p (least + 1) high ns gap more later rest in
-          (found.0, found.1 ∙ sym (reach-next least n ns next))
-    ]
-
-begin_of : (p high : ℕ) (ns : List ℕ) (gap : Gap) (more : List Gap) → Rises 0 high ns → gaps_of p 0 ns ≡ gap ∷ more
-    → (processor_of gap ≡ p) × (first_of gap ≡ reach_from 0 ns)
-begin_of p high [] gap more rises is =
-    let same : Absent p ≡ gap = cc is in (sym (ap processor_of same), sym (ap first_of same))
-begin_of p high (n ∷ ns) gap more rises is = begin_from p 0 high (n ∷ ns) gap more rises is
-
-joined : (T : Trace) (gaps added : List Gap) → BeginWithFirst T gaps → BeginWithFirst T added → BeginWithFirst T (gaps ++ added)
-joined T [] added so_far next gap more is = next gap more is
-joined T (g ∷ gs) added so_far next gap more is =
-    let same : g ≡ gap = cc is in
-    subst (λ (x : Gap). IsFirstMissing T (processor_of x) (first_of x)) same (so_far g gs refl)
-
--- the gaps of one processor more
-pub begin_more : (T : Trace) (is : IsTrace T) (p : ℕ) (own : List Outline) (mine : AreOwnOutlines T p own) (gaps : List Gap)
-    → BeginWithFirst T gaps → BeginWithFirst T (gaps ++ gaps_of p 0 (numbers_of own))
-begin_more T is p own mine gaps so_far = joined T gaps (gaps_of p 0 (numbers_of own)) so_far (λ gap more here.
-    let found = begin_of p (2 ^ 32) (numbers_of own) gap more (own_rise T is p own mine) here in
-    rw (found.0, found.1) (own_first T is p own mine))
+-- ---- the first processor that misses a segment
 
 -- a gap before another is of no later processor
 pub no_later : (a b : Gap) → IsGapBefore a b → processor_of a ≤ processor_of b
@@ -84,30 +49,195 @@ pub first_at : (gaps : List Gap) (gap : Gap) → slice_get gaps 0 ≡ Some gap �
 first_at [] gap at = absurd (cc at)
 first_at (g ∷ gs) gap at = let same : g ≡ gap = cc at in (gs, ap (λ (x : Gap). x ∷ gs) same)
 
--- the first gap begins with the least key that is missing
-pub least_missing : (T : Trace) (missed : Missed) (gap : Gap) → IsMissed T missed → slice_get missed.gaps.items 0 ≡ Some gap
-    → IsLeastMissing T (processor_of gap) (first_of gap)
-least_missing T missed gap is at =
-    let found = first_at missed.gaps.items gap at in
-    let listed = subst (λ (gaps : List Gap). IsGaps (HasKey T) T.processors gaps) found.1 is.gaps in
+-- with one cut end more a processor misses what it missed, or a segment up to that end
+misses_more : (T : Trace) (cuts : List CutEnd) (cut : CutEnd) (p : ℕ) → Misses T (cuts ++ cut ∷ []) p → Misses T cuts p ⊎ MissesUpTo T cut p
+misses_more T cuts cut p (inl gap) = inl (inl gap)
+misses_more T cuts cut p (inr at) = elim (Contains-append_cases cuts (cut ∷ []) at.0 at.1) [
+  | inl earlier ↦ inl (inr (at.0, earlier, at.2))
+  | inr last ↦ elim (Contains-cases cut [] at.0 last) [
+    | inl same ↦ inr (subst (λ (c : CutEnd). MissesUpTo T c p) (sym same) at.2)
+    | inr none ↦ absurd (Contains-nil at.0 none)
+  ]
+]
+
+misses_earlier : (T : Trace) (cuts : List CutEnd) (cut : CutEnd) (p : ℕ) → Misses T cuts p → Misses T (cuts ++ cut ∷ []) p
+misses_earlier T cuts cut p (inl gap) = inl gap
+misses_earlier T cuts cut p (inr at) = inr (at.0, Contains-append_left cuts (cut ∷ []) at.0 at.1, at.2)
+
+misses_last : (T : Trace) (cuts : List CutEnd) (cut : CutEnd) (p : ℕ) → MissesUpTo T cut p → Misses T (cuts ++ cut ∷ []) p
+misses_last T cuts cut p up = inr (cut, Contains-append_right cuts (cut ∷ []) cut (Contains-here cut []), up)
+
+abbrev processor_in : Option SegmentName → ℕ
+processor_in None = 0
+processor_in (Some name) = name.processor
+
+abbrev number_in : Option SegmentName → ℕ
+number_in None = 0
+number_in (Some name) = name.number
+
+-- a cut end is of one processor
+one_processor : (T : Trace) (cut : CutEnd) (p q : ℕ) → MissesUpTo T cut p → MissesUpTo T cut q → p ≡ q
+one_processor T cut p q a b = ap processor_in (sym a.3 ∙ b.3)
+
+short_lesser : (T : Trace) (cuts : List CutEnd) (cut : CutEnd) (p q : ℕ) (low : Bool) → nat_lt p q ≡ low → IsFirstShort T cuts (Some p)
+    → MissesUpTo T cut q → IsFirstShort T (cuts ++ cut ∷ []) (Some (if low then p else q))
+short_lesser T cuts cut p q true test first now =
+    let lt = ltb-true p q test in (
+      misses_earlier T cuts cut p first.0,
+      λ other misses. elim (misses_more T cuts cut other misses) [
+        | inl earlier ↦ first.1 other earlier
+        | inr last ↦ (let same = one_processor T cut other q last now in omega (arith, lt, same))
+      ],
+    )
+short_lesser T cuts cut p q false test first now =
+    let le = ltb-false p q test in (
+      misses_last T cuts cut q now,
+      λ other misses. elim (misses_more T cuts cut other misses) [
+        | inl earlier ↦ (let low = first.1 other earlier in omega (arith, le, low))
+        | inr last ↦ (let same = one_processor T cut other q last now in omega (arith, same))
+      ],
+    )
+
+-- with one cut end more it is the lesser of both
+pub short_next : (T : Trace) (cuts : List CutEnd) (cut : CutEnd) (first now : Option ℕ) → IsFirstShort T cuts first → IsShortUpTo T cut now
+    → IsFirstShort T (cuts ++ cut ∷ []) (lesser first now)
+short_next T cuts cut None None first now = λ p misses. elim (misses_more T cuts cut p misses) [
+  | inl earlier ↦ first p earlier
+  | inr last ↦ now p last
+]
+short_next T cuts cut None (Some q) first now = (
+  misses_last T cuts cut q now,
+  λ other misses. elim (misses_more T cuts cut other misses) [
+    | inl earlier ↦ absurd (first other earlier)
+    | inr last ↦ (let same = one_processor T cut other q last now in omega (arith, same))
+  ],
+)
+short_next T cuts cut (Some p) None first now = (
+  misses_earlier T cuts cut p first.0,
+  λ other misses. elim (misses_more T cuts cut other misses) [
+    | inl earlier ↦ first.1 other earlier
+    | inr last ↦ absurd (now other last)
+  ],
+)
+short_next T cuts cut (Some p) (Some q) first now = short_lesser T cuts cut p q (nat_lt p q) refl first now
+
+-- ---- one cut end
+
+-- it is of no segment of the trace
+pub short_unknown : (T : Trace) (cut : CutEnd) → (IsKnown T cut → ⊥) → IsShortUpTo T cut None
+short_unknown T cut unknown = λ p up. unknown (p, up.1, up.3)
+
+same_key : (T : Trace) (cut : CutEnd) (p q m n : ℕ) → IsOfKey T cut p m → IsOfKey T cut q n → (p ≡ q) × (m ≡ n)
+same_key T cut p q m n a b = (ap processor_in (sym a ∙ b), ap number_in (sym a ∙ b))
+
+module _ (T : Trace) (missed : Missed) (is : IsMissed T missed) (cut : CutEnd) (p last : ℕ) (of : IsOfKey T cut p last) where
+  -- or of no processor
+  pub short_outside : length missed.fronts.items ≤ p → IsShortUpTo T cut None
+  short_outside out = λ q up.
+      let same = same_key T cut q p up.1 last up.3 of in
+      let long = is.fronts.each in
+      let within = up.0 in
+      omega (arith, out, long, within, same.0)
+
+  -- all segments up to it are there
+  pub short_below : (front : ℕ) → slice_get missed.fronts.items p ≡ Some front → last < front → IsShortUpTo T cut None
+  short_below front at low = λ q up.
+      let same = same_key T cut q p up.1 last up.3 of in
+      let first = is.fronts.first p front at in
+      let le = up.4 in
+      up.5 (subst (λ (r : ℕ). HasKey T r up.2) (sym same.0) (first.below up.2 (omega (arith, le, low, same.1))))
+
+  -- the first missing one isn't behind it
+  pub short_at : (front : ℕ) → slice_get missed.fronts.items p ≡ Some front → front ≤ last → IsShortUpTo T cut (Some p)
+  short_at front at le =
+      let within = slice_get_within missed.fronts.items p front at in
+      let long = is.fronts.each in
+      (omega (arith, within, long), last, front, of, le, (is.fronts.first p front at).missing)
+
+-- ---- which cut ends are known
+
+-- ---- the fronts of the processors
+
+-- of no processors there are none
+pub no_fronts : (T : Trace) → AreFronts T 0 []
+no_fronts T = record { each = refl; first = λ p n at. absurd (cc at) }
+
+-- those of one processor more
+pub fronts_more : (T : Trace) (p : ℕ) (fronts : List ℕ) (front : ℕ) → AreFronts T p fronts → IsFirstMissing T p front
+    → AreFronts T (p + 1) (fronts ++ front ∷ [])
+fronts_more T p fronts front so_far first =
+    let long = so_far.each in
     record {
-      gap = gap;
-      there = (listed.members gap).0 (Contains-here gap found.0);
-      own = refl;
-      first = is.first gap found.0 found.1;
-      before = λ other there. elim (Contains-cases gap found.0 other ((listed.members other).1 there)) [
-        | inl same ↦ let e = ap processor_of same in omega (arith, e)
-        | inr later ↦ no_later gap other (at_member (IsGapBefore gap) found.0 other listed.rising.0 later)
+      each = omega (arith, long, length-append fronts (front ∷ []));
+      first = λ q n at. elim (get_cases fronts front q n at) [
+        | inl earlier ↦ so_far.first q n earlier
+        | inr last ↦ subst (λ (r : ℕ). IsFirstMissing T r n) (sym (last.0 ∙ long)) (subst (IsFirstMissing T p) last.1 first)
       ];
     }
 
--- a trace without a gap is complete
-pub complete : (T : Trace) (missed : Missed) → IsMissed T missed → slice_get missed.gaps.items 0 ≡ None → IsComplete T
-complete T missed is at gap there = go missed.gaps.items at ((is.gaps.members gap).1 there)
+-- a first missing number fits in 32 bits, since no segment has the greatest one
+pub first_fits : (T : Trace) (p n : ℕ) → IsTrace T → IsFirstMissing T p n → n ≤ 2 ^ 32 - 1
+first_fits T p n is first = elim (cases_lt n (2 ^ 32)) [
+  | inl lt ↦ omega (arith, lt)
+  | inr ge ↦
+      let key = first.below (2 ^ 32 - 1) (omega (arith, ge)) in
+      let fits = at_member Fits T.segments key.0 is.fit key.1 in
+      let low = fits.number in
+      let at = key.3 in
+      absurd (omega (arith, low, at))
+]
+
+-- ---- the least missing key, and the first cut end that isn't known
+
+-- the first missing number of the first processor that misses a segment
+pub least_missing : (T : Trace) (cuts : List CutEnd) (p n : ℕ) → IsFirstShort T cuts (Some p) → IsFirstMissing T p n
+    → IsLeastMissing T cuts p n
+least_missing T cuts p n short first = record { there = short.0; first = first; before = short.1 }
+
+gap_within : (T : Trace) (gap : Gap) (p : ℕ) → IsGap (HasKey T) T.processors gap → processor_of gap ≡ p → p < T.processors
+gap_within T (Between q from to) p is own = let low = is.0 in omega (arith, low, own)
+gap_within T (Absent q) p is own = let low = is.0 in omega (arith, low, own)
+
+-- a processor that misses a segment is one of the trace
+pub within : (T : Trace) (cuts : List CutEnd) (p : ℕ) → Misses T cuts p → p < T.processors
+within T cuts p (inl gap) = gap_within T gap.0 p gap.1 gap.2
+within T cuts p (inr cut) = cut.2.0
+
+-- ends that are known, with one more
+pub known_next : (T : Trace) (cuts : List CutEnd) (place : ℕ) (cut : CutEnd) → slice_get cuts place ≡ Some cut → All (IsKnown T) (take place cuts)
+    → IsKnown T cut → All (IsKnown T) (take (place + 1) cuts)
+known_next T cuts place cut here so_far known =
+    rw (take_more cuts place cut (slice_get_within cuts place cut here), get_or_from_slice_get cuts place cut cut here)
+    (All-append (IsKnown T) (take place cuts) (cut ∷ []) so_far (All-cons (IsKnown T) cut [] known (All-nil (IsKnown T))))
+
+-- a cut end that was found to have a name is known
+pub known_of : (T : Trace) (missed : Missed) (cut : CutEnd) (found : Option SegmentName) → IsMissed T missed
+    → IfSome found (λ name. (T : Trace) → IsMissed T missed → IsOfKey T cut name.processor name.number) → is_some found ≡ true → IsKnown T cut
+known_of T missed cut None is of some = absurd (cc some)
+known_of T missed cut (Some name) is of some = (name.processor, name.number, of T is)
+
+pub unknown_of : (T : Trace) (missed : Missed) (cut : CutEnd) (found : Option SegmentName) → IsMissed T missed
+    → IfNone found ((T : Trace) → IsMissed T missed → IsKnown T cut → ⊥) → is_some found ≡ false → IsKnown T cut → ⊥
+unknown_of T missed cut None is of none = of T is
+unknown_of T missed cut (Some name) is of none = absurd (cc none)
+
+pub first_unknown : (T : Trace) (cuts : List CutEnd) (place : ℕ) (cut : CutEnd) → slice_get cuts place ≡ Some cut
+    → All (IsKnown T) (take place cuts) → (IsKnown T cut → ⊥) → ((p : ℕ) → Misses T cuts p → ⊥) → IsFirstUnknown T cuts cut.input
+first_unknown T cuts place cut here known unknown whole = record {
+  whole = whole;
+  earlier = take place cuts;
+  cut = cut;
+  later = drop (suc place) cuts;
+  parts = split_at cuts place cut here;
+  known = known;
+  unknown = unknown;
+  input_is = refl;
+}
   where
-    go : (gaps : List Gap) → slice_get gaps 0 ≡ None → Contains gaps gap → ⊥
-    go [] at h = Contains-nil gap h
-    go (g ∷ gs) at h = cc at
+    split_at : (xs : List CutEnd) (i : ℕ) (x : CutEnd) → slice_get xs i ≡ Some x → xs ≡ take i xs ++ x ∷ drop (suc i) xs
+    split_at [] i x at = absurd (cc at)
+    split_at (y ∷ xs) zero x at = let same : y ≡ x = cc at in ap (λ (z : CutEnd). z ∷ xs) same
+    split_at (y ∷ xs) (suc i) x at = ap (λ (l : List CutEnd). y ∷ l) (split_at xs i x at)
 
 -- ---- why a run ends
 
@@ -124,22 +254,41 @@ of_one_trace segments T is = record {
 }
 
 -- a key that is missing is a cause where the job asks for a complete case, and a gap is below its moment
-pub missing_cause : (segments : List Content) (symbols : Option (List ℕ)) (job : Job) (T : Trace) (fault : RunFault) → IsCaseOf segments T
-    → job.setting.complete ≡ true → (IsCompleteUntil T job.until → ⊥) → ReportsMissing T fault → IsCauseAfter segments symbols job fault
-missing_cause segments symbols job T (Incomplete p n) case complete touched missing = (complete, T, case, touched, missing)
-missing_cause segments symbols job T other case complete touched missing = absurd missing
+pub missing_cause : (given : Decoding) (symbols : Option (List ℕ)) (job : Job) (T : Trace) (fault : RunFault) → IsCaseOf given.segments T
+    → job.setting.complete ≡ true → (IsCompleteUntil T given.cuts job.until → ⊥) → ReportsMissing T given.cuts fault
+    → IsCauseAfter given symbols job fault
+missing_cause given symbols job T (Incomplete p n) case complete touched missing = (complete, T, case, touched, missing)
+missing_cause given symbols job T (UnknownCut input) case complete touched missing = (complete, T, case, touched, missing)
+missing_cause given symbols job T other case complete touched missing = absurd missing
 
 -- memory may be refused before the gaps are looked for
-pub memory_cause : (segments : List Content) (symbols : Option (List ℕ)) (job : Job) (T : Trace) → IsCaseOf segments T
-    → IsCauseAfter segments symbols job Memory
-memory_cause segments symbols job T case = inl (of_one_trace segments T case)
+pub memory_cause : (given : Decoding) (symbols : Option (List ℕ)) (job : Job) (T : Trace) → IsCaseOf given.segments T
+    → IsCauseAfter given symbols job Memory
+memory_cause given symbols job T case = inl (of_one_trace given.segments T case)
 
 -- so is the first fault of the symbols, or memory that was refused for them
-pub symbols_cause : (segments : List Content) (symbols : Option (List ℕ)) (job : Job) (T : Trace) (fault : SymbolFault) → IsCaseOf segments T
-    → (job.setting.complete ≡ true → IsCompleteUntil T job.until) → ((fault ≡ NoMemory) ⊎ HasSymbolFault symbols fault)
-    → IsCauseAfter segments symbols job (of_symbols fault)
-symbols_cause segments symbols job T NoMemory case ends found = inr (T, (case, ends))
-symbols_cause segments symbols job T other case ends found = elim found [
-  | inl memory ↦ subst (λ fault. IsCauseAfter segments symbols job (of_symbols fault)) (sym memory) (inr (T, (case, ends)))
+pub symbols_cause : (given : Decoding) (symbols : Option (List ℕ)) (job : Job) (T : Trace) (fault : SymbolFault) → IsCaseOf given.segments T
+    → (job.setting.complete ≡ true → IsCompleteUntil T given.cuts job.until) → ((fault ≡ NoMemory) ⊎ HasSymbolFault symbols fault)
+    → IsCauseAfter given symbols job (of_symbols fault)
+symbols_cause given symbols job T NoMemory case ends found = inr (T, (case, ends))
+symbols_cause given symbols job T other case ends found = elim found [
+  | inl memory ↦ subst (λ fault. IsCauseAfter given symbols job (of_symbols fault)) (sym memory) (inr (T, (case, ends)))
   | inr has ↦ (T, (case, ends), has)
 ]
+
+-- ---- the trace of outlines
+
+abbrev id_in : Option Outline → ℕ
+id_in None = 0
+id_in (Some o) = o.trace_id
+
+first_id : (id processors : ℕ) (ss : List Content) (o : Outline) → AllByRecursion (λ s. (s.trace_id ≡ id) × (s.processors ≡ processors)) ss
+    → slice_get (map outline_of ss) 0 ≡ Some o → o.trace_id ≡ id
+first_id id processors [] o same at = absurd (cc at)
+first_id id processors (s ∷ ss) o same at = ap id_in (sym at) ∙ same.0.0
+
+-- the first of a trace's outlines has the trace's id
+pub outlines_id : (T : Trace) (processors : ℕ) (outlines : List Outline) (o : Outline) → AreOutlinesOf processors outlines T
+    → slice_get outlines 0 ≡ Some o → o.trace_id ≡ T.id
+outlines_id T processors outlines o are at =
+    first_id T.id T.processors T.segments o are.0.trace.same (subst (λ (os : List Outline). slice_get os 0 ≡ Some o) are.2 at)

@@ -15,10 +15,12 @@ use Rattle.htl_event.proofs.Members.{Contains-nil}
 use Rattle.htl_segment.specs.Traces.{Trace, all_events}
 use Rattle.htl_case.specs.Spans.{IsSpan}
 use Rattle.htl_symbols.specs.Ranges.{Range}
+use Rattle.htl_report.specs.Names.{shown_addresses}
 use Rattle.htl_report.specs.Texts.{text_of}
 use Rattle.htl_report.specs.declared.answer.Answer.{Answer}
 use Rattle.htl_report.specs.declared.answer.Answer.TheVariants.{Outstanding, Diff, Tags, Bad, Leaks, Stacks, Growth}
 use Rattle.htl_report.specs.declared.answer.Answer.TheVariants.{Trace as Listing, Summary}
+use Rattle.htl_command.specs.declared.question.Job.{Job}
 use Rattle.htl_command.specs.declared.question.Question.{Question}
 use Rattle.htl_command.specs.declared.question.Question.TheVariants as questions
 use Rattle.htl_command.specs.declared.question.Since.{Since}
@@ -27,7 +29,8 @@ use Rattle.htl_command.specs.declared.question.Format.{Format}
 use Rattle.htl_command.specs.declared.question.Format.TheVariants.{Plain, Json, Folded}
 use Rattle.htl_json.specs.Lines.{json_line, values_of}
 use Rattle.htl_main.specs.Printed.{lines_of_answer}
-use Rattle.htl_main.specs.Answers.{IsAnswer, IsAnswerOver, IsSince, IsSinceIfGiven, has_finding, span_until}
+use Rattle.htl_main.specs.Answers.{IsAnswer, IsAnswerOver, IsSince, IsSinceIfGiven, has_finding, is_since_0, span_until}
+use Rattle.htl_main.specs.Remarks.{remarks_on}
 use Rattle.htl_main.proofs.OneSummary.{one_gaps, one_objects, one_processes, one_totals}
 
 abbrev pub AreSame : Answer → Answer → Type 0
@@ -166,7 +169,7 @@ same_text table until top (Summary t gs ps os) (Summary u hs qs ns) same = rw (s
 same_text table until top (Summary t gs ps os) other same = absurd same
 
 -- answers with the same rows find the same
-pub same_finding : (a b : Answer) → AreSame a b → has_finding a ≡ has_finding b
+same_finding : (a b : Answer) → AreSame a b → has_finding a ≡ has_finding b
 same_finding (Outstanding p rs) (Outstanding q ss) same = rw (same.1) refl
 same_finding (Outstanding p rs) other same = absurd same
 same_finding (Diff p m rs) (Diff q n ss) same = rw (same.2) refl
@@ -185,6 +188,54 @@ same_finding (Growth p rs) (Growth q ss) same = rw (same.1) refl
 same_finding (Growth p rs) other same = absurd same
 same_finding (Summary t gs ps os) (Summary u hs qs ns) same = rw (same.2, same.3) refl
 same_finding (Summary t gs ps os) other same = absurd same
+
+-- and so they show the same addresses
+same_addresses : (top : Option ℕ) (a b : Answer) → AreSame a b → shown_addresses top a ≡ shown_addresses top b
+same_addresses top (Outstanding p rs) (Outstanding q ss) same = rw (same.1) refl
+same_addresses top (Outstanding p rs) other same = absurd same
+same_addresses top (Diff p m rs) (Diff q n ss) same = rw (same.2) refl
+same_addresses top (Diff p m rs) other same = absurd same
+same_addresses top (Tags p rs) (Tags q ss) same = refl
+same_addresses top (Tags p rs) other same = absurd same
+same_addresses top (Bad p rs) (Bad q ss) same = rw (same.1) refl
+same_addresses top (Bad p rs) other same = absurd same
+same_addresses top (Leaks p m rs) (Leaks q n ss) same = rw (same.2) refl
+same_addresses top (Leaks p m rs) other same = absurd same
+same_addresses top (Stacks p m rs) (Stacks q n ss) same = rw (same.2) refl
+same_addresses top (Stacks p m rs) other same = absurd same
+same_addresses top (Listing p m rs) (Listing q n ss) same = rw (same.2) refl
+same_addresses top (Listing p m rs) other same = absurd same
+same_addresses top (Growth p rs) (Growth q ss) same = refl
+same_addresses top (Growth p rs) other same = absurd same
+same_addresses top (Summary t gs ps os) (Summary u hs qs ns) same = refl
+same_addresses top (Summary t gs ps os) other same = absurd same
+
+-- and are since the same sequence
+same_start : (a b : Answer) → AreSame a b → is_since_0 a ≡ is_since_0 b
+same_start (Outstanding p rs) (Outstanding q ss) same = refl
+same_start (Outstanding p rs) other same = absurd same
+same_start (Diff p m rs) (Diff q n ss) same = rw (same.1) refl
+same_start (Diff p m rs) other same = absurd same
+same_start (Tags p rs) (Tags q ss) same = refl
+same_start (Tags p rs) other same = absurd same
+same_start (Bad p rs) (Bad q ss) same = refl
+same_start (Bad p rs) other same = absurd same
+same_start (Leaks p None rs) (Leaks q n ss) same = let is = same.1 in rw (← is) refl
+same_start (Leaks p (Some m) rs) (Leaks q n ss) same = let is = same.1 in rw (← is) refl
+same_start (Leaks p m rs) other same = absurd same
+same_start (Stacks p m rs) (Stacks q n ss) same = refl
+same_start (Stacks p m rs) other same = absurd same
+same_start (Listing p m rs) (Listing q n ss) same = refl
+same_start (Listing p m rs) other same = absurd same
+same_start (Growth p rs) (Growth q ss) same = refl
+same_start (Growth p rs) other same = absurd same
+same_start (Summary t gs ps os) (Summary u hs qs ns) same = refl
+same_start (Summary t gs ps os) other same = absurd same
+
+-- so the same is told of them
+pub same_remarks : (table : List Range) (job : Job) (a b : Answer) → AreSame a b → remarks_on table job a ≡ remarks_on table job b
+same_remarks table job a b same =
+    rw (same_finding a b same, same_addresses job.top a b same, same_start a b same) refl
 
 same_values : (table : List Range) (until top : Option ℕ) (a b : Answer) → AreSame a b
     → values_of table until top a ≡ values_of table until top b

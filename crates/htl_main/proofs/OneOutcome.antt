@@ -1,6 +1,7 @@
 -- Inputs and a symbol table come to one outcome: one text, or one first fault, and never both.
 use Rattle.std.proofs.Common.{◌≡◌, ◌≢◌, ◌⊎◌, ◌<◌, ℕ, zero, suc, Bool, true, false, List, [], ◌∷◌, ◌++◌, length, take, Option, Some, None}
-use Rattle.std.proofs.Common.{refl, sym, ap, ◌∙◌, subst, inl, inr, arith}
+use Rattle.std.proofs.Common.{refl, sym, ap, ◌∙◌, subst, inl, inr, arith, All, ◌+◌, drop, get_or}
+use Rattle.std.proofs.lemmas.List.Elements.{All-head, All-tail}
 use Rattle.std.specs.Prelude.{Result, Ok, Err, slice_get}
 use Rattle.std.proofs.lemmas.Bool.{cases_order}
 use Rattle.std.specs.List.{list_any}
@@ -8,7 +9,7 @@ use Rattle.htl_event.specs.Moments.{counted_events}
 use Rattle.htl_command.specs.declared.question.InputForm.{InputForm}
 use Rattle.htl_segment.specs.Content.{Content}
 use Rattle.htl_segment.specs.Traces.{Trace, all_events}
-use Rattle.htl_segment.specs.Bundles.{bundle, cut_off, is_early_end, Splits, BundleFault}
+use Rattle.htl_segment.specs.Bundles.{bundle, cut_off, is_early_end, Splits}
 use Rattle.htl_segment.specs.Faults.{first_fault}
 use Rattle.htl_segment.specs.declared.fault.Fault.{Fault}
 use Rattle.htl_segment.specs.declared.hexadecimal.HexFault.{HexFault}
@@ -23,20 +24,29 @@ use Rattle.htl_symbols.specs.Ranges.{Range}
 use Rattle.htl_symbols.specs.Reading.{records_of}
 use Rattle.htl_symbols.specs.declared.fault.SymbolFault.{SymbolFault}
 use Rattle.htl_command.specs.declared.question.Job.{Job}
+use Rattle.htl_reading.specs.Sources.{name_in}
+use Rattle.htl_reading.specs.declared.outcome.EarlyEnd.{EarlyEnd}
+use Rattle.htl_reading.specs.declared.outcome.SegmentName.{SegmentName}
+use Rattle.htl_main.specs.CutInputs.{AreCutEndsFrom, Decoding, EndsAs, HasEnd, IsDecoding, cut_ends_at, decoding}
 use Rattle.htl_main.specs.Inputs.{HasBytes, Decodes, DecodeAll, HasBundleFault, HasHexFault, IsReportedOfInput, MayBeLeft, StopsAtInput}
-use Rattle.htl_main.specs.Answers.{Finds, FindsIn, FindsOver, IsAnswer}
-use Rattle.htl_main.specs.Completeness.{IsLeastMissing}
+use Rattle.htl_main.specs.Inputs.{reported_of}
+use Rattle.htl_main.specs.declared.cut_inputs.CutEnd.{CutEnd}
+use Rattle.htl_main.specs.Answers.{IsAnswer}
+use Rattle.htl_main.specs.Completeness.{IsFirstUnknown, IsKnown, IsLeastMissing, ReportsMissing}
 use Rattle.htl_main.specs.Moments.{IsCompleteUntil}
-use Rattle.htl_main.specs.Subjects.{HasSubject, is_about}
-use Rattle.htl_main.specs.Printed.{lines_of_answer, IsText, IsAcceptedCase, HasSymbols, HasSymbolFault, AreAnswerLines, IsPrinted}
+use Rattle.htl_main.specs.Remarks.{RemarksIn, RemarksOver, ReportsRemarks, remarks_on}
+use Rattle.htl_main.specs.Subjects.{HasAbsence, absence_in}
+use Rattle.htl_main.specs.declared.completed.Absence.{Absence}
+use Rattle.htl_main.specs.declared.remarks.Remarks.{Remarks}
+use Rattle.htl_main.specs.Printed.{lines_of_answer, IsText, IsAcceptedCase, HasSymbols, HasSymbolFault, AreAnswerLines, IsMissing, IsPrinted}
 use Rattle.htl_main.specs.Printed.{WorkersFit, Printed, by_workers}
 use Rattle.htl_case.specs.Complete.{IsFirstMissing}
 use Rattle.htl_main.specs.declared.fault.RunFault.{RunFault}
-use Rattle.htl_main.specs.declared.fault.RunFault.TheVariants.{Workers, Segment, Hex, Case, Incomplete, NoSubject, Symbols, Memory}
+use Rattle.htl_main.specs.declared.fault.RunFault.TheVariants.{Workers, Segment, Hex, Case, Incomplete, NoSubject, Symbols, Memory, UnknownCut}
 use Rattle.htl_main.proofs.Covered.{one_first}
 use Rattle.htl_main.proofs.EndLaws.{cut_off_early, left_fault}
 use Rattle.htl_main.proofs.MomentLaws.{one_moment}
-use Rattle.htl_main.proofs.OneAnswer.{one_answer, same_finding, same_lines}
+use Rattle.htl_main.proofs.OneAnswer.{one_answer, same_lines, same_remarks}
 use Rattle.htl_symbols.proofs.OneTable.{one_table, one_symbol_fault, table_has_no_fault}
 
 -- ---- one input
@@ -56,33 +66,65 @@ one_content form input ss ts p q =
     (left_short form input ss p) (left_short form input ts q)).0
 
 -- no fault has what may be left
-not_left : (partial : Bool) (rest : List ℕ) (fault : Fault) → MayBeLeft partial rest → 0 < length rest → first_fault rest ≡ Some fault
-    → (partial ≡ true → is_early_end fault ≡ false) → ⊥
-not_left false rest fault left some is late = omega (arith, ap length left, some)
-not_left true rest fault left some is late =
-    let same = some_is (cut_off rest) fault (sym (first_fault-rest rest left) ∙ is) in
-    cc (sym (cut_off_early rest) ∙ ap is_early_end same ∙ late refl)
+not_left : (partial : Bool) (rest : List ℕ) (first fault : Fault) → MayBeLeft partial rest → 0 < length rest → first_fault rest ≡ Some first
+    → reported_of partial rest first ≡ Some fault → ⊥
+not_left false rest first fault left some is told = omega (arith, ap length left, some)
+not_left true rest first fault left some is told =
+    let same = some_is (cut_off rest) first (sym (first_fault-rest rest left.0) ∙ is) in
+    let early : is_early_end first ≡ true = sym (ap is_early_end same) ∙ cut_off_early rest in
+    cc (rw (early, left.1) at told)
 
 -- what is decoded has no fault
 not_faulty : (form : InputForm) (input : List ℕ) (ss : List Content) (offset : ℕ) (fault : Fault) → Decodes form input ss
     → HasBundleFault form input offset fault → ⊥
 not_faulty form input ss offset fault p q =
     let same = one_bytes form.hex input p.bytes q.bytes p.has q.has in
-    let found = subst (λ (b : List ℕ). BundleFault b offset fault) (sym same) q.is in
-    let both = split_in_one_way p.bytes p.rest found.rest ss found.before _ fault p.splits found.splits (left_short form input ss p)
-    found.fault_is in
-    not_left form.partial found.rest fault (subst (MayBeLeft form.partial) both.1 p.left) found.some found.fault_is q.late
+    let found = subst (λ (b : List ℕ). Splits b q.before q.rest) (sym same) q.splits in
+    let both = split_in_one_way p.bytes p.rest q.rest ss q.before _ q.first p.splits found (left_short form input ss p) q.first_is in
+    not_left form.partial q.rest q.first fault (subst (MayBeLeft form.partial) both.1 p.left) q.some q.first_is q.reported
 
 one_bundle_fault : (form : InputForm) (input : List ℕ) (m n : ℕ) (f g : Fault) → HasBundleFault form input m f
     → HasBundleFault form input n g → (m ≡ n) × (f ≡ g)
 one_bundle_fault form input m n f g p q =
     let same = one_bytes form.hex input p.bytes q.bytes p.has q.has in
-    let a = p.is in
-    let b = subst (λ (l : List ℕ). BundleFault l n g) (sym same) q.is in
-    let both = split_in_one_way p.bytes a.rest b.rest a.before b.before f g a.splits b.splits a.fault_is b.fault_is in (
-      omega (arith, a.offset_is, b.offset_is, ap (λ (ss : List Content). length (bundle ss)) both.0),
-      some_is f g (sym a.fault_is ∙ ap first_fault both.1 ∙ b.fault_is),
+    let found = subst (λ (b : List ℕ). Splits b q.before q.rest) (sym same) q.splits in
+    let both = split_in_one_way p.bytes p.rest q.rest p.before q.before p.first q.first p.splits found p.first_is q.first_is in
+    let first = some_is p.first q.first (sym p.first_is ∙ ap first_fault both.1 ∙ q.first_is) in (
+      omega (arith, p.offset_is, q.offset_is, ap (λ (ss : List Content). length (bundle ss)) both.0),
+      some_is f g (sym p.reported ∙ ap (λ (r : List ℕ). reported_of form.partial r p.first) both.1
+          ∙ ap (λ (x : Fault). reported_of form.partial q.rest x) first ∙ q.reported),
     )
+
+-- ---- which inputs are cut
+
+-- whole segments to its end, or within one more
+not_whole : (hex : Bool) (input : List ℕ) (ss : List Content) (end : EarlyEnd) → Decodes (record { hex = hex; partial = false }) input ss
+    → EndsAs hex input end → ⊥
+not_whole hex input ss end p q =
+    let same = one_bytes hex input p.bytes q.bytes p.has q.has in
+    let found = subst (λ (l : List ℕ). Splits l q.segments q.rest) (sym same) q.splits in
+    let both = split_in_one_way p.bytes p.rest q.rest ss q.segments _ end.fault p.splits found
+    (left_short (record { hex = hex; partial = false }) input ss p) q.within.fault_is in
+    omega (arith, ap length p.left, ap length both.1, q.within.some)
+
+-- an input ends in one way
+one_cut : (hex : Bool) (place : ℕ) (input : List ℕ) (a b : Option EarlyEnd) → HasEnd hex input a → HasEnd hex input b
+    → cut_ends_at place a ≡ cut_ends_at place b
+one_cut hex place input None None p q = refl
+one_cut hex place input None (Some b) p q = absurd (not_whole hex input p.0 b p.1 q)
+one_cut hex place input (Some a) None p q = absurd (not_whole hex input q.0 a q.1 p)
+one_cut hex place input (Some a) (Some b) p q =
+    let same = one_bytes hex input p.bytes q.bytes p.has q.has in
+    let found = subst (λ (l : List ℕ). Splits l q.segments q.rest) (sym same) q.splits in
+    let both = split_in_one_way p.bytes p.rest q.rest p.segments q.segments a.fault b.fault p.splits found p.within.fault_is q.within.fault_is in
+    ap (λ (name : Option SegmentName). record { input = place; name = name } ∷ []) (p.within.named ∙ ap name_in both.1 ∙ sym q.within.named)
+
+one_cuts : (hex : Bool) (place : ℕ) (inputs : List (List ℕ)) (a b : List CutEnd) → AreCutEndsFrom hex place inputs a
+    → AreCutEndsFrom hex place inputs b → a ≡ b
+one_cuts hex place [] a b p q = p ∙ sym q
+one_cuts hex place (input ∷ inputs) a b p q =
+    p.4 ∙ ap (λ (l : List CutEnd). l ++ p.1) (one_cut hex place input p.0 q.0 p.2 q.2)
+    ∙ ap (λ (l : List CutEnd). cut_ends_at place q.0 ++ l) (one_cuts hex (place + 1) inputs p.1 q.1 p.3 q.3) ∙ sym q.4
 
 no_hex_fault : (hex : Bool) (input bytes : List ℕ) (fault : HexFault) → HasHexFault hex input fault → HasBytes hex input bytes → ⊥
 no_hex_fault false input bytes fault p has = let no = p.0 in cc
@@ -209,41 +251,73 @@ one_text T table job a b p q =
     p.4 ∙ ap (λ (n : Option ℕ). lines_of_answer job.format table n job.top p.2) until
     ∙ same_lines job.format table q.0 job.top p.2 q.2 (one_answer T q.0 job.question p.2 q.2 is q.3) ∙ sym q.4
 
-one_lines : (segments : List Content) (symbols : Option (List ℕ)) (job : Job) (a b : List ℕ)
-    → AreAnswerLines segments symbols job a → AreAnswerLines segments symbols job b → a ≡ b
-one_lines segments symbols job a b p q =
-    let trace = one_case segments p.trace q.trace p.taken.0 q.taken.0 in
+one_lines : (given : Decoding) (symbols : Option (List ℕ)) (job : Job) (a b : List ℕ)
+    → AreAnswerLines given symbols job a → AreAnswerLines given symbols job b → a ≡ b
+one_lines given symbols job a b p q =
+    let trace = one_case given.segments p.trace q.trace p.taken.0 q.taken.0 in
     let table = one_symbols symbols p.table q.table p.named q.named in
     let is = subst (λ (t : List Range). IsText q.trace t job a) table (subst (λ (T : Trace). IsText T p.table job a) trace p.is) in
     one_text q.trace q.table job a b is q.is
 
--- no gap is below the moment, or one is
-complete_or_missing : (segments : List Content) (job : Job) (T U : Trace) → IsAcceptedCase segments job T → job.setting.complete ≡ true
-    → IsCaseOf segments U → (IsCompleteUntil U job.until → ⊥) → ⊥
-complete_or_missing segments job T U taken complete case touched =
-    touched (subst (λ (V : Trace). IsCompleteUntil V job.until) (one_case segments T U taken.0 case) (taken.1 complete))
+-- no segment is missing up to the moment, or one is
+complete_or_missing : (given : Decoding) (job : Job) (T : Trace) (fault : RunFault) → IsAcceptedCase given job T → IsMissing given job fault → ⊥
+complete_or_missing given job T fault taken missing =
+    missing.3 (subst (λ (V : Trace). IsCompleteUntil V given.cuts job.until) (one_case given.segments T missing.1 taken.0 missing.2)
+    (taken.1 missing.0))
 
--- an event that counts is of the subject, or none is
-one_subject : (segments : List Content) (job : Job) (T U : Trace) (a b : Bool) → IsCaseOf segments T → IsCaseOf segments U
-    → HasSubject T job a → HasSubject U job b → a ≡ b
-one_subject segments job T U a b case other p q =
-    let is = subst (λ (V : Trace). HasSubject V job a) (one_case segments T U case other) p in
+case_or_missing : (given : Decoding) (job : Job) (broken : CaseFault) (fault : RunFault) → IsOutcome given.segments (Err broken)
+    → IsMissing given job fault → ⊥
+case_or_missing given job broken fault outcome missing = case_or_fault given.segments missing.1 broken missing.2 outcome
+
+-- something can be found of what is asked about, or nothing can
+one_absence : (segments : List Content) (job : Job) (T U : Trace) (a b : Option Absence) → IsCaseOf segments T → IsCaseOf segments U
+    → HasAbsence T job a → HasAbsence U job b → a ≡ b
+one_absence segments job T U a b case other p q =
+    let is = subst (λ (V : Trace). HasAbsence V job a) (one_case segments T U case other) p in
     let until = one_moment U job.until is.0 q.0 is.1 q.1 in
-    is.2 ∙ ap (λ (n : Option ℕ). list_any (is_about job.question) (counted_events n (all_events U.segments))) until ∙ sym q.2
+    is.2 ∙ ap (λ (n : Option ℕ). absence_in job.question n (all_events U.segments)) until ∙ sym q.2
 
 subject_or_none : (segments : List Content) (job : Job) (T U : Trace) → IsCaseOf segments T → IsCaseOf segments U
-    → (job.exit_code ≡ true → HasSubject T job true) → job.exit_code ≡ true → HasSubject U job false → ⊥
-subject_or_none segments job T U case other about coded none =
-    let same = one_subject segments job T U true false case other (about coded) none in cc same
+    → (job.exit_code ≡ true → HasAbsence T job None) → job.exit_code ≡ true → (absence : Absence) → HasAbsence U job (Some absence) → ⊥
+subject_or_none segments job T U case other about coded absence there =
+    let same = one_absence segments job T U None (Some absence) case other (about coded) there in cc same
 
-one_missing : (T : Trace) (p q n m : ℕ) → IsLeastMissing T p n → IsLeastMissing T q m → (p ≡ q) × (n ≡ m)
-one_missing T p q n m a b =
-    let le = b.before a.gap a.there in
-    let ge = a.before b.gap b.there in
-    let mine = a.own in
-    let other = b.own in
-    let same : p ≡ q = omega (arith, le, ge, mine, other) in
+one_missing : (T : Trace) (cuts : List CutEnd) (p q n m : ℕ) → IsLeastMissing T cuts p n → IsLeastMissing T cuts q m → (p ≡ q) × (n ≡ m)
+one_missing T cuts p q n m a b =
+    let le = a.before q b.there in
+    let ge = b.before p a.there in
+    let same : p ≡ q = omega (arith, le, ge) in
     (same, one_first T q n m (subst (λ (r : ℕ). IsFirstMissing T r n) same a.first) b.first)
+
+same_head : (x y : CutEnd) (xs ys : List CutEnd) → x ∷ xs ≡ y ∷ ys → x ≡ y
+same_head x y xs ys same = ap (λ (l : List CutEnd). get_or l 0 x) same
+
+same_tail : (x y : CutEnd) (xs ys : List CutEnd) → x ∷ xs ≡ y ∷ ys → xs ≡ ys
+same_tail x y xs ys same = ap (λ (l : List CutEnd). drop 1 l) same
+
+-- of a list one element is the first that isn't so
+one_such : (P : CutEnd → Type 0) (xs ys : List CutEnd) (x y : CutEnd) (more others : List CutEnd) → xs ++ x ∷ more ≡ ys ++ y ∷ others
+    → All P xs → (P x → ⊥) → All P ys → (P y → ⊥) → x ≡ y
+one_such P [] [] x y more others same all none every differs = same_head x y more others same
+one_such P [] (z ∷ ys) x y more others same all none every differs =
+    absurd (none (subst P (sym (same_head x z more (ys ++ y ∷ others) same)) (All-head P z ys every)))
+one_such P (z ∷ xs) [] x y more others same all none every differs =
+    absurd (differs (subst P (same_head z y (xs ++ x ∷ more) others same) (All-head P z xs all)))
+one_such P (z ∷ xs) (w ∷ ys) x y more others same all none every differs =
+    one_such P xs ys x y more others (same_tail z w (xs ++ x ∷ more) (ys ++ y ∷ others) same) (All-tail P z xs all) none (All-tail P w ys every) differs
+
+one_unknown : (T : Trace) (cuts : List CutEnd) (m n : ℕ) → IsFirstUnknown T cuts m → IsFirstUnknown T cuts n → m ≡ n
+one_unknown T cuts m n a b =
+    sym a.input_is
+    ∙ ap (λ (c : CutEnd). c.input) (one_such (IsKnown T) a.earlier b.earlier a.cut b.cut a.later b.later (sym a.parts ∙ b.parts) a.known
+    a.unknown b.known b.unknown)
+    ∙ b.input_is
+
+-- what two missing faults report is of one trace
+one_trace : (given : Decoding) (job : Job) (f g : RunFault) (p : IsMissing given job f) (q : IsMissing given job g)
+    → ReportsMissing q.1 given.cuts f
+one_trace given job f g p q =
+    subst (λ (T : Trace). ReportsMissing T given.cuts f) (one_case given.segments p.1 q.1 p.2 q.2) p.4
 
 abbrev done : List ℕ → Result (List ℕ) RunFault
 done lines = Ok lines
@@ -251,70 +325,93 @@ done lines = Ok lines
 abbrev failed : RunFault → Result (List ℕ) RunFault
 failed fault = Err fault
 
-one_printed : (segments : List Content) (symbols : Option (List ℕ)) (job : Job) (a b : Result (List ℕ) RunFault)
-    → IsPrinted segments symbols job a → IsPrinted segments symbols job b → a ≡ b
-one_printed segments symbols job (Ok a) (Ok b) p q = ap done (one_lines segments symbols job a b p q)
-one_printed segments symbols job (Ok a) (Err (Case f)) p q = absurd (case_or_fault segments p.trace f p.taken.0 q)
-one_printed segments symbols job (Ok a) (Err (Incomplete r n)) p q =
-    absurd (complete_or_missing segments job p.trace q.1 p.taken q.0 q.2 q.3)
-one_printed segments symbols job (Ok a) (Err (Symbols f)) p q = absurd (symbols_or_fault symbols p.table f p.named q.2)
-one_printed segments symbols job (Ok a) (Err NoSubject) p q =
-    absurd (subject_or_none segments job p.trace q.1 p.taken.0 q.2.0 p.about q.0 q.5)
-one_printed segments symbols job (Ok a) (Err other) p q = absurd q
-one_printed segments symbols job (Err (Case f)) (Ok b) p q = absurd (case_or_fault segments q.trace f q.taken.0 p)
-one_printed segments symbols job (Err (Case f)) (Err (Case g)) p q =
-    ap (λ (x : CaseFault). failed (Case x)) (one_case_fault segments f g p q)
-one_printed segments symbols job (Err (Case f)) (Err (Incomplete r n)) p q = absurd (case_or_fault segments q.1 f q.2 p)
-one_printed segments symbols job (Err (Case f)) (Err (Symbols g)) p q = absurd (case_or_fault segments q.0 f q.1.0 p)
-one_printed segments symbols job (Err (Case f)) (Err NoSubject) p q = absurd (case_or_fault segments q.1 f q.2.0 p)
-one_printed segments symbols job (Err (Case f)) (Err other) p q = absurd q
-one_printed segments symbols job (Err (Incomplete r n)) (Ok b) p q =
-    absurd (complete_or_missing segments job q.trace p.1 q.taken p.0 p.2 p.3)
-one_printed segments symbols job (Err (Incomplete r n)) (Err (Case g)) p q = absurd (case_or_fault segments p.1 g p.2 q)
-one_printed segments symbols job (Err (Incomplete r n)) (Err (Incomplete s m)) p q =
-    let trace = one_case segments p.1 q.1 p.2 q.2 in
-    let key = one_missing q.1 r s n m (subst (λ (T : Trace). IsLeastMissing T r n) trace p.4) q.4 in
+one_least : (given : Decoding) (job : Job) (r s n m : ℕ) → IsMissing given job (Incomplete r n) → IsMissing given job (Incomplete s m)
+    → failed (Incomplete r n) ≡ failed (Incomplete s m)
+one_least given job r s n m p q =
+    let key = one_missing q.1 given.cuts r s n m (one_trace given job (Incomplete r n) (Incomplete s m) p q) q.4 in
     ap (λ (x : ℕ). failed (Incomplete x n)) key.0 ∙ ap (λ (x : ℕ). failed (Incomplete s x)) key.1
-one_printed segments symbols job (Err (Incomplete r n)) (Err (Symbols g)) p q =
-    absurd (complete_or_missing segments job q.0 p.1 q.1 p.0 p.2 p.3)
-one_printed segments symbols job (Err (Incomplete r n)) (Err NoSubject) p q =
-    absurd (complete_or_missing segments job q.1 p.1 q.2 p.0 p.2 p.3)
-one_printed segments symbols job (Err (Incomplete r n)) (Err other) p q = absurd q
-one_printed segments symbols job (Err (Symbols f)) (Ok b) p q = absurd (symbols_or_fault symbols q.table f q.named p.2)
-one_printed segments symbols job (Err (Symbols f)) (Err (Case g)) p q = absurd (case_or_fault segments p.0 g p.1.0 q)
-one_printed segments symbols job (Err (Symbols f)) (Err (Incomplete r n)) p q =
-    absurd (complete_or_missing segments job p.0 q.1 p.1 q.0 q.2 q.3)
-one_printed segments symbols job (Err (Symbols f)) (Err (Symbols g)) p q =
+
+least_or_unknown : (given : Decoding) (job : Job) (r n input : ℕ) → IsMissing given job (Incomplete r n)
+    → IsMissing given job (UnknownCut input) → ⊥
+least_or_unknown given job r n input p q =
+    let least = one_trace given job (Incomplete r n) (UnknownCut input) p q in q.4.whole r least.there
+
+one_printed : (given : Decoding) (symbols : Option (List ℕ)) (job : Job) (a b : Result (List ℕ) RunFault)
+    → IsPrinted given symbols job a → IsPrinted given symbols job b → a ≡ b
+one_printed given symbols job (Ok a) (Ok b) p q = ap done (one_lines given symbols job a b p q)
+one_printed given symbols job (Ok a) (Err (Case f)) p q = absurd (case_or_fault given.segments p.trace f p.taken.0 q)
+one_printed given symbols job (Ok a) (Err (Incomplete r n)) p q =
+    absurd (complete_or_missing given job p.trace (Incomplete r n) p.taken q)
+one_printed given symbols job (Ok a) (Err (UnknownCut i)) p q = absurd (complete_or_missing given job p.trace (UnknownCut i) p.taken q)
+one_printed given symbols job (Ok a) (Err (Symbols f)) p q = absurd (symbols_or_fault symbols p.table f p.named q.2)
+one_printed given symbols job (Ok a) (Err NoSubject) p q =
+    absurd (subject_or_none given.segments job p.trace q.1 p.taken.0 q.2.0 p.about q.0 q.5 q.6)
+one_printed given symbols job (Ok a) (Err other) p q = absurd q
+one_printed given symbols job (Err (Case f)) (Ok b) p q = absurd (case_or_fault given.segments q.trace f q.taken.0 p)
+one_printed given symbols job (Err (Case f)) (Err (Case g)) p q =
+    ap (λ (x : CaseFault). failed (Case x)) (one_case_fault given.segments f g p q)
+one_printed given symbols job (Err (Case f)) (Err (Incomplete r n)) p q = absurd (case_or_missing given job f (Incomplete r n) p q)
+one_printed given symbols job (Err (Case f)) (Err (UnknownCut i)) p q = absurd (case_or_missing given job f (UnknownCut i) p q)
+one_printed given symbols job (Err (Case f)) (Err (Symbols g)) p q = absurd (case_or_fault given.segments q.0 f q.1.0 p)
+one_printed given symbols job (Err (Case f)) (Err NoSubject) p q = absurd (case_or_fault given.segments q.1 f q.2.0 p)
+one_printed given symbols job (Err (Case f)) (Err other) p q = absurd q
+one_printed given symbols job (Err (Incomplete r n)) (Ok b) p q =
+    absurd (complete_or_missing given job q.trace (Incomplete r n) q.taken p)
+one_printed given symbols job (Err (Incomplete r n)) (Err (Case g)) p q = absurd (case_or_missing given job g (Incomplete r n) q p)
+one_printed given symbols job (Err (Incomplete r n)) (Err (Incomplete s m)) p q = one_least given job r s n m p q
+one_printed given symbols job (Err (Incomplete r n)) (Err (UnknownCut i)) p q = absurd (least_or_unknown given job r n i p q)
+one_printed given symbols job (Err (Incomplete r n)) (Err (Symbols g)) p q = absurd (complete_or_missing given job q.0 (Incomplete r n) q.1 p)
+one_printed given symbols job (Err (Incomplete r n)) (Err NoSubject) p q = absurd (complete_or_missing given job q.1 (Incomplete r n) q.2 p)
+one_printed given symbols job (Err (Incomplete r n)) (Err other) p q = absurd q
+one_printed given symbols job (Err (UnknownCut i)) (Ok b) p q = absurd (complete_or_missing given job q.trace (UnknownCut i) q.taken p)
+one_printed given symbols job (Err (UnknownCut i)) (Err (Case g)) p q = absurd (case_or_missing given job g (UnknownCut i) q p)
+one_printed given symbols job (Err (UnknownCut i)) (Err (Incomplete r n)) p q = absurd (least_or_unknown given job r n i q p)
+one_printed given symbols job (Err (UnknownCut i)) (Err (UnknownCut j)) p q =
+    ap (λ (x : ℕ). failed (UnknownCut x)) (one_unknown q.1 given.cuts i j (one_trace given job (UnknownCut i) (UnknownCut j) p q) q.4)
+one_printed given symbols job (Err (UnknownCut i)) (Err (Symbols g)) p q = absurd (complete_or_missing given job q.0 (UnknownCut i) q.1 p)
+one_printed given symbols job (Err (UnknownCut i)) (Err NoSubject) p q = absurd (complete_or_missing given job q.1 (UnknownCut i) q.2 p)
+one_printed given symbols job (Err (UnknownCut i)) (Err other) p q = absurd q
+one_printed given symbols job (Err (Symbols f)) (Ok b) p q = absurd (symbols_or_fault symbols q.table f q.named p.2)
+one_printed given symbols job (Err (Symbols f)) (Err (Case g)) p q = absurd (case_or_fault given.segments p.0 g p.1.0 q)
+one_printed given symbols job (Err (Symbols f)) (Err (Incomplete r n)) p q = absurd (complete_or_missing given job p.0 (Incomplete r n) p.1 q)
+one_printed given symbols job (Err (Symbols f)) (Err (UnknownCut i)) p q = absurd (complete_or_missing given job p.0 (UnknownCut i) p.1 q)
+one_printed given symbols job (Err (Symbols f)) (Err (Symbols g)) p q =
     ap (λ (x : SymbolFault). failed (Symbols x)) (one_fault_of_symbols symbols f g p.2 q.2)
-one_printed segments symbols job (Err (Symbols f)) (Err NoSubject) p q = absurd (symbols_or_fault symbols q.3 f q.4 p.2)
-one_printed segments symbols job (Err (Symbols f)) (Err other) p q = absurd q
-one_printed segments symbols job (Err NoSubject) (Ok b) p q =
-    absurd (subject_or_none segments job q.trace p.1 q.taken.0 p.2.0 q.about p.0 p.5)
-one_printed segments symbols job (Err NoSubject) (Err (Case g)) p q = absurd (case_or_fault segments p.1 g p.2.0 q)
-one_printed segments symbols job (Err NoSubject) (Err (Incomplete r n)) p q =
-    absurd (complete_or_missing segments job p.1 q.1 p.2 q.0 q.2 q.3)
-one_printed segments symbols job (Err NoSubject) (Err (Symbols g)) p q = absurd (symbols_or_fault symbols p.3 g p.4 q.2)
-one_printed segments symbols job (Err NoSubject) (Err NoSubject) p q = refl
-one_printed segments symbols job (Err NoSubject) (Err other) p q = absurd q
-one_printed segments symbols job (Err other) b p q = absurd p
+one_printed given symbols job (Err (Symbols f)) (Err NoSubject) p q = absurd (symbols_or_fault symbols q.3 f q.4 p.2)
+one_printed given symbols job (Err (Symbols f)) (Err other) p q = absurd q
+one_printed given symbols job (Err NoSubject) (Ok b) p q =
+    absurd (subject_or_none given.segments job q.trace p.1 q.taken.0 p.2.0 q.about p.0 p.5 p.6)
+one_printed given symbols job (Err NoSubject) (Err (Case g)) p q = absurd (case_or_fault given.segments p.1 g p.2.0 q)
+one_printed given symbols job (Err NoSubject) (Err (Incomplete r n)) p q = absurd (complete_or_missing given job p.1 (Incomplete r n) p.2 q)
+one_printed given symbols job (Err NoSubject) (Err (UnknownCut i)) p q = absurd (complete_or_missing given job p.1 (UnknownCut i) p.2 q)
+one_printed given symbols job (Err NoSubject) (Err (Symbols g)) p q = absurd (symbols_or_fault symbols p.3 g p.4 q.2)
+one_printed given symbols job (Err NoSubject) (Err NoSubject) p q = refl
+one_printed given symbols job (Err NoSubject) (Err other) p q = absurd q
+one_printed given symbols job (Err other) b p q = absurd p
 
 -- ---- the outcome
+
+-- inputs are decoded to one thing
+one_given : (form : InputForm) (inputs : List (List ℕ)) (a b : Decoding) → IsDecoding form inputs a → IsDecoding form inputs b → a ≡ b
+one_given form inputs a b p q =
+    ap (λ (ss : List Content). decoding ss a.cuts) (one_decoding form inputs a.segments b.segments p.segments q.segments)
+    ∙ ap (λ (cuts : List CutEnd). decoding b.segments cuts) (one_cuts form.hex 0 inputs a.cuts b.cuts p.cuts q.cuts)
 
 -- what a run comes to where the number of workers is allowed
 abbrev Comes : Job → List (List ℕ) → Option (List ℕ) → Result (List ℕ) RunFault → Type 0
 Comes job inputs symbols outcome =
     ((fault : RunFault) × (outcome ≡ failed fault) × (fault ≢ Memory) × Stops job.setting.form inputs fault)
-    ⊎ ((segments : List Content) × DecodeAll job.setting.form inputs segments × IsPrinted segments symbols job outcome)
+    ⊎ ((given : Decoding) × IsDecoding job.setting.form inputs given × IsPrinted given symbols job outcome)
 
 one_coming : (job : Job) (inputs : List (List ℕ)) (symbols : Option (List ℕ)) (a b : Result (List ℕ) RunFault)
     → Comes job inputs symbols a → Comes job inputs symbols b → a ≡ b
 one_coming job inputs symbols a b (inl p) (inl q) =
     p.1 ∙ ap failed (one_stop job.setting.form inputs p.0 q.0 p.3 q.3 p.2 q.2) ∙ sym q.1
-one_coming job inputs symbols a b (inl p) (inr q) = absurd (not_decoded job.setting.form inputs p.0 q.0 p.3 p.2 q.1)
-one_coming job inputs symbols a b (inr p) (inl q) = absurd (not_decoded job.setting.form inputs q.0 p.0 q.3 q.2 p.1)
+one_coming job inputs symbols a b (inl p) (inr q) = absurd (not_decoded job.setting.form inputs p.0 q.0.segments p.3 p.2 q.1.segments)
+one_coming job inputs symbols a b (inr p) (inl q) = absurd (not_decoded job.setting.form inputs q.0 p.0.segments q.3 q.2 p.1.segments)
 one_coming job inputs symbols a b (inr p) (inr q) =
-    let same = one_decoding job.setting.form inputs p.0 q.0 p.1 q.1 in
-    one_printed q.0 symbols job a b (subst (λ (ss : List Content). IsPrinted ss symbols job a) same p.2) q.2
+    let same = one_given job.setting.form inputs p.0 q.0 p.1 q.1 in
+    one_printed q.0 symbols job a b (subst (λ (given : Decoding). IsPrinted given symbols job a) same p.2) q.2
 
 cases_printed : (job : Job) (inputs : List (List ℕ)) (symbols : Option (List ℕ)) (outcome : Result (List ℕ) RunFault)
     → Printed job inputs symbols outcome
@@ -342,15 +439,16 @@ module _ (job : Job) (workers other : ℕ) (inputs : List (List ℕ)) (symbols :
   abbrev with_workers : ℕ → Job
   with_workers n = by_workers n job
 
-  same_printed : (segments : List Content) (outcome : Result (List ℕ) RunFault) → IsPrinted segments symbols (with_workers workers) outcome
-      → IsPrinted segments symbols (with_workers other) outcome
-  same_printed segments (Ok lines) p =
+  same_printed : (given : Decoding) (outcome : Result (List ℕ) RunFault) → IsPrinted given symbols (with_workers workers) outcome
+      → IsPrinted given symbols (with_workers other) outcome
+  same_printed given (Ok lines) p =
       record { trace = p.trace; taken = p.taken; table = p.table; named = p.named; about = p.about; is = p.is }
-  same_printed segments (Err (Case f)) p = p
-  same_printed segments (Err (Incomplete r n)) p = p
-  same_printed segments (Err (Symbols f)) p = p
-  same_printed segments (Err NoSubject) p = p
-  same_printed segments (Err any) p = absurd p
+  same_printed given (Err (Case f)) p = p
+  same_printed given (Err (Incomplete r n)) p = p
+  same_printed given (Err (UnknownCut i)) p = p
+  same_printed given (Err (Symbols f)) p = p
+  same_printed given (Err NoSubject) p = p
+  same_printed given (Err any) p = absurd p
 
   same_coming : (outcome : Result (List ℕ) RunFault) → Comes (with_workers workers) inputs symbols outcome → Comes (with_workers other) inputs symbols outcome
   same_coming outcome (inl p) = inl p
@@ -368,19 +466,22 @@ module _ (job : Job) (workers other : ℕ) (inputs : List (List ℕ)) (symbols :
         ]
       ]
 
--- ---- what the answer finds
+-- ---- what is told of the answer
 
-finds_one : (T : Trace) (job : Job) (a b : Bool) → FindsOver T job a → FindsOver T job b → a ≡ b
-finds_one T job a b p q =
+remarks_one : (T : Trace) (table : List Range) (job : Job) (a b : Remarks) → RemarksOver T table job a → RemarksOver T table job b → a ≡ b
+remarks_one T table job a b p q =
     let until = one_moment T job.until p.0 q.0 p.1 q.1 in
     let is = subst (λ (n : Option ℕ). IsAnswer T n job.question p.2) until p.3 in
-    p.4 ∙ same_finding p.2 q.2 (one_answer T q.0 job.question p.2 q.2 is q.3) ∙ sym q.4
+    p.4 ∙ same_remarks table job p.2 q.2 (one_answer T q.0 job.question p.2 q.2 is q.3) ∙ sym q.4
 
--- what the answer of a job over its inputs finds is one thing
-pub one_finding : (job : Job) (inputs : List (List ℕ)) (a b : Bool) → Finds job inputs a → Finds job inputs b → a ≡ b
-one_finding job inputs a b p q =
+-- what is told of the answer of a job over its inputs is one thing
+pub one_finding : (job : Job) (inputs : List (List ℕ)) (symbols : Option (List ℕ)) (a b : Remarks) → ReportsRemarks job inputs symbols a
+    → ReportsRemarks job inputs symbols b → a ≡ b
+one_finding job inputs symbols a b p q =
     let same = one_decoding job.setting.form inputs p.0 q.0 p.1 q.1 in
-    let first = subst (λ (ss : List Content). FindsIn ss job a) same p.2 in
+    let first = subst (λ (ss : List Content). RemarksIn ss symbols job a) same p.2 in
     let second = q.2 in
     let trace = one_case q.0 first.0 second.0 first.1 second.1 in
-    finds_one second.0 job a b (subst (λ (T : Trace). FindsOver T job a) trace first.2) second.2
+    let table = one_symbols symbols first.2 second.2 first.3 second.3 in
+    remarks_one second.0 second.2 job a b
+    (subst (λ (t : List Range). RemarksOver second.0 t job a) table (subst (λ (T : Trace). RemarksOver T first.2 job a) trace first.4)) second.4

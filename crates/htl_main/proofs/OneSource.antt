@@ -15,6 +15,7 @@ use Rattle.htl_main.specs.Ends.{IsSegmentOf}
 use Rattle.htl_main.specs.Faults.{of_read, of_source}
 use Rattle.htl_main.specs.Reads.{IsRead, NamesOnly, NeverRead}
 use Rattle.htl_main.specs.Sources.{EndsBefore, IsReportedOfSource}
+use Rattle.htl_main.proofs.InputLaws.{late_reported}
 
 abbrev ill : {S : Type 0} → RunFault → Result S RunFault
 ill fault = Err fault
@@ -33,12 +34,25 @@ refused fault = Err fault
 
 reported_source : (form : InputForm) (left : Option (List ℕ)) (ended : Bool) (place : ℕ) (bytes : List ℕ) (fault : SourceFault)
     → form.hex ≡ false → IsReportedOfBundle left ended bytes fault → IsReportedOfSource form left ended place bytes (of_source place fault)
-reported_source form left ended place bytes (sources.Segment offset fault) is found =
-    (refl, record { bytes = bytes; has = rw is refl; is = found.0; late = λ partial. found.1 })
+reported_source form left ended place bytes (sources.Segment offset fault) is found = (
+  refl,
+  record {
+    bytes = bytes;
+    has = rw is refl;
+    before = found.0.before;
+    rest = found.0.rest;
+    splits = found.0.splits;
+    offset_is = found.0.offset_is;
+    some = found.0.some;
+    first = fault;
+    first_is = found.0.fault_is;
+    reported = late_reported form.partial found.0.rest fault found.1;
+  },
+)
 reported_source form left ended place bytes sources.Read is found = refl
 reported_source form left ended place bytes sources.NoMemory is found =
     elim found [
-      | inl segment ↦ inl (rw is segment)
+      | inl segment ↦ inl (rw is (segment.0, inl segment.1))
       | inr rest ↦ inr (rest.0, rest.1, rest.2, rw is (rest.3, rest.4))
     ]
 

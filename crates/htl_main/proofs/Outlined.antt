@@ -154,10 +154,6 @@ module _ (T : Trace) (is : IsTrace T) (p : ℕ) (own : List Outline) (mine : Are
   numbers_are : numbers ≡ numbers_of own
   numbers_are = sym (ap numbers_of mine.outlines ∙ same_numbers mine.segments)
 
-  -- the numbers of a processor's outlines rise
-  pub own_rise : Rises 0 (2 ^ 32) (numbers_of own)
-  own_rise = subst (Rises 0 (2 ^ 32)) numbers_are (rises T is p mine.segments mine.mine)
-
   -- the gaps of the processors so far, with those before the numbers of this one's outlines, are those of one processor more
   pub own_gaps : (gaps : List Gap) → IsGaps (HasKey T) p gaps → IsGaps (HasKey T) (p + 1) (gaps ++ gaps_of p 0 (numbers_of own))
   own_gaps gaps so_far =

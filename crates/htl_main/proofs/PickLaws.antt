@@ -18,6 +18,7 @@ use Rattle.htl_main.specs.Faults.{of_source}
 use Rattle.htl_main.specs.Picking.{ArePicksMore, ArePicksOfAll}
 use Rattle.htl_main.specs.Sources.{IsReportedOfSource}
 use Rattle.htl_main.specs.declared.cut_inputs.Accepted.{Accepted}
+use Rattle.htl_reading.specs.declared.outcome.EarlyEnd.{EarlyEnd}
 use Rattle.htl_main.specs.declared.fault.RunFault.{RunFault}
 use Rattle.htl_main.specs.declared.fault.RunFault.TheVariants.{Case}
 use Rattle.htl_main.proofs.EndLaws.{input_of, source_refused}
@@ -26,13 +27,13 @@ use Rattle.htl_main.proofs.InputLaws.{decode_next}
 abbrev gathers : Picks → Picks → List Content → Type 0
 gathers start now segments = ArePicksOf start.interest now segments
 
-picks_more : (form : InputForm) (old new : Picks) (bytes rest : List ℕ) (more : List Content) (is_cut : Bool) → form.hex ≡ false
+picks_more : (form : InputForm) (old new : Picks) (bytes rest : List ℕ) (more : List Content) (end : Option EarlyEnd) → form.hex ≡ false
     → Splits bytes more rest
-    → ((kind : Picks) (before : List Content) → gathers kind old before → gathers kind new (before ++ more)) → IsEnd form rest is_cut
-    → ArePicksMore form old new bytes is_cut
-picks_more form old new bytes rest more is_cut is split took end = record {
+    → ((kind : Picks) (before : List Content) → gathers kind old before → gathers kind new (before ++ more)) → IsEnd form more rest end
+    → ArePicksMore form old new bytes end
+picks_more form old new bytes rest more end is split took ends = record {
   more = more;
-  are = input_of form bytes bytes rest more (rw is refl) split is_cut end;
+  are = input_of form bytes bytes rest more (rw is refl) split end ends;
   picks = λ interest segments are.
       subst (λ (i : Interest). ArePicksOf i new (segments ++ more)) are.about
       (took old segments (subst (λ (i : Interest). ArePicksOf i old segments) (sym are.about) are));
@@ -48,11 +49,11 @@ Gathered old new bytes =
 pub accepted_more : (form : InputForm) (given : Option (List ℕ)) (old : Picks) (new : Bundle Picks)
     (result : Result (Accepted Picks) RunFault) → form.hex ≡ false → IfSome given (Gathered old new)
     → IfOk result (λ it. it.segments ≡ new.segments)
-    → ((segments : List Content) (rest : List ℕ) → IsLeft segments rest new.early_end → IfOk result (λ it. IsEnd form rest it.is_cut))
-    → IfOk result (λ it. IfSome given (λ bytes. ArePicksMore form old it.segments bytes it.is_cut))
+    → ((segments : List Content) (rest : List ℕ) → IsLeft segments rest new.early_end → IfOk result (λ it. IsEnd form segments rest it.end))
+    → IfOk result (λ it. IfSome given (λ bytes. ArePicksMore form old it.segments bytes it.end))
 accepted_more form None old new (Ok it) is of kept end = tt
 accepted_more form (Some bytes) old new (Ok it) is of kept end =
-    rw kept (picks_more form old new.segments bytes of.1 of.0 it.is_cut is of.2 of.4 (end of.0 of.1 of.3))
+    rw kept (picks_more form old new.segments bytes of.1 of.0 it.end is of.2 of.4 (end of.0 of.1 of.3))
 accepted_more form given old new (Err fault) is of kept end = tt
 
 -- what was gathered of a source, where its rest may not be left, is reported
@@ -73,9 +74,9 @@ none_picked form interest inputs picks are = record { segments = []; decoded = r
 
 -- what was picked of the inputs before a place, with that of the one there, is picked of one input more
 pub one_picked : (form : InputForm) (interest : Interest) (inputs : List (List ℕ)) (place : ℕ) (input : List ℕ) (old new : Picks)
-    (is_cut : Bool) → slice_get inputs place ≡ Some input → ArePicksOfAll form interest (take place inputs) old
-    → ArePicksMore form old new input is_cut → ArePicksOfAll form interest (take (place + 1) inputs) new
-one_picked form interest inputs place input old new is_cut here before one = record {
+    (end : Option EarlyEnd) → slice_get inputs place ≡ Some input → ArePicksOfAll form interest (take place inputs) old
+    → ArePicksMore form old new input end → ArePicksOfAll form interest (take (place + 1) inputs) new
+one_picked form interest inputs place input old new end here before one = record {
   segments = _;
   decoded = decode_next form inputs place input before.segments one.more here before.decoded one.are.decoded;
   picks_of = one.picks interest before.segments before.picks_of;

@@ -31,7 +31,7 @@ use Rattle.htl_main.specs.Picked.{interest_of, widened, Serves, TellsOfNoHandle}
 use Rattle.htl_main.specs.Picking.{is_of_open_handles, IsPickedAsOf}
 use Rattle.htl_main.specs.Questions.{IsOfParts}
 use Rattle.htl_main.specs.Moments.{IsNamedMoment}
-use Rattle.htl_main.specs.Subjects.{HasSubject, is_about, names_handle, names_object}
+use Rattle.htl_main.specs.Subjects.{is_about, names_handle, names_object}
 
 -- ---- questions
 
@@ -241,25 +241,18 @@ module _ (question : Question) (interest : Interest) (es own : List Event) (serv
       let found = list_any-true about own x here (same ∙ wanted_is_about question interest e serves opens wants_it) in
       absurd cc)
 
--- what is said of the picked events up to a moment is said of those of the trace, unless none is found and only open handles are wanted
-pub subject_until : (job : Job) (T : Trace) (until : Option ℕ) (interest : Interest) (own : List Event) (found : Bool)
-    → IsNamedMoment T job.until until → Serves job.question interest
-    → IsPermutation (wanted interest (counted_events until (all_events T.segments))) own
-    → found ≡ list_any (is_about job.question) own → (found ≡ true) ⊎ (is_of_open_handles interest ≡ false)
-    → HasSubject T job found
-subject_until job T until interest own found named serves moved is told =
-    let q = job.question in
-    let es = counted_events until (all_events T.segments) in (
-      until,
-      named,
-      elim (cases_Bool found) [
-        | inl some ↦ some ∙ sym (found_among_all q interest es own serves moved (sym is ∙ some))
-        | inr none ↦ elim told [
-          | inl some ↦ absurd cc
-          | inr other ↦ none ∙ sym (none_among_all q interest es own serves moved other (sym is ∙ none))
-        ]
-      ],
-    )
+-- one of the picked events is of what the question is about where one of all is, unless none is found and only open handles are wanted
+pub subject_among : (question : Question) (interest : Interest) (es own : List Event) (found : Bool) → Serves question interest
+    → IsPermutation (wanted interest es) own → found ≡ list_any (is_about question) own
+    → (found ≡ true) ⊎ (is_of_open_handles interest ≡ false) → found ≡ list_any (is_about question) es
+subject_among question interest es own found serves moved is told =
+    elim (cases_Bool found) [
+      | inl some ↦ some ∙ sym (found_among_all question interest es own serves moved (sym is ∙ some))
+      | inr none ↦ elim told [
+        | inl some ↦ absurd cc
+        | inr other ↦ none ∙ sym (none_among_all question interest es own serves moved other (sym is ∙ none))
+      ]
+    ]
 
 -- where none of the picked events up to a moment is found, and only open handles are wanted, no event that counts tells of them
 pub tells_of_no_handle : (job : Job) (segments : List Content) (T : Trace) (until : Option ℕ) (interest : Interest) (own : List Event)

@@ -1,5 +1,5 @@
--- The answer to a question over a trace (this project's own), and whether it finds something.
-use Rattle.std.specs.Prelude.{◌≡◌, ℕ, Bool, true, false, ◌||◌, ◌==◌, not, nat_lt, min, if◌then◌else◌}
+-- The answer to a question over a trace (this project's own), whether it finds something, and whether it is since no snapshot.
+use Rattle.std.specs.Prelude.{◌≡◌, ℕ, Bool, true, false, ◌&&◌, ◌||◌, ◌==◌, not, nat_lt, min, if◌then◌else◌}
 use Rattle.std.specs.Prelude.{List, length, Contains, Option, Some, None}
 use Rattle.std.specs.List.{list_any}
 use Rattle.htl_event.specs.Events.{Event}
@@ -9,20 +9,15 @@ use Rattle.htl_event.specs.Moments.{counted_events}
 use Rattle.htl_event.specs.Tallies.{IsTags, IsBad, IsLeaksSince, IsStacks}
 use Rattle.htl_event.specs.declared.growth.Point.{Point}
 use Rattle.htl_event.specs.declared.growth.Span.{Span}
-use Rattle.htl_segment.specs.Content.{Content}
 use Rattle.htl_segment.specs.Traces.{Trace, all_events}
-use Rattle.htl_case.specs.Cases.{IsCaseOf}
 use Rattle.htl_case.specs.Spans.{IsSpan}
 use Rattle.htl_report.specs.declared.answer.Answer.{Answer}
 use Rattle.htl_report.specs.declared.answer.Answer.TheVariants.{Outstanding, Diff, Tags, Bad, Leaks, Stacks, Growth}
 use Rattle.htl_report.specs.declared.answer.Answer.TheVariants.{Trace as Listing, Summary}
-use Rattle.htl_command.specs.declared.question.Job.{Job}
 use Rattle.htl_command.specs.declared.question.Question.{Question}
 use Rattle.htl_command.specs.declared.question.Question.TheVariants as questions
 use Rattle.htl_command.specs.declared.question.Since.{Since}
 use Rattle.htl_command.specs.declared.question.Since.TheVariants.{Snapshot, Sequence}
-use Rattle.htl_main.specs.Inputs.{DecodeAll}
-use Rattle.htl_main.specs.Moments.{IsNamedMoment}
 use Rattle.htl_main.specs.Summaries.{IsSummary}
 
 -- since when handles count: a sequence, or the mark of the process
@@ -95,16 +90,18 @@ has_finding (Growth process rows) = has_rows rows.items
 has_finding (Summary totals gaps processes objects) =
     list_any (λ row. not (row.outstanding == 0) || not (row.bad == 0)) processes.items || has_rows objects.items
 
--- whether the answer to the job's question over a trace finds something
-abbrev pub FindsOver : Trace → Job → Bool → Type 0
-FindsOver T job found =
-    (until : Option ℕ) × IsNamedMoment T job.until until
-    × (answer : Answer) × IsAnswer T until job.question answer × (found ≡ has_finding answer)
+-- the question asks since the snapshot of its process
+abbrev pub asks_snapshot : Question → Bool
+asks_snapshot (questions.Diff process Snapshot) = true
+asks_snapshot (questions.Leaks process (Some Snapshot) at_least) = true
+asks_snapshot question = false
 
--- whether the answer over the case of decoded segments finds something
-abbrev pub FindsIn : List Content → Job → Bool → Type 0
-FindsIn segments job found = (T : Trace) × IsCaseOf segments T × FindsOver T job found
+-- the answer is since sequence 0
+abbrev pub is_since_0 : Answer → Bool
+is_since_0 (Diff process since rows) = since == 0
+is_since_0 (Leaks process (Some since) rows) = since == 0
+is_since_0 answer = false
 
--- whether the answer over the case of all segments of the inputs finds something
-abbrev pub Finds : Job → List (List ℕ) → Bool → Type 0
-Finds job inputs found = (segments : List Content) × DecodeAll job.setting.form inputs segments × FindsIn segments job found
+-- It is asked since the snapshot of a process that has none: the answer is since its mark, which is 0.
+abbrev pub is_unmarked : Question → Answer → Bool
+is_unmarked question answer = asks_snapshot question && is_since_0 answer

@@ -2,12 +2,12 @@
 use Rattle.std.specs.Prelude.{◌⊎◌, ℕ, List, Option, Ok, Err}
 use Rattle.std.specs.Io.KnownBytes.{Appends}
 use Rattle.htl_device.specs.Devices.{AppendsPrefix}
-use Rattle.htl_segment.specs.Content.{Content}
 use Rattle.htl_segment.specs.Traces.{Trace}
 use Rattle.htl_case.specs.Faults.{IsRefusal}
 use Rattle.htl_case.specs.declared.fault.CaseFault.TheVariants as case_faults
 use Rattle.htl_command.specs.declared.question.Job.{Job}
-use Rattle.htl_main.specs.Inputs.{DecodeAll, IsReportedOfInput, StopsAtInput}
+use Rattle.htl_main.specs.CutInputs.{Decoding, IsDecoding}
+use Rattle.htl_main.specs.Inputs.{IsReportedOfInput, StopsAtInput}
 use Rattle.htl_main.specs.Printed.{IsPrinted, IsAcceptedCase, WorkersFit, Printed}
 use Rattle.htl_main.specs.declared.fault.RunFault.{RunFault}
 use Rattle.htl_main.specs.declared.fault.RunFault.TheVariants.{Write, Memory}
@@ -21,10 +21,10 @@ abbrev pub PrintsPart : Job → List (List ℕ) → Option (List ℕ) → Option
 PrintsPart job inputs symbols old new =
     (lines : List ℕ) × Printed job inputs symbols (Ok lines) × AppendsPrefix old new lines
 
--- Why nothing is printed of decoded segments. Memory is asked for where the rules of a case that take none hold.
-abbrev pub IsCauseAfter : List Content → Option (List ℕ) → Job → RunFault → Type 0
-IsCauseAfter segments symbols job Memory = IsRefusal segments case_faults.NoMemory ⊎ ((T : Trace) × IsAcceptedCase segments job T)
-IsCauseAfter segments symbols job fault = IsPrinted segments symbols job (Err fault)
+-- Why nothing is printed of what was decoded. Memory is asked for where the rules of a case that take none hold.
+abbrev pub IsCauseAfter : Decoding → Option (List ℕ) → Job → RunFault → Type 0
+IsCauseAfter given symbols job Memory = IsRefusal given.segments case_faults.NoMemory ⊎ ((T : Trace) × IsAcceptedCase given job T)
+IsCauseAfter given symbols job fault = IsPrinted given symbols job (Err fault)
 
 -- Why a run ends: the first fault of what was given; or memory was refused where no fault came before, or the lines
 -- could not be written. No run needs a thread, so none ends because one was refused.
@@ -32,7 +32,6 @@ abbrev pub IsCause : Job → List (List ℕ) → Option (List ℕ) → RunFault 
 IsCause job inputs symbols Memory =
     WorkersFit job.setting.workers
     × (StopsAtInput job.setting.form (IsReportedOfInput job.setting.form) inputs Memory
-    ⊎ ((segments : List Content) × DecodeAll job.setting.form inputs segments
-    × IsCauseAfter segments symbols job Memory))
+    ⊎ ((given : Decoding) × IsDecoding job.setting.form inputs given × IsCauseAfter given symbols job Memory))
 IsCause job inputs symbols Write = (lines : List ℕ) × Printed job inputs symbols (Ok lines)
 IsCause job inputs symbols fault = Printed job inputs symbols (Err fault)

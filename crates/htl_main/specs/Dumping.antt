@@ -3,17 +3,20 @@ use Rattle.std.specs.Prelude.{◌≡◌, ◌<◌, ◌+◌, ℕ, Bool, true, fals
 use Rattle.std.specs.Io.KnownBytes.{Appends, Consumes}
 use Rattle.htl_command.specs.declared.question.InputForm.{InputForm}
 use Rattle.htl_segment.specs.Content.{Content, Fits}
-use Rattle.htl_segment.specs.Bundles.{bundle, is_early_end, IsRest, Splits}
+use Rattle.htl_segment.specs.Bundles.{bundle, IsRest, Splits}
 use Rattle.htl_segment.specs.Faults.{first_fault}
+use Rattle.htl_segment.specs.declared.fault.Fault.{Fault}
+use Rattle.htl_reading.specs.declared.outcome.EarlyEnd.{EarlyEnd}
+use Rattle.htl_main.specs.Inputs.{reported_of}
 use Rattle.htl_main.specs.Dumps.{AreWritten, texts_of}
 use Rattle.htl_main.specs.Ends.{IsInput}
 use Rattle.htl_main.specs.declared.fault.RunFault.{RunFault}
 use Rattle.htl_main.specs.declared.fault.RunFault.TheVariants.{Segment, Memory, Write}
 
 -- the texts of an input's segments were written, and it ends within one more or not
-abbrev pub DumpsInput : InputForm → List ℕ → Bool → Option (List ℕ) → Option (List ℕ) → Type 0
-DumpsInput form input is_cut old new =
-    (segments : List Content) × IsInput form input segments is_cut × Appends old new (texts_of segments)
+abbrev pub DumpsInput : InputForm → List ℕ → Option EarlyEnd → Option (List ℕ) → Option (List ℕ) → Type 0
+DumpsInput form input end old new =
+    (segments : List Content) × IsInput form input segments end × Appends old new (texts_of segments)
 
 -- the texts of segments at the front of the bytes were written, and the rest is left
 pub record FrontDumped (bytes rest : List ℕ) (old new : Option (List ℕ)) : Type 0 where
@@ -21,11 +24,11 @@ pub record FrontDumped (bytes rest : List ℕ) (old new : Option (List ℕ)) : T
   pub splits : Splits bytes segments rest
   pub written : Appends old new (texts_of segments)
 
--- why the dump of the input at a place ends at this offset, where the rest begins: not because it ends within a segment where it may
+-- why the dump of the input at a place ends at this offset, where the rest begins: not because it ends within a segment as it may
 abbrev pub DumpEndsAt : Bool → ℕ → ℕ → List ℕ → RunFault → Type 0
 DumpEndsAt partial place offset rest (Segment at there fault) =
-    (at ≡ place) × (there ≡ offset) × (0 < length rest) × (first_fault rest ≡ Some fault)
-    × (partial ≡ true → is_early_end fault ≡ false)
+    (at ≡ place) × (there ≡ offset) × (0 < length rest)
+    × (first : Fault) × (first_fault rest ≡ Some first) × (reported_of partial rest first ≡ Some fault)
 DumpEndsAt partial place offset rest Memory = first_fault rest ≡ None
 DumpEndsAt partial place offset rest Write = Unit {0}
 DumpEndsAt partial place offset rest other = ⊥
@@ -43,7 +46,7 @@ pub record FrontStops (place start : ℕ) (bytes : List ℕ) (old new : Option (
   pub segments : List Content
   pub rest : List ℕ
   pub splits : Splits bytes segments rest
-  pub ends : (more : List ℕ) → DumpEndsAt true place (start + length (bundle segments)) (rest ++ more) fault
+  pub ends : (partial : Bool) (more : List ℕ) → DumpEndsAt partial place (start + length (bundle segments)) (rest ++ more) fault
   pub written : AreWritten fault old new segments
 
 -- The segments of what a source gave were dumped, but for the last bytes, which more may make a segment of.

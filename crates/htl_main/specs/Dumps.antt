@@ -30,7 +30,7 @@ abbrev pub IsReportedOfDump : InputForm → Option (List ℕ) → Bool → ℕ �
 IsReportedOfDump form left ended place input (Read at) = at ≡ place
 IsReportedOfDump form left ended place input Write = Unit {0}
 IsReportedOfDump form left ended place input Memory =
-    AsksMemory form.hex input ⊎ ((ended ≡ false) × (read : List ℕ) × (0 < length read) × Consumes (Some input) left read)
+    AsksMemory form.hex form.partial input ⊎ ((ended ≡ false) × (read : List ℕ) × (0 < length read) × Consumes (Some input) left read)
 IsReportedOfDump form left ended place input fault = IsReportedOfInput form place input fault
 
 -- the input's bytes begin with those of these segments, if there are any

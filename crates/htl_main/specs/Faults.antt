@@ -3,6 +3,8 @@
 use Rattle.std.specs.Prelude.{◌≡◌, ℕ, List}
 use Rattle.htl_device.specs.declared.whole.ReadFault.{ReadFault}
 use Rattle.htl_device.specs.declared.whole.ReadFault.TheVariants as reads
+use Rattle.htl_reading.specs.declared.digits.DigitsFault.{DigitsFault}
+use Rattle.htl_reading.specs.declared.digits.DigitsFault.TheVariants as texts_of_digits
 use Rattle.htl_reading.specs.declared.fault.SourceFault.{SourceFault}
 use Rattle.htl_reading.specs.declared.fault.SourceFault.TheVariants as sources
 use Rattle.htl_segment.specs.declared.fault.Fault.{Fault}
@@ -33,6 +35,12 @@ of_hex input fault = Hex input fault
 abbrev pub of_read : ℕ → ReadFault → RunFault
 of_read input reads.NoMemory = Memory
 of_read input reads.Failed = Read input
+
+-- of the reading of an input of digits
+abbrev pub of_digits : ℕ → DigitsFault → RunFault
+of_digits input (texts_of_digits.Foreign place) = Hex input (digits.BadDigit place)
+of_digits input texts_of_digits.Read = Read input
+of_digits input texts_of_digits.NoMemory = Memory
 
 -- of the reading of an input of bytes
 abbrev pub of_source : ℕ → SourceFault → RunFault

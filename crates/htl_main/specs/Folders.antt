@@ -1,5 +1,5 @@
 -- For the clauses of private functions: how an analyst takes one segment after another, and what it keeps of them.
-use Rattle.std.specs.Prelude.{◌≡◌, ◌≤◌, ◌<◌, ◌-◌, ◌++◌, ◌∷◌, [], ⊤, ℕ, Bool, true, false, List, Contains, Option, None, Some}
+use Rattle.std.specs.Prelude.{◌≡◌, ◌≤◌, ◌<◌, ◌-◌, ◌⊎◌, ◌++◌, ◌∷◌, [], ⊤, ℕ, Bool, true, false, List, Contains, Option, None, Some}
 use Rattle.htl_analyst.specs.Keys.{HasTaken, number_taken}
 use Rattle.htl_analyst.specs.Refusals.{TakeAccepted}
 use Rattle.htl_analyst.specs.States.{State, folded_at}
@@ -9,17 +9,18 @@ use Rattle.htl_case.specs.declared.fault.CaseFault.TheVariants.{Empty}
 use Rattle.htl_event.specs.Events.{Event}
 use Rattle.htl_segment.specs.Content.{Content}
 use Rattle.htl_segment.specs.Traces.{Trace}
-use Rattle.htl_main.specs.Completeness.{IsComplete, IsLeastMissing}
+use Rattle.htl_main.specs.Completeness.{IsComplete, ReportsMissing}
 use Rattle.htl_main.specs.Coverages.{IsCoverage}
 use Rattle.htl_main.specs.Printed.{HasSymbolFault}
 use Rattle.htl_taken.specs.Numbers.{front_at}
 use Rattle.htl_command.specs.declared.question.InputForm.{InputForm}
-use Rattle.htl_main.specs.CutInputs.{AreCut}
+use Rattle.htl_main.specs.CutInputs.{AreCut, AreCutEnds}
+use Rattle.htl_main.specs.Picking.{NamesMissing}
 use Rattle.htl_main.specs.Folding.{AreAccepted, AreFolded, AreTaken, GaveBefore, IsCollectionOf, IsOfPlace, IsUnfit, StandBefore}
 use Rattle.htl_main.specs.Folding.{TakesUpTo, counted}
 use Rattle.htl_main.specs.Inputs.{DecodeAll}
 use Rattle.htl_main.specs.declared.adding.Added.{Added}
-use Rattle.htl_main.specs.declared.cut_inputs.CutInputs.{CutInputs}
+use Rattle.htl_main.specs.declared.cut_inputs.CutEnd.{CutEnd}
 use Rattle.htl_main.specs.declared.folder.Folder.{Folder}
 use Rattle.htl_main.specs.declared.fault.RunFault.{RunFault}
 use Rattle.htl_main.specs.declared.fault.RunFault.TheVariants.{Segment, Hex, Read, Case, Incomplete, Memory, Symbols}
@@ -90,30 +91,28 @@ IsOfInput (Read at) = ⊤
 IsOfInput Memory = ⊤
 IsOfInput fault = ⊥
 
--- a complete trace was asked for, and of a trace that the analyst took this is the least key that is missing; or memory was refused
-abbrev pub IsMissingOf : Bool → State → RunFault → Type 0
-IsMissingOf complete a Memory = ⊤
-IsMissingOf complete a (Incomplete processor number) =
-    (complete ≡ true) × ((segments : List Content) (T : Trace) → AreFolded (Some a) segments → IsCollectionOf segments T
-    → IsLeastMissing T processor number)
-IsMissingOf complete a fault = ⊥
+-- a complete trace was asked for, and this fault says why one that the analyst took isn't complete; or memory was refused
+abbrev pub IsMissingOf : Bool → List CutEnd → State → RunFault → Type 0
+IsMissingOf complete cuts a fault =
+    (fault ≡ Memory) ⊎ (NamesMissing fault × (complete ≡ true) × ((segments : List Content) (T : Trace) → AreFolded (Some a) segments
+    → IsCollectionOf segments T → ReportsMissing T cuts fault))
 
 -- So many segments were added, where `before` keys had been taken: `added` says how many they are, how many are new, how much of its
 -- trace the analyst has, and which inputs are cut.
-pub record IsAddedToFolded (complete : Bool) (now : Option State) (before segments : ℕ) (cut : Option CutInputs) (added : Added)
+pub record IsAddedToFolded (complete : Bool) (now : Option State) (before segments : ℕ) (cuts : List CutEnd) (added : Added)
     : Type 0 where
   pub analyst : State
   pub there : now ≡ Some analyst
   pub segments_are : added.segments ≡ segments
   pub new_are : added.new ≡ number_of now - before
   pub covered : (all : List Content) (T : Trace) → AreFolded (Some analyst) all → IsCollectionOf all T
-      → IsCoverage T added.coverage × (complete ≡ true → IsComplete T)
-  pub cut_is : added.cut ≡ cut
+      → IsCoverage T added.coverage × (complete ≡ true → IsComplete T cuts)
+  pub cut_is : (hex : Bool) (inputs : List (List ℕ)) → AreCutEnds hex inputs cuts → AreCut hex inputs added.cut
 
 -- why a reading ends after it took all segments: there is none, or one is missing, or memory was refused
-abbrev pub IsNotAdded : Bool → Option State → RunFault → Type 0
-IsNotAdded complete None fault = fault ≡ Case Empty
-IsNotAdded complete (Some a) fault = IsMissingOf complete a fault
+abbrev pub IsNotAdded : Bool → List CutEnd → Option State → RunFault → Type 0
+IsNotAdded complete cuts None fault = fault ≡ Case Empty
+IsNotAdded complete cuts (Some a) fault = IsMissingOf complete cuts a fault
 
 -- the first fault of the symbols, or refused memory
 abbrev pub IsSymbolsFault : Option (List ℕ) → RunFault → Type 0
@@ -123,11 +122,11 @@ IsSymbolsFault symbols fault = ⊥
 
 -- All segments of the inputs were taken after those from before, and the analyst has folded all of both that it can.
 pub record AreAllTaken (form : InputForm) (before : List Content) (inputs : List (List ℕ)) (old new : Option State) (segments : ℕ)
-    (cut : Option CutInputs) : Type 0 where
+    (cuts : List CutEnd) : Type 0 where
   pub given : List Content
   pub decoded : DecodeAll form inputs given
   pub accepted : AreAccepted before given
   pub folded : AreFolded new (before ++ given)
   pub number : segments ≡ counted given
-  pub cut_is : AreCut form.hex inputs cut
+  pub cut_ends : AreCutEnds form.hex inputs cuts
   pub keeps : KeepsAll old new

@@ -23,9 +23,10 @@ use Rattle.htl_segment.specs.Content.{Content}
 use Rattle.htl_segment.specs.Traces.{Trace}
 use Rattle.htl_taken.specs.Numbers.{front_at}
 use Rattle.htl_main.specs.Answers.{is_of_counts}
-use Rattle.htl_main.specs.Completeness.{IsComplete, IsLeastMissing}
+use Rattle.htl_main.specs.Completeness.{IsComplete, ReportsMissing}
 use Rattle.htl_main.specs.Coverages.{IsCoverage}
-use Rattle.htl_main.specs.CutInputs.{AreCut}
+use Rattle.htl_main.specs.CutInputs.{AreCut, AreCutEnds}
+use Rattle.htl_main.specs.declared.cut_inputs.CutEnd.{CutEnd}
 use Rattle.htl_main.specs.Inputs.{DecodeAll, HasBytes, StopsAtInput}
 use Rattle.htl_main.specs.Origins.{is_about_two}
 use Rattle.htl_main.specs.Printed.{HasSymbolFault, WorkersFit}
@@ -148,7 +149,9 @@ pub record IsFolded (setting : Setting) (before : List Content) (inputs : List (
   pub segments : added.segments ≡ counted given
   pub new : (T U : Trace) → IsCollectionOf before T → IsCollectionOf (before ++ given) U → length U.segments ≡ length T.segments + added.new
   pub coverage : (T : Trace) → IsCollectionOf (before ++ given) T → IsCoverage T added.coverage
-  pub whole : setting.complete ≡ true → (T : Trace) → IsCollectionOf (before ++ given) T → IsComplete T
+  pub cuts : List CutEnd
+  pub cut_ends : AreCutEnds setting.form.hex inputs cuts
+  pub whole : setting.complete ≡ true → (T : Trace) → IsCollectionOf (before ++ given) T → IsComplete T cuts
   pub cut : AreCut setting.form.hex inputs added.cut
 
 -- The segments that a source gave, of whose bytes this is left. A text in hexadecimal gives none before its end.
@@ -183,6 +186,12 @@ AsksFoldsMemory setting before inputs lefts ends =
     ⊎ (((given : List Content) × (given ≢ []) × (fault : RunFault) × AreGiven setting.form inputs lefts fault given)
     ⊎ ((given : List Content) × DecodeAll setting.form inputs given × (before ++ given ≢ []))))
 
+-- A complete trace is asked for, and this fault says why the collection of all segments, with inputs that are cut, isn't complete.
+abbrev pub IsMissingOfFirsts : Setting → List Content → List (List ℕ) → RunFault → Type 0
+IsMissingOfFirsts setting all inputs fault =
+    (setting.complete ≡ true) × (cuts : List CutEnd) × AreCutEnds setting.form.hex inputs cuts
+    × ((T : Trace) → IsCollectionOf all T → ReportsMissing T cuts fault)
+
 -- Why a reading ends, by what its inputs gave, and which segments of that were taken before an unfit one.
 abbrev pub IsFoldsFault : Setting → List Content → List (List ℕ) → List (Option (List ℕ)) → List Bool → List Content → Option CaseFault
     → RunFault → Type 0
@@ -196,8 +205,9 @@ IsFoldsFault setting before inputs lefts ends taken unfit (faults.Read place) =
 IsFoldsFault setting before inputs lefts ends taken unfit (faults.Case cases.Empty) = WorkersFit setting.workers × (before ++ taken ≡ [])
 IsFoldsFault setting before inputs lefts ends taken unfit (faults.Case fault) = WorkersFit setting.workers × (unfit ≡ Some fault)
 IsFoldsFault setting before inputs lefts ends taken unfit (faults.Incomplete processor number) =
-    WorkersFit setting.workers × (unfit ≡ None) × (setting.complete ≡ true)
-    × ((T : Trace) → IsCollectionOf (before ++ taken) T → IsLeastMissing T processor number)
+    WorkersFit setting.workers × (unfit ≡ None) × IsMissingOfFirsts setting (before ++ taken) inputs (faults.Incomplete processor number)
+IsFoldsFault setting before inputs lefts ends taken unfit (faults.UnknownCut input) =
+    WorkersFit setting.workers × (unfit ≡ None) × IsMissingOfFirsts setting (before ++ taken) inputs (faults.UnknownCut input)
 IsFoldsFault setting before inputs lefts ends taken unfit fault = ⊥
 
 -- Refused: of the segments before the fault those before an unfit one were taken, and `Keeps` holds of all that were taken by then.

@@ -8,6 +8,7 @@ pub mod Coverages
 pub mod Subjects
 pub mod Answers
 pub mod Printed
+pub mod Remarks
 pub mod Causes
 pub mod Sources
 pub mod Readings
@@ -17,6 +18,7 @@ pub mod Origins
 pub mod Loading
 pub mod Adding
 pub mod Folding
+pub mod Asked
 pub mod Picked
 pub mod Statuses
 pub mod Analysts

@@ -12,12 +12,12 @@ use Rattle.htl_case.specs.declared.fault.CaseFault.{CaseFault}
 use Rattle.htl_command.specs.declared.question.Job.{Job}
 use Rattle.htl_command.specs.declared.question.Question.{Question}
 use Rattle.htl_command.specs.declared.question.Question.TheVariants as questions
-use Rattle.htl_main.specs.Answers.{Finds}
 use Rattle.htl_main.specs.Coverages.{Covers}
 use Rattle.htl_main.specs.CutInputs.{AreCut}
 use Rattle.htl_main.specs.Inputs.{DecodeAll}
 use Rattle.htl_main.specs.Moments.{IsNamedMoment}
-use Rattle.htl_main.specs.Subjects.{ReportsSubject}
+use Rattle.htl_main.specs.Remarks.{ReportsRemarks}
+use Rattle.htl_main.specs.Subjects.{ReportsAbsence}
 use Rattle.htl_main.specs.declared.completed.Completed.{Completed}
 use Rattle.htl_main.specs.declared.picked_run.Lacking.{Lacking}
 use Rattle.htl_main.specs.declared.picked_run.Lacking.TheVariants as lacking
@@ -46,11 +46,11 @@ abbrev pub Serves : Question → Interest → Type 0
 Serves question interest = (interest ≡ interest_of question) ⊎ (interest ≡ widened (interest_of question))
 
 -- what is reported beside the answer holds of the inputs
-pub record Reports (job : Job) (inputs : List (List ℕ)) (completed : Completed) : Type 0 where
+pub record Reports (job : Job) (inputs : List (List ℕ)) (symbols : Option (List ℕ)) (completed : Completed) : Type 0 where
   pub coverage : Covers job.setting.form inputs completed.coverage
   pub cut : AreCut job.setting.form.hex inputs completed.cut
-  pub subject : ReportsSubject inputs job completed.has_subject
-  pub finding : Finds job inputs completed.has_finding
+  pub absence : ReportsAbsence inputs job completed.absence
+  pub remarks : ReportsRemarks job inputs symbols completed.remarks
 
 -- Only the open handles of a process were asked about, and no event of the case that counts tells of them: whether the process has an
 -- event of another kind, the picks don't tell.

@@ -10,16 +10,18 @@ use Rattle.htl_case.specs.Cases.{IsCaseOf}
 use Rattle.htl_case.specs.Picked.{Picked, IsPickedOf, IsPickedUntil}
 use Rattle.htl_command.specs.declared.question.InputForm.{InputForm}
 use Rattle.htl_command.specs.declared.question.Job.{Job}
-use Rattle.htl_main.specs.Answers.{FindsIn}
 use Rattle.htl_main.specs.Coverages.{CoversSegments}
 use Rattle.htl_main.specs.Ends.{IsInput}
 use Rattle.htl_main.specs.Inputs.{DecodeAll}
 use Rattle.htl_main.specs.Printed.{AreAnswerLines}
-use Rattle.htl_main.specs.Subjects.{HasSubjectIn}
+use Rattle.htl_main.specs.Remarks.{RemarksIn}
+use Rattle.htl_main.specs.Subjects.{HasAbsenceIn}
 use Rattle.htl_main.specs.declared.completed.Completed.{Completed}
-use Rattle.htl_main.specs.declared.cut_inputs.CutInputs.{CutInputs}
+use Rattle.htl_main.specs.declared.cut_inputs.CutEnd.{CutEnd}
+use Rattle.htl_reading.specs.declared.outcome.EarlyEnd.{EarlyEnd}
+use Rattle.htl_main.specs.CutInputs.{AreCut, AreCutEnds, Decoding}
 use Rattle.htl_main.specs.declared.fault.RunFault.{RunFault}
-use Rattle.htl_main.specs.declared.fault.RunFault.TheVariants.{Incomplete, NoSubject, Symbols, Memory, Write}
+use Rattle.htl_main.specs.declared.fault.RunFault.TheVariants.{Incomplete, NoSubject, Symbols, Memory, UnknownCut, Write}
 
 -- only the open handles of a process are asked about
 abbrev pub is_of_open_handles : Interest → Bool
@@ -27,9 +29,9 @@ is_of_open_handles (OpenHandles process) = true
 is_of_open_handles other = false
 
 -- the picks are those of this input too, after whichever they were of before
-pub record ArePicksMore (form : InputForm) (old new : Picks) (input : List ℕ) (is_cut : Bool) : Type 0 where
+pub record ArePicksMore (form : InputForm) (old new : Picks) (input : List ℕ) (end : Option EarlyEnd) : Type 0 where
   pub more : List Content
-  pub are : IsInput form input more is_cut
+  pub are : IsInput form input more end
   pub picks : (interest : Interest) (segments : List Content) → ArePicksOf interest old segments
       → ArePicksOf interest new (segments ++ more)
 
@@ -57,21 +59,29 @@ pub record ArePickedFor (interest : Interest) (picks : Picks) (segments : List C
   pub fits : All Fits segments
 
 -- The lines of the answer over the case of these segments were written, or a first part of them.
-pub record PrintsOf (segments : List Content) (symbols : Option (List ℕ)) (job : Job) (Written : List ℕ → Type 0) : Type 0 where
+pub record PrintsOf (given : Decoding) (symbols : Option (List ℕ)) (job : Job) (Written : List ℕ → Type 0) : Type 0 where
   pub lines : List ℕ
-  pub are : AreAnswerLines segments symbols job lines
+  pub are : AreAnswerLines given symbols job lines
   pub written : Written lines
 
 -- what is reported beside the answer holds of the case of these segments, and of the inputs that were cut
-pub record ReportsOf (segments : List Content) (job : Job) (cut : Option CutInputs) (completed : Completed) : Type 0 where
+pub record ReportsOf (segments : List Content) (symbols : Option (List ℕ)) (job : Job) (cuts : List CutEnd) (completed : Completed)
+    : Type 0 where
   pub coverage : CoversSegments segments completed.coverage
-  pub cut_are : completed.cut ≡ cut
-  pub subject : HasSubjectIn segments job completed.has_subject
-  pub finding : FindsIn segments job completed.has_finding
+  pub cut_are : (hex : Bool) (inputs : List (List ℕ)) → AreCutEnds hex inputs cuts → AreCut hex inputs completed.cut
+  pub absence : HasAbsenceIn segments job completed.absence
+  pub remarks : RemarksIn segments symbols job completed.remarks
+
+-- the fault says why a case isn't complete
+abbrev pub NamesMissing : RunFault → Type 0
+NamesMissing (Incomplete processor number) = ⊤
+NamesMissing (UnknownCut input) = ⊤
+NamesMissing other = ⊥
 
 -- why an answer over a case isn't made
 abbrev pub EndsAnswer : RunFault → Type 0
 EndsAnswer (Incomplete processor number) = ⊤
+EndsAnswer (UnknownCut input) = ⊤
 EndsAnswer (Symbols fault) = ⊤
 EndsAnswer NoSubject = ⊤
 EndsAnswer Memory = ⊤

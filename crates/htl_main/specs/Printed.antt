@@ -1,6 +1,5 @@
 -- What a run prints for a job, its inputs and its symbol table, or why it is refused.
 use Rattle.std.specs.Prelude.{◌≡◌, ◌≢◌, ℕ, true, false, ◌<◌, ◌≤◌, List, [], flat_map, Option, Some, None, Result, Ok, Err}
-use Rattle.htl_segment.specs.Content.{Content}
 use Rattle.htl_segment.specs.Traces.{Trace}
 use Rattle.htl_case.specs.Cases.{IsCaseOf}
 use Rattle.htl_case.specs.Faults.{IsOutcome}
@@ -17,12 +16,14 @@ use Rattle.htl_command.specs.declared.question.Format.{Format}
 use Rattle.htl_command.specs.declared.question.Format.TheVariants.{Json, Folded}
 use Rattle.htl_command.specs.declared.question.Job.{Job}
 use Rattle.htl_main.specs.Answers.{IsAnswer}
-use Rattle.htl_main.specs.Completeness.{IsLeastMissing}
-use Rattle.htl_main.specs.Inputs.{DecodeAll, IsReportedOfInput, StopsAtInput}
+use Rattle.htl_main.specs.Completeness.{ReportsMissing}
+use Rattle.htl_main.specs.CutInputs.{Decoding, IsDecoding}
+use Rattle.htl_main.specs.Inputs.{IsReportedOfInput, StopsAtInput}
 use Rattle.htl_main.specs.Moments.{IsCompleteUntil, IsNamedMoment}
-use Rattle.htl_main.specs.Subjects.{HasSubject}
+use Rattle.htl_main.specs.Subjects.{HasAbsence}
+use Rattle.htl_main.specs.declared.completed.Absence.{Absence}
 use Rattle.htl_main.specs.declared.fault.RunFault.{RunFault}
-use Rattle.htl_main.specs.declared.fault.RunFault.TheVariants.{Workers, Segment, Hex, Case, Incomplete, NoSubject, Symbols}
+use Rattle.htl_main.specs.declared.fault.RunFault.TheVariants.{Workers, Segment, Hex, Case, Incomplete, NoSubject, Symbols, UnknownCut}
 
 -- the lines of an answer in each form, with all rows or the first so many; only leaking stacks are folded
 abbrev pub lines_of_answer : Format → List Range → Option ℕ → Option ℕ → Answer → List ℕ
@@ -46,33 +47,41 @@ abbrev pub HasSymbolFault : Option (List ℕ) → SymbolFault → Type 0
 HasSymbolFault None fault = ⊥
 HasSymbolFault (Some bytes) fault = (fault ≢ symbol_faults.NoMemory) × Reads (records_of bytes) (Err fault)
 
--- the case of the segments, which has no gap up to the job's moment where the job asks for a complete one
-abbrev pub IsAcceptedCase : List Content → Job → Trace → Type 0
-IsAcceptedCase segments job T = IsCaseOf segments T × (job.setting.complete ≡ true → IsCompleteUntil T job.until)
+-- the case of the segments, which is complete up to the job's moment where the job asks for that
+abbrev pub IsAcceptedCase : Decoding → Job → Trace → Type 0
+IsAcceptedCase given job T = IsCaseOf given.segments T × (job.setting.complete ≡ true → IsCompleteUntil T given.cuts job.until)
 
--- The lines are those of the answer over the case. Where the status says what an answer finds, there is an event of what it is about.
-pub record AreAnswerLines (segments : List Content) (symbols : Option (List ℕ)) (job : Job) (lines : List ℕ) : Type 0 where
+-- The lines are those of the answer over the case. Where the status says what an answer finds, something can be found: there is an event
+-- of what it is about, and what counts goes on after the sequence since which it asks.
+pub record AreAnswerLines (given : Decoding) (symbols : Option (List ℕ)) (job : Job) (lines : List ℕ) : Type 0 where
   pub trace : Trace
-  pub taken : IsAcceptedCase segments job trace
+  pub taken : IsAcceptedCase given job trace
   pub table : List Range
   pub named : HasSymbols symbols table
-  pub about : job.exit_code ≡ true → HasSubject trace job true
+  pub about : job.exit_code ≡ true → HasAbsence trace job None
   pub is : IsText trace table job lines
 
--- Decoded segments come to the lines of the answer; or the first rule that they break as a case; or, where the job asks for a
--- complete one, the least key that the case misses; or the first fault of the symbols; or else, where the status says what the
--- answer finds, that no event is of what is asked about.
-abbrev pub IsPrinted : List Content → Option (List ℕ) → Job → Result (List ℕ) RunFault → Type 0
-IsPrinted segments symbols job (Ok lines) = AreAnswerLines segments symbols job lines
-IsPrinted segments symbols job (Err (Case fault)) = IsOutcome segments (Err fault)
-IsPrinted segments symbols job (Err (Incomplete processor number)) =
+-- The job asks for a complete case, and this fault says why it isn't complete up to the job's moment.
+abbrev pub IsMissing : Decoding → Job → RunFault → Type 0
+IsMissing given job fault =
     (job.setting.complete ≡ true)
-    × (T : Trace) × IsCaseOf segments T × (IsCompleteUntil T job.until → ⊥) × IsLeastMissing T processor number
-IsPrinted segments symbols job (Err (Symbols fault)) = (T : Trace) × IsAcceptedCase segments job T × HasSymbolFault symbols fault
-IsPrinted segments symbols job (Err NoSubject) =
+    × (T : Trace) × IsCaseOf given.segments T × (IsCompleteUntil T given.cuts job.until → ⊥) × ReportsMissing T given.cuts fault
+
+-- What was decoded comes to the lines of the answer; or the first rule that the segments break as a case; or, where the job asks for a
+-- complete one, the least key that the case misses, or else the first cut input whose segment isn't known; or the first fault of the
+-- symbols;
+-- or else, where the status says what the answer finds, that nothing could be found of what is asked about.
+abbrev pub IsPrinted : Decoding → Option (List ℕ) → Job → Result (List ℕ) RunFault → Type 0
+IsPrinted given symbols job (Ok lines) = AreAnswerLines given symbols job lines
+IsPrinted given symbols job (Err (Case fault)) = IsOutcome given.segments (Err fault)
+IsPrinted given symbols job (Err (Incomplete processor number)) = IsMissing given job (Incomplete processor number)
+IsPrinted given symbols job (Err (UnknownCut input)) = IsMissing given job (UnknownCut input)
+IsPrinted given symbols job (Err (Symbols fault)) = (T : Trace) × IsAcceptedCase given job T × HasSymbolFault symbols fault
+IsPrinted given symbols job (Err NoSubject) =
     (job.exit_code ≡ true)
-    × (T : Trace) × IsAcceptedCase segments job T × (table : List Range) × HasSymbols symbols table × HasSubject T job false
-IsPrinted segments symbols job (Err other) = ⊥
+    × (T : Trace) × IsAcceptedCase given job T × (table : List Range) × HasSymbols symbols table
+    × (absence : Absence) × HasAbsence T job (Some absence)
+IsPrinted given symbols job (Err other) = ⊥
 
 -- the number of workers is allowed
 abbrev pub WorkersFit : ℕ → Type 0
@@ -92,4 +101,4 @@ Printed job inputs symbols (Err (Hex at fault)) =
     WorkersFit job.setting.workers × StopsAtInput job.setting.form (IsReportedOfInput job.setting.form) inputs (Hex at fault)
 Printed job inputs symbols outcome =
     WorkersFit job.setting.workers
-    × (segments : List Content) × DecodeAll job.setting.form inputs segments × IsPrinted segments symbols job outcome
+    × (given : Decoding) × IsDecoding job.setting.form inputs given × IsPrinted given symbols job outcome

@@ -6,8 +6,8 @@ use Rattle.htl_main.specs.Sources.{ReportsFailed}
 use Rattle.htl_main.specs.declared.fault.RunFault.{RunFault}
 use Rattle.htl_main.specs.declared.fault.RunFault.TheVariants.{Read}
 
--- Sources before and after a run that ends with this result. Each source gives a text, which is gathered whole before
--- it is looked at, or bytes, which are decoded as they come. Which sources have failed or ended, how many reads of each gave bytes, and
+-- Sources before and after a run that ends with this result. Each source gives a text, which is gathered before
+-- it is decoded, or bytes, which are decoded as they come. Which sources have failed or ended, how many reads of each gave bytes, and
 -- which bytes each has left, is said by the functions.
 pub record AreRead {R S : Type 0} (is_text : Bool) (has_failed has_ended : R → Bool) (good_reads : R → ℕ)
     (remaining : R → Option (List ℕ)) (old new : List R) (result : Result S RunFault) : Type 0 where

@@ -5,10 +5,10 @@ use Rattle.std.specs.Io.KnownBytes.{Consumes}
 use Rattle.htl_device.specs.declared.whole.TheConstants.{MAX_READS}
 use Rattle.htl_command.specs.declared.question.InputForm.{InputForm}
 use Rattle.htl_command.specs.declared.question.Job.{Job}
-use Rattle.htl_segment.specs.Content.{Content}
 use Rattle.htl_segment.specs.Bundles.{RestAt}
 use Rattle.htl_reading.specs.Sources.{IsReadToFault}
-use Rattle.htl_main.specs.Inputs.{AsksMemory, DecodeAll, IsReportedOfInput, StopsAtInput}
+use Rattle.htl_main.specs.CutInputs.{Decoding, IsDecoding}
+use Rattle.htl_main.specs.Inputs.{AsksMemory, IsReportedOfInput, StopsAtInput}
 use Rattle.htl_main.specs.Printed.{WorkersFit}
 use Rattle.htl_main.specs.Causes.{IsCause, IsCauseAfter}
 use Rattle.htl_main.specs.declared.fault.RunFault.{RunFault}
@@ -24,7 +24,7 @@ KeepsSome false read = (offset : ℕ) × RestAt read offset
 abbrev pub IsReportedOfSource : InputForm → Option (List ℕ) → Bool → ℕ → List ℕ → RunFault → Type 0
 IsReportedOfSource form left ended place input (Read at) = at ≡ place
 IsReportedOfSource form left ended place input Memory =
-    AsksMemory form.hex input ⊎ ((ended ≡ false) × (read : List ℕ) × Consumes (Some input) left read × KeepsSome form.hex read)
+    AsksMemory form.hex form.partial input ⊎ ((ended ≡ false) × (read : List ℕ) × Consumes (Some input) left read × KeepsSome form.hex read)
 IsReportedOfSource form left ended place input fault = IsReportedOfInput form place input fault
 
 -- what is reported of the source at a place, where `lefts` are left of the sources, and `ends` says which ends were found
@@ -41,8 +41,7 @@ IsSourcesCause job inputs lefts ends symbols (Read at) =
 IsSourcesCause job inputs lefts ends symbols Memory =
     WorkersFit job.setting.workers
     × (StopsAtInput job.setting.form (IsReportedAt job.setting.form lefts ends) inputs Memory
-    ⊎ ((segments : List Content) × DecodeAll job.setting.form inputs segments
-    × IsCauseAfter segments symbols job Memory))
+    ⊎ ((given : Decoding) × IsDecoding job.setting.form inputs given × IsCauseAfter given symbols job Memory))
 IsSourcesCause job inputs lefts ends symbols fault = IsCause job inputs symbols fault
 
 -- the test is true of the element at the place

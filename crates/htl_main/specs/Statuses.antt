@@ -2,7 +2,7 @@
 use Rattle.std.specs.Prelude.{ℕ}
 use Rattle.htl_main.specs.declared.fault.RunFault.{RunFault}
 use Rattle.htl_main.specs.declared.fault.RunFault.TheVariants.{Workers, Segment, Hex, Text, Case, Incomplete, NoSubject, Symbols, Read}
-use Rattle.htl_main.specs.declared.fault.RunFault.TheVariants.{SymbolsRead, Write, Memory, NoThread}
+use Rattle.htl_main.specs.declared.fault.RunFault.TheVariants.{SymbolsRead, Write, Memory, NoThread, UnknownCut}
 
 abbrev pub status_of : RunFault → ℕ
 status_of Workers = 2
@@ -12,6 +12,7 @@ status_of (Text input line fault event) = 3
 status_of (Case fault) = 4
 status_of (Incomplete processor number) = 4
 status_of NoSubject = 4
+status_of (UnknownCut input) = 4
 status_of (Read input) = 5
 status_of SymbolsRead = 5
 status_of Write = 5

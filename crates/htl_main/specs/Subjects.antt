@@ -1,5 +1,5 @@
--- Whether what a question is about has an event (this project's own): a number that was mistyped looks like one without a leak.
-use Rattle.std.specs.Prelude.{◌≡◌, ℕ, Bool, true, false, ◌&&◌, ◌==◌, nat_eq, List, Option}
+-- Whether anything can be found of what a question is about (this project's own): a number that was mistyped looks like one without a leak.
+use Rattle.std.specs.Prelude.{◌≡◌, ℕ, Bool, true, false, ◌&&◌, ◌==◌, nat_eq, nat_lt, if◌then◌else◌, List, Option, Some, None}
 use Rattle.std.specs.List.{list_any}
 use Rattle.std.specs.Cmp.Lexicographic.{pointwise}
 use Rattle.htl_event.specs.Events.{Event}
@@ -13,8 +13,11 @@ use Rattle.htl_case.specs.Cases.{IsCaseOf}
 use Rattle.htl_command.specs.declared.question.Job.{Job}
 use Rattle.htl_command.specs.declared.question.Question.{Question}
 use Rattle.htl_command.specs.declared.question.Question.TheVariants as questions
+use Rattle.htl_command.specs.declared.question.Since.TheVariants.{Sequence}
 use Rattle.htl_main.specs.Inputs.{DecodeAll}
 use Rattle.htl_main.specs.Moments.{IsNamedMoment}
+use Rattle.htl_main.specs.declared.completed.Absence.{Absence}
+use Rattle.htl_main.specs.declared.completed.Absence.TheVariants.{Subject, Later}
 
 -- the kinds of events that name a handle
 abbrev pub names_handle : Kind → Bool
@@ -42,16 +45,45 @@ is_about (questions.Tags object) e = names_object e.kind && (e.object == object)
 is_about (questions.Stacks object tag) e = names_object e.kind && ((e.object == object) && pointwise nat_eq e.tag tag)
 is_about (questions.Trace process handle) e = names_handle e.kind && ((e.process == process) && (base_of e.handle == base_of handle))
 
--- whether an event of a trace that counts is about the job's question
-abbrev pub HasSubject : Trace → Job → Bool → Type 0
-HasSubject T job found =
-    (until : Option ℕ) × IsNamedMoment T job.until until
-    × (found ≡ list_any (is_about job.question) (counted_events until (all_events T.segments)))
+-- the sequence after which the question asks, where it is given as a number
+abbrev pub since_of : Question → Option ℕ
+since_of (questions.Diff process (Sequence since)) = Some since
+since_of (questions.Leaks process (Some (Sequence since)) at_least) = Some since
+since_of other = None
 
--- whether, in the case of decoded segments, an event that counts is about the job's question
-abbrev pub HasSubjectIn : List Content → Job → Bool → Type 0
-HasSubjectIn segments job found = (T : Trace) × IsCaseOf segments T × HasSubject T job found
+-- a sequence comes before the moment, as each does where none is given
+abbrev pub is_before : Option ℕ → ℕ → Bool
+is_before None n = true
+is_before (Some moment) n = nat_lt n moment
 
--- whether, in the case of all segments of the inputs, an event that counts is about the job's question
-abbrev pub ReportsSubject : List (List ℕ) → Job → Bool → Type 0
-ReportsSubject inputs job found = (segments : List Content) × DecodeAll job.setting.form inputs segments × HasSubjectIn segments job found
+-- The sequence is below the last that counts: an event comes after it, and so does the moment, where one is given.
+abbrev pub is_below_last : Option ℕ → List Event → ℕ → Bool
+is_below_last until events n = is_before until n && list_any (λ e. nat_lt n e.sequence) events
+
+-- Nothing that counts comes after the sequence since which is asked.
+abbrev pub later_absence : Option ℕ → Option ℕ → List Event → Option Absence
+later_absence None until events = None
+later_absence (Some since) until events = if is_below_last until events since then None else Some Later
+
+-- What there is not of what a question asks about, as of a moment: where no event that counts is about it, that, and else what comes later
+-- than the sequence since which it asks.
+abbrev pub absence_by : Bool → Question → Option ℕ → List Event → Option Absence
+absence_by has_subject question until events =
+    if has_subject then later_absence (since_of question) until events else Some Subject
+
+abbrev pub absence_in : Question → Option ℕ → List Event → Option Absence
+absence_in question until events = absence_by (list_any (is_about question) (counted_events until events)) question until events
+
+-- what there is not of what the job asks about in a trace
+abbrev pub HasAbsence : Trace → Job → Option Absence → Type 0
+HasAbsence T job absence =
+    (until : Option ℕ) × IsNamedMoment T job.until until × (absence ≡ absence_in job.question until (all_events T.segments))
+
+-- the same of the case of decoded segments
+abbrev pub HasAbsenceIn : List Content → Job → Option Absence → Type 0
+HasAbsenceIn segments job absence = (T : Trace) × IsCaseOf segments T × HasAbsence T job absence
+
+-- the same of the case of all segments of the inputs
+abbrev pub ReportsAbsence : List (List ℕ) → Job → Option Absence → Type 0
+ReportsAbsence inputs job absence =
+    (segments : List Content) × DecodeAll job.setting.form inputs segments × HasAbsenceIn segments job absence

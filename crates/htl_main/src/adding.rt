@@ -1,6 +1,6 @@
 //! More sources, whose segments are added to what was loaded.
 
-ghost use Rattle.std.specs.Prelude.{◌≡◌, ◌⊎◌, ◌++◌, ◌∷◌, [], ℕ, List, All, Some, None, false};
+ghost use Rattle.std.specs.Prelude.{◌≡◌, ◌⊎◌, ◌++◌, ◌∷◌, [], ℕ, Bool, List, All, Some, None, false};
 ghost use Rattle.std.specs.Prelude.{length, map, IfErr, IfOk, OnOk};
 ghost use Rattle.htl_case.specs.Cases.{IsCase};
 ghost use Rattle.htl_command.specs.declared.question.InputForm.{InputForm};
@@ -8,6 +8,7 @@ ghost use Rattle.htl_command.specs.declared.question.Job.{Job};
 ghost use Rattle.htl_main.specs.Adding.{IsAdded, IsAddingRefused};
 ghost use Rattle.htl_main.specs.Causes.{IsCauseAfter};
 ghost use Rattle.htl_main.specs.Coverages.{IsCoverage};
+ghost use Rattle.htl_main.specs.CutInputs.{AreCut, AreCutEnds, decoding};
 ghost use Rattle.htl_main.specs.Inputs.{DecodeAll, Decodes};
 ghost use Rattle.htl_main.specs.Loading.{AreLoaded};
 ghost use Rattle.htl_main.specs.Origins.{IsBetween, by_fault};
@@ -101,10 +102,14 @@ pub fn add<Rt: Threads + Sync, R: Parted>(
     check_workers(setting.workers)?;
     let decoded = read_all(rt, alloc, setting.form, setting.workers, inputs)?;
     let segments = decoded.segments.len() as u64;
-    let cut = decoded.cut;
     let place = inputs.len() as u64;
     let whole = load_with(alloc, setting.complete, &loaded.case, decoded, place)?;
-    let Loaded { case, coverage, .. } = whole;
+    let Loaded {
+        case,
+        coverage,
+        cut,
+        ..
+    } = whole;
     let new = (case.segments().len() - loaded.case.segments().len()) as u64;
     loaded.case = case;
     loaded.coverage = coverage;
@@ -126,13 +131,18 @@ fn load_with(
     place: u64,
 ) -> Result<Loaded, Refused>
     ensures before { IsCase before.now }
-    ensures ok { IfOk result (λ loaded. AreLoaded (decoded.segments.items ++ before.now.segments)
+    ensures ok { IfOk result (λ loaded. AreLoaded
+        (decoding (decoded.segments.items ++ before.now.segments) decoded.cuts.items)
         None complete None loaded.case loaded.symbols) }
+    ensures cut { IfOk result (λ loaded. (hex : Bool) (inputs : List (List ℕ))
+        → AreCutEnds hex inputs decoded.cuts.items → AreCut hex inputs loaded.cut) }
     ensures coverage { IfOk result (λ loaded. IsCoverage loaded.case loaded.coverage) }
     // Memory is also refused for the copies.
     ensures err { IfErr result (λ refused. (refused.fault ≡ RunFault.Memory)
         ⊎ ((job : Job) → job.setting.complete ≡ complete → job.until ≡ None
-        → IsCauseAfter (decoded.segments.items ++ before.now.segments) None job refused.fault)) }
+        → IsCauseAfter
+        (decoding (decoded.segments.items ++ before.now.segments) decoded.cuts.items)
+        None job refused.fault)) }
     ensures between { IfErr result (λ refused. (form : InputForm) (inputs : List (List ℕ))
         (earlier : List ℕ) → length inputs ≡ place → DecodeAll form inputs decoded.segments.items
         → AreSpans form inputs decoded.segments.items decoded.spans.items
@@ -141,8 +151,7 @@ fn load_with(
 {
     let earlier = copies(alloc, before.segments())?;
     decoded.add_segments(place, earlier)?;
-    let cut = decoded.cut;
-    let case = case_of(alloc, decoded)?;
-    let loaded = with_symbols(alloc, complete, None, case, cut, None)?;
+    let (case, cuts) = case_of(alloc, decoded)?;
+    let loaded = with_symbols(alloc, complete, None, case, &cuts, None)?;
     Ok(loaded)
 }

@@ -8,12 +8,14 @@ ghost use Rattle.htl_case.specs.Faults.{IsRefusal};
 ghost use Rattle.htl_command.specs.declared.question.InputForm.{InputForm};
 ghost use Rattle.htl_command.specs.declared.question.Job.{Job};
 ghost use Rattle.htl_main.specs.Causes.{IsCauseAfter};
+ghost use Rattle.htl_main.specs.CutInputs.{decoding};
 ghost use Rattle.htl_main.specs.Faults.{of_case};
 ghost use Rattle.htl_main.specs.Folding.{IsHalfKnown};
 ghost use Rattle.htl_main.specs.Inputs.{DecodeAll};
 ghost use Rattle.htl_main.specs.Origins.{IsBetween, IsBetweenOf, IsOriginOf};
 ghost use Rattle.htl_main.specs.Spans.{AreSpans};
 
+use crate::cut_inputs::CutEnd;
 use crate::decoded::{Decoded, InputSpan, span_at};
 use crate::fault::RunFault;
 use crate::origin::{Between, Origin};
@@ -23,15 +25,17 @@ use htl_case::{Case, CaseFault};
 use htl_segment::{Segment, copies};
 use std::alloc::Global;
 
-/// The case of decoded segments. `Case::of` drops segments that it refuses, so copies (32 bytes
-/// each) are kept to name the two that conflict. Without memory for copies the case or the fault is
-/// the same.
+/// The case of decoded segments, and which inputs are cut. `Case::of` drops segments that it
+/// refuses, so copies (32 bytes each) are kept to name the two that conflict. Without memory for
+/// copies the case or the fault is the same.
 #[tactic(auto, using(crate::proofs::CaseRefused::cause_of_case))]
-pub(crate) fn case_of(alloc: Global, decoded: Decoded) -> Result<Case, Refused>
-    ensures ok { IfOk result (IsCaseOf decoded.segments.items) }
+pub(crate) fn case_of(alloc: Global, decoded: Decoded) -> Result<(Case, Vec<CutEnd>), Refused>
+    ensures ok { IfOk result (λ of. IsCaseOf decoded.segments.items of.0) }
+    ensures cuts { IfOk result (λ of. of.1 ≡ decoded.cuts) }
     ensures err { IfErr result (λ refused.
         (symbols : Option (List ℕ)) (job : Job)
-        → IsCauseAfter decoded.segments.items symbols job refused.fault) }
+        → IsCauseAfter (decoding decoded.segments.items decoded.cuts.items) symbols job
+        refused.fault) }
     ensures between { IfErr result (λ refused. (form : InputForm) (inputs : List (List ℕ))
         → DecodeAll form inputs decoded.segments.items
         → AreSpans form inputs decoded.segments.items decoded.spans.items
@@ -40,11 +44,11 @@ pub(crate) fn case_of(alloc: Global, decoded: Decoded) -> Result<Case, Refused>
     let Decoded {
         segments,
         spans,
-        ..
+        cuts,
     } = decoded;
     let kept = copies(alloc, &segments);
     match Case::of(alloc, segments) {
-        Ok(case) => Ok(case),
+        Ok(case) => Ok((case, cuts)),
         Err(fault) => Err(Refused {
             fault: RunFault::from(fault),
             between: match kept {

@@ -1,17 +1,21 @@
 //! What a run reports beside the answer that it printed.
 
-ghost use Rattle.std.specs.Prelude.{◌≡◌, ◌==◌, ◌||◌, not};
+ghost use Rattle.std.specs.Prelude.{◌≡◌, ◌==◌, ◌||◌, List, nat_lt, not};
 ghost use Rattle.std.specs.List.{list_any};
+ghost use Rattle.htl_event.specs.Events.{Event};
 ghost use Rattle.htl_event.specs.Moments.{counted_events};
+ghost use Rattle.htl_case.specs.Spans.{IsSpan};
 ghost use Rattle.htl_main.specs.Answers.{has_finding};
 ghost use Rattle.htl_main.specs.Coverages.{IsCoverage};
-ghost use Rattle.htl_main.specs.Subjects.{HasSubject, is_about, names_handle, names_object};
+ghost use Rattle.htl_main.specs.Subjects.{HasAbsence, absence_by, is_about, is_before};
+ghost use Rattle.htl_main.specs.Subjects.{is_below_last, names_handle, names_object, since_of};
 
 use crate::coverage::Coverage;
 use crate::cut_inputs::CutInputs;
 use crate::loading::Loaded;
-use htl_command::{Job, Question};
-use htl_event::{Count, EventList, Kind, ProcessRow, SharedEvent, Until, base};
+use crate::remarks::Remarks;
+use htl_command::{Job, Question, Since};
+use htl_event::{Count, EventList, Kind, ProcessRow, SharedEvent, Span, Until, base};
 use htl_report::Answer;
 use htl_segment::Segment;
 
@@ -22,14 +26,22 @@ pub struct Completed {
     pub coverage: Coverage,
     /// The inputs that ended within a segment.
     pub cut: Option<CutInputs>,
-    /// Whether the question's subject has an event that counts: its process in an event of any
-    /// kind; its object, or its tag of the object, in a reference or a dereference; its handle in
-    /// an open, a close or a bad reference. If it has none, a number may be mistyped. A summary is
-    /// about all events.
-    pub has_subject: bool,
-    /// Whether the answer finds something: any row; for `tags` a tag that doesn't balance; for
-    /// `summary` an unbalanced object, or a process with outstanding handles or bad references.
-    pub has_finding: bool,
+    /// Why nothing can be found of what was asked about, if nothing can.
+    pub absence: Option<Absence>,
+    /// What is told of the answer beside its lines.
+    pub remarks: Remarks,
+}
+
+/// Why nothing can be found of what a question is about. A number may be mistyped.
+#[derive(Clone, Copy, Debug, PartialEq, Eq)]
+pub enum Absence {
+    /// The question's subject has no event that counts: its process has none of any kind; its
+    /// object, or its tag of the object, no reference or dereference; its handle no open, close or
+    /// bad reference. A summary is about all events.
+    Subject,
+    /// The sequence since which is asked isn't below the last one of the trace, or isn't below the
+    /// moment: no event that counts comes later.
+    Later,
 }
 
 /// Whether the answer finds something.
@@ -70,17 +82,81 @@ fn has_use(processes: &[ProcessRow]) -> bool
         .any(|row| row.outstanding != 0 || row.bad != 0)
 }
 
-/// Whether an event that counts is of what the job's question is about. It stops at the first such
-/// event.
-pub fn has_subject(job: &Job, loaded: &Loaded) -> bool
+/// Why nothing can be found of what the job's question is about, if nothing can. It looks at events
+/// up to the first of the question's subject.
+pub fn absence_of(job: &Job, loaded: &Loaded) -> Option<Absence>
     ensures { IsCoverage loaded.now.case loaded.now.coverage
-        → HasSubject loaded.now.case job.now result }
+        → HasAbsence loaded.now.case job.now result }
 {
-    any_about(
-        job.question,
-        loaded.moment(job.until),
-        loaded.case.segments(),
-    )
+    let until = loaded.moment(job.until);
+    let has_subject = any_about(job.question, until, loaded.case.segments());
+    absence_by(has_subject, job.question, until, loaded.case.span())
+}
+
+/// Why nothing can be found of what a question is about, by whether its subject has an event that
+/// counts, and by the span of all events.
+pub(crate) fn absence_by(
+    has_subject: bool,
+    question: Question,
+    until: Option<u64>,
+    span: Option<Span>,
+) -> Option<Absence>
+    ensures { (events : List Event) → IsSpan events span
+        → result ≡ absence_by has_subject question until events }
+{
+    if !has_subject {
+        return Some(Absence::Subject);
+    }
+    match since_of(question) {
+        Some(since) if !is_below_last(until, span, since) => Some(Absence::Later),
+        _ => None,
+    }
+}
+
+/// The sequence after which the question asks, where it is given as a number.
+pub fn since_of(question: Question) -> Option<u64>
+    ensures { result ≡ since_of question }
+{
+    match question {
+        Question::Diff {
+            since: Since::Sequence(since),
+            ..
+        }
+        | Question::Leaks {
+            since: Some(Since::Sequence(since)),
+            ..
+        } => Some(since),
+        _ => None,
+    }
+}
+
+/// Whether the sequence is below the last of the span, and below the moment where one is given.
+fn is_below_last(until: Option<u64>, span: Option<Span>, sequence: u64) -> bool
+    ensures { (events : List Event) → IsSpan events span
+        → result ≡ is_below_last until events sequence }
+{
+    is_before(until, sequence) && has_later(span, sequence)
+}
+
+/// Whether the span goes on after the sequence.
+fn has_later(span: Option<Span>, sequence: u64) -> bool
+    ensures { (events : List Event) → IsSpan events span
+        → result ≡ list_any (λ e. nat_lt sequence e.sequence) events }
+{
+    match span {
+        Some(span) => sequence < span.last,
+        None => false,
+    }
+}
+
+/// Whether the sequence is below the moment, as each is where none is given.
+fn is_before(until: Option<u64>, sequence: u64) -> bool
+    ensures { result ≡ is_before until sequence }
+{
+    match until {
+        Some(moment) => sequence < moment,
+        None => true,
+    }
 }
 
 /// Whether a segment has an event of what the question is about, up to a moment.

@@ -1,15 +1,21 @@
-//! How much of its trace a case has, by the outlines of its segments.
+//! How much of its trace a case has, by the outlines of its segments, or an analyst.
 
-ghost use Rattle.std.specs.Prelude.{◌≡◌, ◌<◌, ◌≤◌, ◌++◌, take, All, OnOk};
+ghost use Rattle.std.specs.Prelude.{◌≡◌, ◌<◌, ◌≤◌, ◌++◌, ℕ, take, All, IfOk, OnOk};
 ghost use Rattle.std.specs.List.Sorted.{IsNonDecreasingBy};
 ghost use Rattle.htl_taken.specs.GapLists.{gaps_from, gaps_of};
 ghost use Rattle.htl_taken.specs.Rising.{reach_from};
-ghost use Rattle.htl_main.specs.CaseOutlines.{greatest_from, numbers_of};
+ghost use Rattle.htl_segment.specs.Traces.{Trace};
+ghost use Rattle.htl_main.specs.CaseOutlines.{AreFrontsOf, AreOutlinesOf, greatest_from, lesser};
+ghost use Rattle.htl_main.specs.CaseOutlines.{numbers_of};
 ghost use Rattle.htl_main.specs.Moments.{is_above};
 
+use crate::cut_inputs::CutEnd;
+use crate::fault::RunFault;
+use htl_analyst::Analyst;
 use htl_case::{Case, PickedCase};
 use htl_command::Moment;
 use htl_event::NoMemory;
+use htl_reading::SegmentName;
 use htl_segment::Outline;
 use htl_taken::Gap;
 use std::alloc::Global;
@@ -63,25 +69,32 @@ pub(crate) fn is_above(until: Option<Moment>, sequence: u64) -> bool
     }
 }
 
-/// What is missing of a case's trace.
+/// What is missing of a trace.
 #[derive(Drop)]
 pub(crate) struct Missed {
+    /// The identity of the trace.
+    pub trace_id: u64,
     /// The gaps by processor: each longest run of missing numbers below one that is there, or that
     /// the processor has no segment.
     pub gaps: Vec<Gap>,
+    /// The first missing number of each processor.
+    pub fronts: Vec<u32>,
     /// The sequence up to which no segment is missing.
     pub complete_to: u64,
 }
 
 impl Missed {
-    ghost use Rattle.std.specs.Prelude.{IfNone, IfOk, IfSome, List};
+    ghost use Rattle.std.specs.Prelude.{◌<◌, ℕ, All, IfNone, IfOk, IfSome, List, Some};
     ghost use Rattle.htl_event.specs.declared.interest.Interest.{Interest};
     ghost use Rattle.htl_segment.specs.Content.{Content};
     ghost use Rattle.htl_segment.specs.Traces.{Trace};
-    ghost use Rattle.htl_main.specs.CaseOutlines.{AreOutlinesOf, IsMissed};
-    ghost use Rattle.htl_main.specs.Completeness.{IsComplete, IsLeastMissing};
+    ghost use Rattle.htl_case.specs.Complete.{IsFirstMissing};
+    ghost use Rattle.htl_main.specs.CaseOutlines.{AreOutlinesOf, IsFirstShort, IsMissed, IsShortUpTo};
+    ghost use Rattle.htl_main.specs.Completeness.{IsComplete, IsFirstUnknown, IsKnown, IsLeastMissing};
+    ghost use Rattle.htl_main.specs.Completeness.{IsOfKey, Misses, ReportsMissing};
     ghost use Rattle.htl_main.specs.Coverages.{IsCoverage};
-    ghost use Rattle.htl_main.specs.Picking.{IsPickedFor};
+    ghost use Rattle.htl_main.specs.Folding.{AreFolded, IsCollectionOf};
+    ghost use Rattle.htl_main.specs.Picking.{IsPickedFor, NamesMissing};
 
     /// What the case misses, by the outlines of its segments.
     pub fn of_case(alloc: Global, case: &Case) -> Result<Missed, NoMemory>
@@ -107,15 +120,39 @@ impl Missed {
             → IsMissed T missed) }
     {
         let mut gaps = Vec::new(alloc);
+        let mut fronts = Vec::new(alloc);
         let mut complete_to = u64::MAX;
         let mut rest = outlines;
         for processor in 0..processors {
             let (own, after) = split_at_processor(rest, processor);
             add_gaps(&mut gaps, processor, own)?;
-            complete_to = greatest_last(unbroken(own)).min(complete_to);
+            let first = unbroken(own);
+            fronts.push(first.len().min(u32::MAX as usize) as u32)?;
+            complete_to = greatest_last(first).min(complete_to);
             rest = after;
         }
-        Ok(Missed { gaps, complete_to })
+        Ok(Missed {
+            trace_id: trace_id(outlines),
+            gaps,
+            fronts,
+            complete_to,
+        })
+    }
+
+    /// What is missing of the trace that an analyst took, which folded all that it can.
+    pub fn of_analyst(alloc: Global, analyst: &Analyst<Global>) -> Result<Missed, NoMemory>
+        ensures { IfOk result (λ missed. (segments : List Content) (T : Trace)
+            → AreFolded (Some analyst.now) segments → IsCollectionOf segments T
+            → IsMissed T missed) }
+    {
+        let gaps = analyst.gaps(alloc)?;
+        let fronts = fronts(alloc, analyst)?;
+        Ok(Missed {
+            trace_id: analyst.trace_id(),
+            gaps,
+            fronts,
+            complete_to: analyst.complete_to(),
+        })
     }
 
     /// How much of its trace the case has.
@@ -128,17 +165,130 @@ impl Missed {
         }
     }
 
-    /// The least missing key: the first processor with a gap, and its first missing number.
-    #[tactic(auto, using(crate::proofs::Missing::complete))]
-    pub fn first(&self) -> Option<(u16, u32)>
-        ensures some { IfSome result (λ key. (T : Trace) → IsMissed T self.now
-            → IsLeastMissing T key.0 key.1) }
-        ensures none { IfNone result ((T : Trace) → IsMissed T self.now → IsComplete T) }
+    /// Why the trace isn't complete, where these inputs are cut: the least missing key, or else the
+    /// first input that is cut within a segment of which it isn't known which it is.
+    pub fn fault(&self, cuts: &[CutEnd]) -> Option<RunFault>
+        ensures some { IfSome result (λ fault. (T : Trace) → IsMissed T self.now
+            → ReportsMissing T cuts.now fault) }
+        ensures names { IfSome result NamesMissing }
+        ensures none { IfNone result ((T : Trace) → IsMissed T self.now → IsComplete T cuts.now) }
     {
-        let gap = self.gaps.first()?;
-        let number = gap.first();
-        Some((gap.processor(), number))
+        let Some((processor, number)) = self.least(cuts) else {
+            let input = self.first_unknown(cuts)?;
+            return Some(RunFault::UnknownCut { input });
+        };
+        Some(RunFault::Incomplete { processor, number })
     }
+
+    /// The least missing key, where these inputs are cut: the first processor that misses a segment,
+    /// and its first missing number.
+    pub fn least(&self, cuts: &[CutEnd]) -> Option<(u16, u32)>
+        ensures some { IfSome result (λ key. (T : Trace) → IsMissed T self.now
+            → IsLeastMissing T cuts.now key.0 key.1) }
+        ensures none { IfNone result ((T : Trace) → IsMissed T self.now
+            → (p : ℕ) → Misses T cuts.now p → ⊥) }
+    {
+        let processor = self.first_short(cuts)?;
+        Some((processor, self.front(processor)))
+    }
+
+    /// The first missing number of a processor.
+    fn front(&self, processor: u16) -> u32
+        ensures { (T : Trace) → IsMissed T self.now → processor < T.processors
+            → IsFirstMissing T processor result }
+    {
+        match self.fronts.get(usize::from(processor)) {
+            Some(front) => *front,
+            None => 0,
+        }
+    }
+
+    /// The first processor that misses a segment.
+    fn first_short(&self, cuts: &[CutEnd]) -> Option<u16>
+        ensures { (T : Trace) → IsMissed T self.now → IsFirstShort T cuts.now result }
+    {
+        let mut first = match self.gaps.first() {
+            Some(gap) => Some(gap.processor()),
+            None => None,
+        };
+        for cut in cuts {
+            first = lesser(first, self.short_up_to(cut));
+        }
+        first
+    }
+
+    /// Where the input is cut within a segment of the trace: its processor, if it misses a segment up
+    /// to this one.
+    fn short_up_to(&self, cut: &CutEnd) -> Option<u16>
+        ensures { (T : Trace) → IsMissed T self.now → IsShortUpTo T cut.now result }
+    {
+        let name = self.known(cut)?;
+        let front = *self.fronts.get(usize::from(name.processor))?;
+        if name.number < front {
+            return None;
+        }
+        Some(name.processor)
+    }
+
+    /// The name of the segment that the input is cut within, if it is one of the trace.
+    fn known(&self, cut: &CutEnd) -> Option<SegmentName>
+        ensures some { IfSome result (λ name. (T : Trace) → IsMissed T self.now
+            → IsOfKey T cut.now name.processor name.number) }
+        ensures none { IfNone result ((T : Trace) → IsMissed T self.now → IsKnown T cut.now → ⊥) }
+    {
+        let name = cut.name?;
+        let is_ours = name.trace_id == self.trace_id
+            && usize::from(name.processors) == self.fronts.len();
+        if is_ours { Some(name) } else { None }
+    }
+
+    /// The first input that is cut within a segment of which it isn't known which it is.
+    fn first_unknown(&self, cuts: &[CutEnd]) -> Option<u64>
+        ensures some { IfSome result (λ input. (T : Trace) → IsMissed T self.now
+            → ((p : ℕ) → Misses T cuts.now p → ⊥) → IsFirstUnknown T cuts.now input) }
+        ensures none { IfNone result ((T : Trace) → IsMissed T self.now
+            → All (IsKnown T) cuts.now) }
+    {
+        for cut in cuts {
+            if self.known(cut).is_none() {
+                return Some(cut.input);
+            }
+        }
+        None
+    }
+}
+
+/// The lesser of two processors, of which either may be none.
+fn lesser(one: Option<u16>, other: Option<u16>) -> Option<u16>
+    ensures { result ≡ lesser one other }
+{
+    match (one, other) {
+        (Some(one), Some(other)) => Some(if one < other { one } else { other }),
+        (one, None) => one,
+        (None, other) => other,
+    }
+}
+
+/// The identity of the trace of these outlines.
+fn trace_id(outlines: &[Outline]) -> u64
+    ensures { (T : Trace) (processors : ℕ) → AreOutlinesOf processors outlines.now T
+        → result ≡ T.id }
+{
+    match outlines.first() {
+        Some(outline) => outline.trace_id,
+        None => 0,
+    }
+}
+
+/// The front of each processor of an analyst.
+fn fronts(alloc: Global, analyst: &Analyst<Global>) -> Result<Vec<u32>, NoMemory>
+    ensures { IfOk result (λ fronts. AreFrontsOf analyst.now analyst.now.processors fronts.items) }
+{
+    let mut fronts = Vec::new(alloc);
+    for processor in 0..analyst.processors() {
+        fronts.push(analyst.front(processor))?;
+    }
+    Ok(fronts)
 }
 
 /// Adds the gaps of a processor with these outlines.

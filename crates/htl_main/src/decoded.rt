@@ -1,13 +1,13 @@
 //! The segments of inputs, and which input each is of.
 
-ghost use Rattle.std.specs.Prelude.{◌≡◌, ◌<◌, ℕ, List, ◌++◌, [], length, slice_get, Some};
+ghost use Rattle.std.specs.Prelude.{◌≡◌, ◌≢◌, ◌<◌, ◌⊎◌, ℕ, List, ◌++◌, [], length, slice_get, Some};
 ghost use Rattle.std.specs.Prelude.{OnErr, OnOk, None};
 ghost use Rattle.htl_command.specs.declared.question.InputForm.{InputForm};
-ghost use Rattle.htl_main.specs.Ends.{OthersFit, with_input as with_input_of};
+ghost use Rattle.htl_main.specs.CutInputs.{cut_ends_at};
 ghost use Rattle.htl_main.specs.Inputs.{Decodes};
 ghost use Rattle.htl_main.specs.Spans.{AreSpans, span_at};
 
-use crate::cut_inputs::{Accepted, CutInputs, with_input};
+use crate::cut_inputs::{Accepted, CutEnd, add_end};
 use htl_event::NoMemory;
 use htl_segment::Segment;
 use std::alloc::Global;
@@ -25,7 +25,7 @@ pub(crate) struct InputSpan {
 pub(crate) struct Decoded {
     pub segments: Vec<Segment>,
     pub spans: Vec<InputSpan>,
-    pub cut: Option<CutInputs>,
+    pub cuts: Vec<CutEnd>,
 }
 
 impl Decoded {
@@ -35,28 +35,29 @@ impl Decoded {
         ensures segments { result.segments.items ≡ [] }
         ensures spans { (form : InputForm) (inputs : List (List ℕ))
             → AreSpans form inputs result.segments.items result.spans.items }
-        ensures cut { result.cut ≡ None }
+        ensures cuts { result.cuts.items ≡ [] }
     {
         Decoded {
             segments: Vec::new(alloc),
             spans: Vec::new(alloc),
-            cut: None,
+            cuts: Vec::new(alloc),
         }
     }
 
     /// Adds the input at this place.
     pub fn add(&mut self, place: u64, more: Accepted<Vec<Segment>>) -> Result<(), NoMemory>
-        requires few { OthersFit self.old.cut place }
         ensures segments { OnOk result
             (self.new.segments.items ≡ self.old.segments.items ++ more.segments.items) }
         ensures spans { OnOk result ((form : InputForm) (inputs : List (List ℕ)) (text : List ℕ)
             → slice_get inputs place ≡ Some text → Decodes form text more.segments.items
             → AreSpans form inputs self.old.segments.items self.old.spans.items
             → AreSpans form inputs self.new.segments.items self.new.spans.items) }
-        ensures cut { self.new.cut ≡ with_input_of more.is_cut place self.old.cut }
-        ensures full { OnErr result (0 < length more.segments.items) }
+        ensures cuts { OnOk result (self.new.cuts.items
+            ≡ self.old.cuts.items ++ cut_ends_at place more.end) }
+        ensures full { OnErr result
+            ((0 < length more.segments.items) ⊎ (more.end ≢ None)) }
     {
-        self.cut = with_input(self.cut, place, more.is_cut);
+        add_end(&mut self.cuts, place, more.end)?;
         self.add_segments(place, more.segments)?;
         Ok(())
     }
@@ -69,7 +70,7 @@ impl Decoded {
             → slice_get inputs input ≡ Some text → Decodes form text more.items
             → AreSpans form inputs self.old.segments.items self.old.spans.items
             → AreSpans form inputs self.new.segments.items self.new.spans.items) }
-        ensures kept { self.new.cut ≡ self.old.cut }
+        ensures kept { self.new.cuts ≡ self.old.cuts }
         ensures full { OnErr result (0 < length more.items) }
     {
         if more.is_empty() {

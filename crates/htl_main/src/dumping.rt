@@ -22,7 +22,7 @@ use crate::fault::RunFault;
 use crate::printing::write_lines;
 use htl_command::InputForm;
 use htl_device::{MAX_READ_LEN, MAX_READS, MIN_READ_LEN, Sink, Source, read_whole};
-use htl_reading::early_end;
+use htl_reading::{EarlyEnd, early_end};
 use htl_segment::{SegmentBytes, from_hex};
 use htl_text::dump;
 use std::alloc::Global;
@@ -57,8 +57,8 @@ pub fn dump_from<R: Source, W: Sink>(
 {
     let mut cut = None;
     for (place, source) in inputs.iter_mut().enumerate() {
-        let is_cut = dump_input(alloc, form, place as u64, source, out)?;
-        cut = with_input(cut, place as u64, is_cut);
+        let end = dump_input(alloc, form, place as u64, source, out)?;
+        cut = with_input(cut, place as u64, end.is_some());
     }
     Ok(cut)
 }
@@ -71,12 +71,12 @@ fn dump_input<R: Source, W: Sink>(
     place: u64,
     source: &mut R,
     out: &mut W,
-) -> Result<bool, RunFault>
+) -> Result<Option<EarlyEnd>, RunFault>
     requires fresh { R.has_failed source.old ≡ false }
     requires inside { R.has_ended source.old ≡ false }
     requires out { W.has_failed out.old ≡ false }
-    ensures ok { IfOk result (λ is_cut. IfSome (R.remaining source.old) (λ bytes.
-        DumpsInput form bytes is_cut (W.contents out.old) (W.contents out.new))) }
+    ensures ok { IfOk result (λ end. IfSome (R.remaining source.old) (λ bytes.
+        DumpsInput form bytes end (W.contents out.old) (W.contents out.new))) }
     ensures stops { IfErr result (λ fault. IfSome (R.remaining source.old) (λ bytes.
         InputStops form (R.remaining source.new) (R.has_ended source.new) place bytes
         (W.contents out.old) (W.contents out.new) fault)) }
@@ -101,11 +101,11 @@ fn dump_text<W: Sink>(
     place: u64,
     text: &[u8],
     out: &mut W,
-) -> Result<bool, RunFault>
+) -> Result<Option<EarlyEnd>, RunFault>
     requires out { W.has_failed out.old ≡ false }
     requires digits { form.hex ≡ true }
-    ensures ok { IfOk result (λ is_cut.
-        DumpsInput form text.now is_cut (W.contents out.old) (W.contents out.new)) }
+    ensures ok { IfOk result (λ end.
+        DumpsInput form text.now end (W.contents out.old) (W.contents out.new)) }
     ensures stops { IfErr result (λ fault. (left : Option (List ℕ)) (ended : Bool)
         → InputStops form left ended place text.now
         (W.contents out.old) (W.contents out.new) fault) }
@@ -126,10 +126,11 @@ fn dump_whole<W: Sink>(
     place: u64,
     bytes: &[u8],
     out: &mut W,
-) -> Result<bool, RunFault>
+) -> Result<Option<EarlyEnd>, RunFault>
     requires { W.has_failed out.old ≡ false }
-    ensures ok { IfOk result (λ is_cut. (rest : List ℕ) × IsEnd form rest is_cut
-        × FrontDumped bytes.now rest (W.contents out.old) (W.contents out.new)) }
+    ensures ok { IfOk result (λ end. (rest : List ℕ)
+        × (front : FrontDumped bytes.now rest (W.contents out.old) (W.contents out.new))
+        × IsEnd form front.segments rest end) }
     ensures stops { IfErr result (λ fault.
         WholeStops form place bytes.now (W.contents out.old) (W.contents out.new) fault) }
     ensures failed { W.has_failed out.new ≡ is_failed_write result }
@@ -147,15 +148,15 @@ fn dump_within<R: Source, W: Sink>(
     buffer: &mut [u8],
     most: u64,
     out: &mut W,
-) -> Result<bool, RunFault>
+) -> Result<Option<EarlyEnd>, RunFault>
     requires fresh { R.has_failed source.old ≡ false }
     requires inside { R.has_ended source.old ≡ false }
     requires out { W.has_failed out.old ≡ false }
     requires whole { length buffer.old ≡ MIN_READ_LEN }
     requires few { most * MAX_READ_LEN < 2 ^ 64 }
     requires bytes { form.hex ≡ false }
-    ensures ok { IfOk result (λ is_cut. IfSome (R.remaining source.old) (λ bytes.
-        DumpsInput form bytes is_cut (W.contents out.old) (W.contents out.new))) }
+    ensures ok { IfOk result (λ end. IfSome (R.remaining source.old) (λ bytes.
+        DumpsInput form bytes end (W.contents out.old) (W.contents out.new))) }
     ensures stops { IfErr result (λ fault. IfSome (R.remaining source.old) (λ bytes.
         InputStops form (R.remaining source.new) (R.has_ended source.new) place bytes
         (W.contents out.old) (W.contents out.new) fault)) }
@@ -197,11 +198,16 @@ fn keep_last(bytes: &mut Vec<u8>, count: usize)
 }
 
 /// Ends the input at this place, whose bytes from this offset on make no whole segment. Returns
-/// whether it was cut within a segment.
-fn finish(form: InputForm, place: u64, offset: u64, rest: &[u8]) -> Result<bool, RunFault>
+/// where it was cut within a segment.
+fn finish(
+    form: InputForm,
+    place: u64,
+    offset: u64,
+    rest: &[u8],
+) -> Result<Option<EarlyEnd>, RunFault>
     requires { IsRest rest.now }
     ensures ok { (segments : List Content) → offset ≡ length (bundle segments)
-        → IfOk result (IsEnd form rest.now) }
+        → IfOk result (IsEnd form segments rest.now) }
     ensures stops { (segments : List Content) → offset ≡ length (bundle segments)
         → IfErr result (IsEndRefused form place offset rest.now) }
     ensures segment { IfErr result (IsSegmentOf place) }

@@ -3,7 +3,7 @@
 use htl_case::CaseFault;
 use htl_device::ReadFault;
 use htl_event::NoMemory;
-use htl_reading::SourceFault;
+use htl_reading::{DigitsFault, SourceFault};
 use htl_segment::{Fault, HexFault};
 use htl_symbols::SymbolFault;
 use htl_text::{LineFault, TextFault, event_line};
@@ -73,24 +73,34 @@ pub enum RunFault {
     /// The system refused to start a worker. No run reports it, since each can do without threads.
     #[error("hleak: no thread")]
     NoThread,
+    /// A complete case was asked for, and no segment is known to be missing, but this input is cut
+    /// within one, and which one isn't known: it ends within the header, or the segment is of
+    /// another trace.
+    #[error("hleak: case: C10({input})")]
+    UnknownCut {
+        input: u64,
+    },
 }
 
 impl RunFault {
     ghost use Rattle.std.specs.Prelude.{◌≡◌};
-    ghost use Rattle.htl_main.specs.Faults.{of_hex, of_read, of_segment, of_source, of_text};
+    ghost use Rattle.htl_main.specs.Faults.{of_digits, of_hex, of_read, of_segment, of_source, of_text};
     ghost use Rattle.htl_main.specs.Statuses.{status_of};
 
     /// The exit status of the program: 2 for a wrong command, 3 for malformed input, 4 if the
     /// inputs don't form a case, or not the complete one that was asked for, or the subject has no
-    /// event, 5 if a device failed, 6 if memory or a thread was refused, and 7 for malformed
-    /// symbols. A run without a fault has status 0.
+    /// event, 5 if a device failed, 6 if memory was refused, and 7 for malformed symbols. A run
+    /// without a fault has status 0.
     pub fn status(&self) -> u8
         ensures { result ≡ status_of self.now }
     {
         match self {
             RunFault::Workers => 2,
             RunFault::Segment { .. } | RunFault::Hex { .. } | RunFault::Text { .. } => 3,
-            RunFault::Case(_) | RunFault::Incomplete { .. } | RunFault::NoSubject => 4,
+            RunFault::Case(_)
+            | RunFault::Incomplete { .. }
+            | RunFault::UnknownCut { .. }
+            | RunFault::NoSubject => 4,
             RunFault::Read { .. } | RunFault::SymbolsRead | RunFault::Write => 5,
             RunFault::Memory | RunFault::NoThread => 6,
             RunFault::Symbols(_) => 7,
@@ -128,6 +138,20 @@ impl RunFault {
         match fault {
             ReadFault::NoMemory => RunFault::Memory,
             ReadFault::Failed => RunFault::Read { input },
+        }
+    }
+
+    /// Why the reading of an input of digits ended.
+    pub(crate) fn from_digits(input: u64, fault: DigitsFault) -> RunFault
+        ensures { result ≡ of_digits input fault }
+    {
+        match fault {
+            DigitsFault::Foreign(place) => RunFault::Hex {
+                input,
+                fault: HexFault::BadDigit(place),
+            },
+            DigitsFault::Read => RunFault::Read { input },
+            DigitsFault::NoMemory => RunFault::Memory,
         }
     }
 

@@ -1,21 +1,27 @@
 //! Answers over what was folded.
 
-ghost use Rattle.std.specs.Prelude.{◌≡◌, [], IfOk, List, None, Some, false};
+ghost use Rattle.std.specs.Prelude.{◌≡◌, ◌≢◌, [], IfErr, IfOk, List, None, OnOk, Some, false, true};
 ghost use Rattle.htl_command.specs.Needs.{is_of_events, needs_events};
 ghost use Rattle.htl_command.specs.declared.question.Question.TheVariants as questions;
 ghost use Rattle.htl_segment.specs.Content.{Content};
 ghost use Rattle.htl_segment.specs.Traces.{Trace, all_events};
 ghost use Rattle.htl_event.specs.Summaries.{IsNumberOfObjects};
 ghost use Rattle.htl_main.specs.Answers.{IsAnswer};
+ghost use Rattle.htl_main.specs.Asked.{IsUnasked};
+ghost use Rattle.htl_main.specs.Completeness.{IsComplete};
 ghost use Rattle.htl_main.specs.Folding.{AreFolded, IsAskedOver, IsCollectionOf};
 ghost use Rattle.htl_main.specs.Printed.{IsText};
+ghost use Rattle.htl_main.specs.Remarks.{RemarksOver};
 ghost use Rattle.htl_main.specs.Summaries.{AreTotals};
 
 use crate::answering::answer_of;
+use crate::coverage::Missed;
+use crate::fault::RunFault;
 use crate::folding::Folded;
-use crate::printing::lines;
+use crate::printing::{AnswerText, lines};
+use crate::remarks::remarks_on;
 use htl_analyst::Analyst;
-use htl_command::{Job, Question};
+use htl_command::{Job, Question, Setting};
 use htl_event::NoMemory;
 use htl_report::{Answer, Totals};
 use htl_summary::{Objects, Summary, summarize};
@@ -23,26 +29,56 @@ use std::alloc::Global;
 use std::thread::Threads;
 
 /// Answers the job's question from what was folded, with the lines that a run over all segments
-/// taken so far prints. Before the first segment there are no lines. `workers` counts here, and not
-/// the job's own number, which a line of a dialogue can't give.
+/// taken so far prints. Before the first segment there are no lines. The setting counts here, and
+/// not the job's own, which a line of a dialogue can't give: where it asks for a complete trace,
+/// nothing is answered while a segment is missing, and the least missing key is reported.
 pub fn folded_text(
     rt: &(impl Threads + Sync),
     alloc: Global,
-    workers: u32,
+    setting: Setting,
     job: &Job,
     folded: &Folded,
-) -> Result<Vec<u8>, NoMemory>
+) -> Result<AnswerText, RunFault>
     requires { needs_events job.now ≡ false }
     ensures text { IfOk result (λ text. (segments : List Content) (T : Trace)
         → AreFolded folded.now.analyst segments → IsAskedOver job.now.question segments T
-        → IsText T folded.now.symbols job.now text.items) }
-    ensures none { folded.now.analyst ≡ None → IfOk result (λ text. text.items ≡ []) }
+        → IsText T folded.now.symbols job.now text.lines.items) }
+    ensures remarks { IfOk result (λ text. (segments : List Content) (T : Trace)
+        → AreFolded folded.now.analyst segments → IsAskedOver job.now.question segments T
+        → RemarksOver T folded.now.symbols job.now text.remarks) }
+    ensures none { folded.now.analyst ≡ None → IfOk result (λ text. text.lines.items ≡ []) }
+    ensures whole { OnOk result (setting.complete ≡ true → (segments : List Content) (T : Trace)
+        → AreFolded folded.now.analyst segments → segments ≢ [] → IsCollectionOf segments T
+        → IsComplete T []) }
+    ensures err { IfErr result (IsUnasked setting.complete folded.now.analyst) }
 {
     let Some(analyst) = &folded.analyst else {
-        return Ok(Vec::new(alloc));
+        return Ok(AnswerText::none(alloc));
     };
-    let answer = answer(rt, alloc, workers, job.question, analyst)?;
-    lines(alloc, job, None, &answer, &folded.symbols)
+    check_complete(alloc, setting.complete, analyst)?;
+    let answer = answer(rt, alloc, setting.workers, job.question, analyst)?;
+    let lines = lines(alloc, job, None, &answer, &folded.symbols)?;
+    Ok(AnswerText {
+        lines,
+        remarks: remarks_on(job, &answer, &folded.symbols),
+    })
+}
+
+/// Where a complete trace is asked for, reports the least key that is missing of what an analyst
+/// took, if one is.
+fn check_complete(alloc: Global, complete: bool, analyst: &Analyst<Global>) -> Result<(), RunFault>
+    ensures ok { OnOk result (complete ≡ true → (segments : List Content) (T : Trace)
+        → AreFolded (Some analyst.now) segments → IsCollectionOf segments T → IsComplete T []) }
+    ensures err { IfErr result (IsUnasked complete (Some analyst.now)) }
+{
+    if !complete {
+        return Ok(());
+    }
+    let missed = Missed::of_analyst(alloc, analyst)?;
+    match missed.least(&[]) {
+        Some((processor, number)) => Err(RunFault::Incomplete { processor, number }),
+        None => Ok(()),
+    }
 }
 
 /// The answer of an analyst to a question that needs no events.

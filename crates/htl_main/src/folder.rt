@@ -15,9 +15,9 @@ use htl_segment::{Keeper, Segment, SegmentBytes, StackCache};
 use std::alloc::Global;
 use std::thread::Threads;
 
-/// The least number of events and segments that starts a fold. Those of one more read are held on
-/// top, or of one more round of several workers, or of a whole text in hexadecimal. An event
-/// takes 48 bytes and its stack, which equal stacks share.
+/// Fold once this many events and segments are held. One more read may come on top, or one more
+/// round of several workers, or a whole text in hexadecimal. An event takes 48 bytes and its stack,
+/// which equal stacks share.
 const FEW_HELD: u64 = 1 << 20;
 
 /// Takes segments into an analyst, up to the first that is unfit, and has it fold what it holds.

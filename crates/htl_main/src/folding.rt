@@ -3,8 +3,6 @@
 ghost use Rattle.std.specs.Prelude.{◌≡◌, [], ℕ, List, All, Some, None, false, true, map};
 ghost use Rattle.std.specs.Prelude.{IfErr, IfOk, OnOk};
 ghost use Rattle.std.specs.Option.{option_copied};
-ghost use Rattle.htl_analyst.specs.Keys.{HasTaken};
-ghost use Rattle.htl_taken.specs.Gaps.{IsGaps};
 ghost use Rattle.htl_segment.specs.Content.{Content};
 ghost use Rattle.htl_segment.specs.Traces.{Trace};
 ghost use Rattle.htl_main.specs.Completeness.{IsComplete};
@@ -19,9 +17,10 @@ ghost use Rattle.htl_main.specs.Readings.{AreRead};
 ghost use Rattle.htl_main.specs.Reads.{NeverWrite};
 
 use crate::adding::Added;
-use crate::coverage::Coverage;
+use crate::coverage::{Coverage, Missed};
+use crate::cut_inputs::{CutEnd, cut_inputs};
 use crate::fault::RunFault;
-use crate::printing::{check_workers, read_symbols};
+use crate::printing::{check_gaps, check_workers, read_symbols};
 use crate::refused::Refused;
 use crate::taking::{Taken, take_all};
 use htl_analyst::Analyst;
@@ -29,7 +28,6 @@ use htl_case::CaseFault;
 use htl_command::Setting;
 use htl_device::Parted;
 use htl_symbols::Symbols;
-use htl_taken::Gap;
 use std::alloc::Global;
 use std::thread::Threads;
 
@@ -148,18 +146,18 @@ fn added_to(
     taken: Taken,
 ) -> Result<Added, RunFault>
     ensures ok { IfOk result (IsAddedToFolded complete folded.now.analyst before taken.segments
-        taken.cut) }
-    ensures err { IfErr result (IsNotAdded complete folded.now.analyst) }
+        taken.cuts.items) }
+    ensures err { IfErr result (IsNotAdded complete taken.cuts.items folded.now.analyst) }
 {
     let Some(analyst) = &folded.analyst else {
         return Err(RunFault::Case(CaseFault::Empty));
     };
-    let coverage = coverage_of(alloc, complete, analyst)?;
+    let coverage = coverage_of(alloc, complete, analyst, &taken.cuts)?;
     Ok(Added {
         segments: taken.segments,
         new: analyst.taken().saturating_sub(before),
         coverage,
-        cut: taken.cut,
+        cut: cut_inputs(&taken.cuts),
     })
 }
 
@@ -172,39 +170,20 @@ fn symbols_of(alloc: Global, symbols: Option<&[u8]>) -> Result<Symbols, RunFault
     Ok(symbols)
 }
 
-/// How much of its trace an analyst has. A gap is refused where a complete trace is asked for.
+/// How much of its trace an analyst has. One that isn't complete is refused where a complete trace is
+/// asked for.
 fn coverage_of(
     alloc: Global,
     complete: bool,
     analyst: &Analyst<Global>,
+    cuts: &[CutEnd],
 ) -> Result<Coverage, RunFault>
     ensures ok { IfOk result (λ coverage. (segments : List Content) (T : Trace)
         → AreFolded (Some analyst.now) segments → IsCollectionOf segments T
-        → IsCoverage T coverage × (complete ≡ true → IsComplete T)) }
-    ensures err { IfErr result (IsMissingOf complete analyst.now) }
+        → IsCoverage T coverage × (complete ≡ true → IsComplete T cuts.now)) }
+    ensures err { IfErr result (IsMissingOf complete cuts.now analyst.now) }
 {
-    let gaps = analyst.gaps(alloc)?;
-    if complete {
-        check_gaps(analyst, &gaps)?;
-    }
-    Ok(Coverage {
-        gaps: gaps.len() as u64,
-        complete_to: analyst.complete_to(),
-    })
-}
-
-/// Reports the first gap of an analyst that has folded all that it can.
-fn check_gaps(analyst: &Analyst<Global>, gaps: &[Gap]) -> Result<(), RunFault>
-    requires { IsGaps (HasTaken analyst.now) analyst.now.processors gaps.now }
-    ensures ok { OnOk result (gaps.now ≡ []) }
-    ensures err { IfErr result (IsMissingOf true analyst.now) }
-{
-    let Some(gap) = gaps.first() else {
-        return Ok(());
-    };
-    let processor = gap.processor();
-    Err(RunFault::Incomplete {
-        processor,
-        number: analyst.front(processor),
-    })
+    let missed = Missed::of_analyst(alloc, analyst)?;
+    check_gaps(complete, None, &missed, cuts)?;
+    Ok(missed.coverage())
 }

@@ -1,7 +1,7 @@
 //! The segments of inputs that lie in memory.
 
 ghost use Rattle.std.specs.Prelude.{ℕ, List, IfOk, IfErr, map};
-ghost use Rattle.htl_main.specs.CutInputs.{AreCut};
+ghost use Rattle.htl_main.specs.CutInputs.{AreCutEnds};
 ghost use Rattle.htl_main.specs.Ends.{IsInput};
 ghost use Rattle.htl_main.specs.Inputs.{DecodeAll, HasBytes, IsReportedOfInput, StopsAtInput};
 ghost use Rattle.htl_main.specs.Spans.{AreSpans};
@@ -25,8 +25,8 @@ pub(crate) fn decode_all(
         DecodeAll form (map (λ input. input.items) inputs.now) decoded.segments.items) }
     ensures spans { IfOk result (λ decoded. AreSpans form (map (λ input. input.items) inputs.now)
         decoded.segments.items decoded.spans.items) }
-    ensures cut { IfOk result (λ decoded.
-        AreCut form.hex (map (λ input. input.items) inputs.now) decoded.cut) }
+    ensures cuts { IfOk result (λ decoded.
+        AreCutEnds form.hex (map (λ input. input.items) inputs.now) decoded.cuts.items) }
     ensures err { IfErr result
         (StopsAtInput form (IsReportedOfInput form) (map (λ input. input.items) inputs.now)) }
 {
@@ -46,7 +46,7 @@ pub(crate) fn decode_input(
     input: &[u8],
 ) -> Result<Accepted<Vec<Segment>>, RunFault>
     ensures ok { IfOk result (λ decoded.
-        IsInput form input.now decoded.segments.items decoded.is_cut) }
+        IsInput form input.now decoded.segments.items decoded.end) }
     ensures err { IfErr result (IsReportedOfInput form place input.now) }
     ensures no_read { NeverRead result }
     ensures named { NamesOnly place result }
@@ -66,7 +66,7 @@ fn decode_bytes(
     bytes: &[u8],
 ) -> Result<Accepted<Vec<Segment>>, RunFault>
     ensures ok { (input : List ℕ) → HasBytes form.hex input bytes.now
-        → IfOk result (λ decoded. IsInput form input decoded.segments.items decoded.is_cut) }
+        → IfOk result (λ decoded. IsInput form input decoded.segments.items decoded.end) }
     ensures err { (input : List ℕ) → HasBytes form.hex input bytes.now
         → IfErr result (IsReportedOfInput form place input) }
     ensures no_read { NeverRead result }

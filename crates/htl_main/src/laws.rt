@@ -31,14 +31,16 @@ ghost use Rattle.htl_command.specs.declared.question.Question.{Question};
 ghost use Rattle.htl_command.specs.declared.question.Question.TheVariants as questions;
 ghost use Rattle.htl_command.specs.declared.question.Since.TheVariants.{Sequence};
 ghost use Rattle.htl_main.specs.Analysts.{AreAnswers};
-ghost use Rattle.htl_main.specs.Answers.{Finds, IsAnswer, IsAnswerOver};
+ghost use Rattle.htl_main.specs.Answers.{IsAnswer, IsAnswerOver};
 ghost use Rattle.htl_main.specs.Coverages.{Covers, IsCoverage};
 ghost use Rattle.htl_main.specs.Folding.{AreFolded, IsAskedOver, IsCaseOfFirsts};
 ghost use Rattle.htl_main.specs.Histories.{AnyCanBeCompacted, AnyHistoryLeavesAState};
 ghost use Rattle.htl_main.specs.Printed.{Printed, WorkersFit, by_workers};
+ghost use Rattle.htl_main.specs.Remarks.{ReportsRemarks};
 ghost use Rattle.htl_main.specs.Summaries.{AreTotals, IsSummary};
 ghost use Rattle.htl_main.specs.declared.coverage.Coverage.{Coverage};
 ghost use Rattle.htl_main.specs.declared.fault.RunFault.{RunFault};
+ghost use Rattle.htl_main.specs.declared.remarks.Remarks.{Remarks};
 
 /// Inputs and a symbol table have at most one outcome: a printed text or a fault. It is the same
 /// for every number of workers that is allowed. (A refused allocation or thread and a failed read
@@ -54,10 +56,11 @@ pub fn one_outcome()
         → Printed (by_workers other job) inputs symbols b → a ≡ b }
 {}
 
-/// Over the same inputs an answer always finds something or never does.
+/// Over the same inputs the same is told of an answer beside its lines: it always finds something,
+/// or never does.
 pub fn one_finding()
-    ensures { (job : Job) (inputs : List (List ℕ)) (a b : Bool)
-        → Finds job inputs a → Finds job inputs b → a ≡ b }
+    ensures { (job : Job) (inputs : List (List ℕ)) (symbols : Option (List ℕ)) (a b : Remarks)
+        → ReportsRemarks job inputs symbols a → ReportsRemarks job inputs symbols b → a ≡ b }
 {}
 
 /// An answer over events has the rows that an analyst's answer over them to the same question has.

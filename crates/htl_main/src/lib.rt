@@ -30,15 +30,17 @@
 //! which input is refused first), `CutInputs` (which of them end within a segment), `Completeness`
 //! (whether segments are missing, and which is the least), `Moments` (the moment up to which events
 //! count), `Summaries` (what a summary says of a trace), `Coverages` (how much of its trace a case
-//! has), `Subjects` (whether what was asked about has an event), `Answers` and `Printed` (the
-//! answer and its lines, or the first fault in the order of a run), `Causes` and `Sources` (how a
-//! run ends for out of memory or by a failing device), `Readings` (how any run reads its sources,
-//! in one record), `Dumps` and `Encodings` (what the runs of `dump` and `encode` write, and why
-//! they end), `Origins` (which two segments a fault is about), `Loading` (what is loaded before a
-//! question is answered), `Adding` (what more sources add to it), `Folding` (what a reading that
-//! forgets folds of its sources), `Picked` (what a run that keeps only what its question asks about
-//! reports, and when only whole segments tell), `Statuses` (the exit statuses), `Analysts` (what an
-//! analyst answers of a summary) and `Histories` (that an analyst can go through any history).
+//! has), `Subjects` (whether anything can be found of what was asked about), `Answers` and
+//! `Printed` (the answer and its lines, or the first fault in the order of a run), `Remarks` (what
+//! is told of the answer beside its lines), `Causes` and `Sources` (how a run ends for out of
+//! memory or by a failing device), `Readings` (how any run reads its sources, in one record),
+//! `Dumps` and `Encodings` (what the runs of `dump` and `encode` write, and why they end),
+//! `Origins` (which two segments a fault is about), `Loading` (what is loaded before a question is
+//! answered), `Adding` (what more sources add to it), `Folding` (what a reading that forgets folds
+//! of its sources), `Asked` (why that isn't asked), `Picked` (what a run that keeps only what its
+//! question asks about reports, and when only whole segments tell), `Statuses` (the exit statuses),
+//! `Analysts` (what an analyst answers of a summary) and `Histories` (that an analyst can go
+//! through any history).
 #![tactic(auto)]
 
 mod adding;
@@ -65,6 +67,7 @@ mod picked_run;
 mod picking;
 mod printing;
 mod refused;
+mod remarks;
 mod sources;
 mod streaming;
 mod summarizing;
@@ -72,9 +75,9 @@ mod taking;
 mod unfolded;
 
 pub use adding::{Added, add};
-pub use completed::{Completed, has_subject};
+pub use completed::{Absence, Completed, absence_of, since_of};
 pub use coverage::Coverage;
-pub use cut_inputs::CutInputs;
+pub use cut_inputs::{CutEnd, CutInputs};
 pub use dumping::dump_from;
 pub use encoding::encode_from;
 pub use fault::RunFault;
@@ -89,4 +92,5 @@ pub use origin::{Between, Origin};
 pub use picked_run::{Lacking, pick_from};
 pub use printing::{AnswerText, answer_text, run};
 pub use refused::Refused;
+pub use remarks::Remarks;
 pub use streaming::run_from;

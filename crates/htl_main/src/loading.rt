@@ -1,13 +1,13 @@
 //! What is loaded before a question is answered, or many.
 
-ghost use Rattle.std.specs.Prelude.{◌≡◌, ℕ, List, All, Some, false, map, IfErr, IfOk};
+ghost use Rattle.std.specs.Prelude.{◌≡◌, ℕ, Bool, List, All, Some, false, map, IfErr, IfOk};
 ghost use Rattle.std.specs.Option.{option_copied};
 ghost use Rattle.htl_segment.specs.Content.{Content};
 ghost use Rattle.htl_case.specs.Cases.{IsCase, IsCaseOf};
 ghost use Rattle.htl_command.specs.declared.question.Job.{Job};
 ghost use Rattle.htl_main.specs.Causes.{IsCauseAfter};
 ghost use Rattle.htl_main.specs.Coverages.{IsCoverage};
-ghost use Rattle.htl_main.specs.CutInputs.{AreCut};
+ghost use Rattle.htl_main.specs.CutInputs.{AreCut, AreCutEnds, decoding};
 ghost use Rattle.htl_main.specs.Origins.{IsBetween, by_fault};
 ghost use Rattle.htl_main.specs.Readings.{AreRead};
 ghost use Rattle.htl_main.specs.Reads.{NeverWrite};
@@ -16,7 +16,7 @@ ghost use Rattle.htl_main.specs.Loading.{AreLoaded, AreLoadedOf, in_setting};
 
 use crate::cases::case_of;
 use crate::coverage::{Coverage, Missed};
-use crate::cut_inputs::CutInputs;
+use crate::cut_inputs::{CutEnd, CutInputs, cut_inputs};
 use crate::fault::RunFault;
 use crate::printing::{check_gaps, check_workers, read_symbols};
 use crate::refused::Refused;
@@ -86,40 +86,40 @@ pub fn load<Rt: Threads + Sync, R: Parted>(
 {
     check_workers(setting.workers)?;
     let decoded = read_all(rt, alloc, setting.form, setting.workers, inputs)?;
-    let cut = decoded.cut;
-    let case = case_of(alloc, decoded)?;
-    let loaded = with_symbols(alloc, setting.complete, until, case, cut, symbols)?;
+    let (case, cuts) = case_of(alloc, decoded)?;
+    let loaded = with_symbols(alloc, setting.complete, until, case, &cuts, symbols)?;
     Ok(loaded)
 }
 
-/// The case with the symbols. A case with a gap below the moment is refused where a complete one is
-/// asked for.
+/// The case with the symbols. A case that isn't complete up to the moment is refused where a complete
+/// one is asked for.
 pub(crate) fn with_symbols(
     alloc: Global,
     complete: bool,
     until: Option<Moment>,
     case: Case,
-    cut: Option<CutInputs>,
+    cuts: &[CutEnd],
     symbols: Option<&[u8]>,
 ) -> Result<Loaded, RunFault>
     ensures ok { IfOk result (λ loaded. (segments : List Content) → IsCaseOf segments case
-        → AreLoaded segments (option_copied symbols.entry) complete until loaded.case
-        loaded.symbols) }
+        → AreLoaded (decoding segments cuts.now) (option_copied symbols.entry) complete until
+        loaded.case loaded.symbols) }
     ensures case { IfOk result (λ loaded. IsCase loaded.case) }
     ensures coverage { IfOk result (λ loaded. IsCoverage loaded.case loaded.coverage) }
-    ensures cut { IfOk result (λ loaded. loaded.cut ≡ cut) }
+    ensures cut { IfOk result (λ loaded. (hex : Bool) (inputs : List (List ℕ))
+        → AreCutEnds hex inputs cuts.now → AreCut hex inputs loaded.cut) }
     ensures err { IfErr result (λ fault. (segments : List Content) (job : Job)
         → IsCaseOf segments case → job.setting.complete ≡ complete → job.until ≡ until
-        → IsCauseAfter segments (option_copied symbols.entry) job fault) }
+        → IsCauseAfter (decoding segments cuts.now) (option_copied symbols.entry) job fault) }
 {
     let missed = Missed::of_case(alloc, &case)?;
-    check_gaps(complete, until, &missed)?;
+    check_gaps(complete, until, &missed, cuts)?;
     let symbols = read_symbols(alloc, symbols)?;
     let coverage = missed.coverage();
     Ok(Loaded {
         case,
         coverage,
-        cut,
+        cut: cut_inputs(cuts),
         symbols,
     })
 }

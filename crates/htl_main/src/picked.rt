@@ -2,29 +2,33 @@
 
 ghost use Rattle.std.specs.Prelude.{◌≡◌, ◌<◌, ◌^◌, ℕ, List, Option, IfErr, IfNone, IfOk, IfSome, OnOk};
 ghost use Rattle.std.specs.Prelude.{◌&&◌, length, not};
+ghost use Rattle.std.specs.List.{list_any};
 ghost use Rattle.std.specs.Option.{option_copied};
+ghost use Rattle.htl_event.specs.Moments.{counted_events};
 ghost use Rattle.htl_segment.specs.Content.{Content};
 ghost use Rattle.htl_segment.specs.Picks.{events_in};
-ghost use Rattle.htl_segment.specs.Traces.{IsTrace, Trace};
+ghost use Rattle.htl_segment.specs.Traces.{IsTrace, Trace, all_events};
 ghost use Rattle.htl_case.specs.Picked.{IsPickedUntil};
 ghost use Rattle.htl_command.specs.declared.question.Question.TheVariants as questions;
 ghost use Rattle.htl_main.specs.Answers.{IsAnswer};
 ghost use Rattle.htl_main.specs.CaseOutlines.{IsMissed};
 ghost use Rattle.htl_main.specs.Causes.{IsCauseAfter};
+ghost use Rattle.htl_main.specs.CutInputs.{decoding};
 ghost use Rattle.htl_main.specs.Moments.{IsNamedMoment};
 ghost use Rattle.htl_main.specs.Picked.{Serves, TellsOfNoHandle};
 ghost use Rattle.htl_main.specs.Picking.{EndsAnswer, IsPickedAsOf, IsPickedFor, ReportsOf};
 ghost use Rattle.htl_main.specs.Picking.{is_of_open_handles};
 ghost use Rattle.htl_main.specs.Printed.{AreAnswerLines};
-ghost use Rattle.htl_main.specs.Subjects.{HasSubject};
+ghost use Rattle.htl_main.specs.Subjects.{is_about};
 
 use crate::answering::{answer_of_lists, span_until};
-use crate::completed::{Completed, any_list_about, has_finding};
+use crate::completed::{Completed, absence_by, any_list_about};
 use crate::coverage::Missed;
-use crate::cut_inputs::CutInputs;
+use crate::cut_inputs::{CutEnd, cut_inputs};
 use crate::fault::RunFault;
 use crate::interests::is_of_open_handles;
-use crate::printing::{check_gaps, check_subject, lines, read_symbols};
+use crate::printing::{check_absence, check_gaps, lines, read_symbols};
+use crate::remarks::remarks_on;
 use crate::summarizing::summary_of_lists;
 use htl_answers::growth;
 use htl_case::PickedCase;
@@ -44,25 +48,26 @@ pub(crate) fn answered_of_picks(
     job: &Job,
     interest: Interest,
     mut case: PickedCase,
-    cut: Option<CutInputs>,
+    cuts: &[CutEnd],
     symbols: Option<&[u8]>,
 ) -> Result<Option<(Vec<u8>, Completed)>, RunFault>
     requires { Serves job.now.question interest }
     ensures ok { IfOk result (λ answered. IfSome answered (λ of. (segments : List Content)
         → IsPickedFor interest case segments
-        → AreAnswerLines segments (option_copied symbols.entry) job.now of.0.items)) }
+        → AreAnswerLines (decoding segments cuts.now) (option_copied symbols.entry) job.now
+        of.0.items)) }
     ensures reports { IfOk result (λ answered. IfSome answered (λ of. (segments : List Content)
         → IsPickedFor interest case segments
-        → ReportsOf segments job.now cut of.1)) }
+        → ReportsOf segments (option_copied symbols.entry) job.now cuts.now of.1)) }
     ensures none { IfOk result (λ answered. IfNone answered ((segments : List Content)
         → IsPickedFor interest case segments → TellsOfNoHandle interest segments job.now)) }
     ensures err { IfErr result (λ fault. (segments : List Content)
         → IsPickedFor interest case segments
-        → IsCauseAfter segments (option_copied symbols.entry) job.now fault) }
+        → IsCauseAfter (decoding segments cuts.now) (option_copied symbols.entry) job.now fault) }
     ensures after { IfErr result EndsAnswer }
 {
     let missed = Missed::of_picks(alloc, &case)?;
-    check_gaps(job.setting.complete, job.until, &missed)?;
+    check_gaps(job.setting.complete, job.until, &missed, cuts)?;
     let symbols = read_symbols(alloc, symbols)?;
     let coverage = missed.coverage();
     let until = coverage.moment(job.until);
@@ -70,14 +75,15 @@ pub(crate) fn answered_of_picks(
     let Some(has_subject) = subject_of_picks(job, interest, &case) else {
         return Ok(None);
     };
-    check_subject(job, has_subject)?;
+    let absence = absence_by(has_subject, job.question, until, case.span());
+    check_absence(job, absence)?;
     let answer = answer_of_picks(rt, alloc, job, until, missed, &case)?;
     let lines = lines(alloc, job, until, &answer, &symbols)?;
     let completed = Completed {
         coverage,
-        cut,
-        has_subject,
-        has_finding: has_finding(&answer),
+        cut: cut_inputs(cuts),
+        absence,
+        remarks: remarks_on(job, &answer, &symbols),
     };
     Ok(Some((lines, completed)))
 }
@@ -88,7 +94,8 @@ fn subject_of_picks(job: &Job, interest: Interest, case: &PickedCase) -> Option<
     requires { Serves job.now.question interest }
     ensures some { IfSome result (λ has_subject. (until : Option ℕ) (segments : List Content)
         (is : IsPickedAsOf interest until case.now segments) → IsNamedMoment is.trace job.now.until until
-        → HasSubject is.trace job.now has_subject) }
+        → has_subject ≡ list_any (is_about job.now.question)
+        (counted_events until (all_events is.trace.segments))) }
     ensures none { IfNone result ((until : Option ℕ) (segments : List Content)
         (is : IsPickedAsOf interest until case.now segments) → IsNamedMoment is.trace job.now.until until
         → TellsOfNoHandle interest segments job.now) }
@@ -157,7 +164,11 @@ fn summary_of_picks(
         → IsAnswer T until questions.Summary answer) }
 {
     let events = count(case.lists())?;
-    let Missed { gaps, complete_to } = missed;
+    let Missed {
+        gaps,
+        complete_to,
+        ..
+    } = missed;
     let Summary { objects, processes } = summary_of_lists(rt, alloc, workers, case.lists())?;
     let Objects { number, unbalanced } = objects;
     Ok(Answer::Summary {

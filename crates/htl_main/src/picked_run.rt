@@ -7,6 +7,7 @@ ghost use Rattle.std.specs.Io.KnownBytes.{Appends};
 ghost use Rattle.htl_device.specs.Devices.{AppendsPrefix};
 ghost use Rattle.htl_segment.specs.Content.{Content};
 ghost use Rattle.htl_main.specs.Causes.{IsCauseAfter, Prints, PrintsPart};
+ghost use Rattle.htl_main.specs.CutInputs.{decoding};
 ghost use Rattle.htl_main.specs.Picked.{IsLackOf, Lacks, NeverCase, Reports, Serves};
 ghost use Rattle.htl_main.specs.Picking.{ArePickedFor, EndsPrinting, PrintsOf, ReportsOf};
 ghost use Rattle.htl_main.specs.Readings.{AreRead};
@@ -59,7 +60,7 @@ pub fn pick_from<Rt: Threads + Sync, R: Parted, W: Sink>(
         → IfOk result (λ ended. IfOk ended (λ _. Prints job.now texts
         (option_copied symbols.entry) (W.contents out.old) (W.contents out.new))) }
     ensures reports { (texts : List (List ℕ)) → map R.remaining inputs.old ≡ map Some texts
-        → IfOk result (λ ended. IfOk ended (Reports job.now texts)) }
+        → IfOk result (λ ended. IfOk ended (Reports job.now texts (option_copied symbols.entry))) }
     ensures lacking { (texts : List (List ℕ)) → map R.remaining inputs.old ≡ map Some texts
         → IfOk result (λ ended. IfErr ended (Lacks interest job.now texts)) }
     ensures unwritten { IfOk result (λ ended. IfErr ended (λ _. out.new ≡ out.old)) }
@@ -102,20 +103,21 @@ fn print_picks<W: Sink>(
     requires out { W.has_failed out.old ≡ false }
     requires serves { Serves job.now.question interest }
     ensures ok { (segments : List Content) → ArePickedFor interest all.picks segments
-        → IfOk result (λ ended. IfOk ended (λ _. PrintsOf segments (option_copied symbols.entry)
-        job.now (Appends (W.contents out.old) (W.contents out.new)))) }
+        → IfOk result (λ ended. IfOk ended (λ _. PrintsOf (decoding segments all.cuts.items)
+        (option_copied symbols.entry) job.now (Appends (W.contents out.old) (W.contents out.new)))) }
     ensures reports { (segments : List Content) → ArePickedFor interest all.picks segments
-        → IfOk result (λ ended. IfOk ended (ReportsOf segments job.now all.cut)) }
+        → IfOk result (λ ended. IfOk ended
+        (ReportsOf segments (option_copied symbols.entry) job.now all.cuts.items)) }
     ensures lacking { (segments : List Content) → ArePickedFor interest all.picks segments
         → IfOk result (λ ended. IfErr ended (IsLackOf interest segments job.now)) }
     ensures unwritten { IfOk result (λ ended. IfErr ended (λ _. out.new ≡ out.old)) }
     ensures fine { OnOk result (W.has_failed out.new ≡ false) }
     ensures cause { (segments : List Content) → ArePickedFor interest all.picks segments
         → IfErr result (λ fault. fault ≢ RunFault.Write
-        → IsCauseAfter segments (option_copied symbols.entry) job.now fault) }
+        → IsCauseAfter (decoding segments all.cuts.items) (option_copied symbols.entry) job.now fault) }
     ensures write { (segments : List Content) → ArePickedFor interest all.picks segments
-        → result ≡ Err RunFault.Write → PrintsOf segments (option_copied symbols.entry) job.now
-        (AppendsPrefix (W.contents out.old) (W.contents out.new)) }
+        → result ≡ Err RunFault.Write → PrintsOf (decoding segments all.cuts.items)
+        (option_copied symbols.entry) job.now (AppendsPrefix (W.contents out.old) (W.contents out.new)) }
     ensures failed { result ≡ Err RunFault.Write → W.has_failed out.new ≡ true }
     ensures untouched { IfErr result (λ fault. fault ≢ RunFault.Write → out.new ≡ out.old) }
     ensures after { IfErr result EndsPrinting }
@@ -123,7 +125,7 @@ fn print_picks<W: Sink>(
     let Some(case) = PickedCase::of(all.picks) else {
         return Ok(Err(Lacking::Segments));
     };
-    let answered = answered_of_picks(rt, alloc, job, interest, case, all.cut, symbols)?;
+    let answered = answered_of_picks(rt, alloc, job, interest, case, &all.cuts, symbols)?;
     let Some((lines, completed)) = answered else {
         return Ok(Err(Lacking::Process));
     };

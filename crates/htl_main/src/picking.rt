@@ -2,7 +2,7 @@
 
 ghost use Rattle.std.specs.Prelude.{◌≡◌, ℕ, List, All, Some, false, map};
 ghost use Rattle.std.specs.Prelude.{IfErr, IfOk, IfSome};
-ghost use Rattle.htl_main.specs.CutInputs.{AreCut};
+ghost use Rattle.htl_main.specs.CutInputs.{AreCutEnds};
 ghost use Rattle.htl_main.specs.Inputs.{StopsAtInput};
 ghost use Rattle.htl_main.specs.Picked.{NeverCase};
 ghost use Rattle.htl_main.specs.Picking.{ArePicksMore, ArePicksOfAll};
@@ -10,7 +10,7 @@ ghost use Rattle.htl_main.specs.Reads.{IsRead, NeverWrite};
 ghost use Rattle.htl_main.specs.Readings.{AreRead};
 ghost use Rattle.htl_main.specs.Sources.{IsReportedAt, IsReportedOfSource};
 
-use crate::cut_inputs::{Accepted, CutInputs, accept, with_input};
+use crate::cut_inputs::{Accepted, CutEnd, accept, add_end};
 use crate::fault::RunFault;
 use htl_command::InputForm;
 use htl_device::{MAX_READS, Parted};
@@ -24,7 +24,7 @@ use std::thread::Threads;
 #[derive(Drop)]
 pub(crate) struct AllPicks {
     pub picks: Picks,
-    pub cut: Option<CutInputs>,
+    pub cuts: Vec<CutEnd>,
 }
 
 /// Picks what is asked about from all sources, and tells which of them were cut. The first fault is
@@ -42,8 +42,8 @@ pub(crate) fn pick_all<Rt: Threads + Sync, R: Parted>(
     requires bytes { form.hex ≡ false }
     ensures ok { (inputs : List (List ℕ)) → map R.remaining sources.old ≡ map Some inputs
         → IfOk result (λ all. ArePicksOfAll form interest inputs all.picks) }
-    ensures cut { (inputs : List (List ℕ)) → map R.remaining sources.old ≡ map Some inputs
-        → IfOk result (λ all. AreCut form.hex inputs all.cut) }
+    ensures cuts { (inputs : List (List ℕ)) → map R.remaining sources.old ≡ map Some inputs
+        → IfOk result (λ all. AreCutEnds form.hex inputs all.cuts.items) }
     ensures err { (inputs : List (List ℕ)) → map R.remaining sources.old ≡ map Some inputs
         → IfErr result (StopsAtInput form (IsReportedAt form (map R.remaining sources.new)
         (map R.has_ended sources.new)) inputs) }
@@ -53,13 +53,13 @@ pub(crate) fn pick_all<Rt: Threads + Sync, R: Parted>(
     ensures no_case { NeverCase result }
 {
     let mut picks = Picks::new(alloc, interest);
-    let mut cut = None;
+    let mut cuts = Vec::new(alloc);
     for (place, source) in sources.iter_mut().enumerate() {
         let more = pick_source(rt, alloc, form, workers, place as u64, source, picks)?;
         picks = more.segments;
-        cut = with_input(cut, place as u64, more.is_cut);
+        add_end(&mut cuts, place as u64, more.end)?;
     }
-    Ok(AllPicks { picks, cut })
+    Ok(AllPicks { picks, cuts })
 }
 
 /// Adds to the picks what is asked about from the source at a place, and tells whether it was cut.
@@ -76,7 +76,7 @@ fn pick_source<Rt: Threads + Sync, R: Parted>(
     requires inside { R.has_ended source.old ≡ false }
     requires bytes { form.hex ≡ false }
     ensures ok { IfOk result (λ new. IfSome (R.remaining source.old) (λ bytes.
-        ArePicksMore form picks new.segments bytes new.is_cut)) }
+        ArePicksMore form picks new.segments bytes new.end)) }
     ensures err { IfErr result (λ fault. IfSome (R.remaining source.old) (λ bytes.
         IsReportedOfSource form (R.remaining source.new) (R.has_ended source.new) place bytes fault)) }
     ensures reading { IsRead false MAX_READS R.has_failed R.has_ended R.good_reads

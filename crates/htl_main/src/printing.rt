@@ -1,11 +1,11 @@
 //! The run over inputs that lie in memory, and the steps that all runs share.
 
 ghost use Rattle.std.specs.Prelude.{◌≡◌, ◌≢◌, ◌⊎◌, false, true, map, IfOk, IfErr, OnOk};
+ghost use Rattle.std.specs.Prelude.{None, Some};
 ghost use Rattle.std.specs.Io.KnownBytes.{Appends};
 ghost use Rattle.std.specs.Option.{option_copied};
 ghost use Rattle.htl_device.specs.Devices.{AppendsPrefix};
 ghost use Rattle.htl_segment.specs.Traces.{Trace};
-ghost use Rattle.htl_main.specs.Answers.{Finds, FindsOver};
 ghost use Rattle.htl_main.specs.CaseOutlines.{IsMissed};
 ghost use Rattle.htl_main.specs.Completeness.{ReportsMissing};
 ghost use Rattle.htl_main.specs.Coverages.{Covers, IsCoverage};
@@ -15,18 +15,21 @@ ghost use Rattle.htl_main.specs.Printed.{lines_of_answer};
 ghost use Rattle.htl_main.specs.Causes.{Prints, PrintsPart, IsCause};
 ghost use Rattle.htl_main.specs.Moments.{IsCompleteUntil};
 ghost use Rattle.htl_main.specs.Origins.{IsBetween, by_fault};
-ghost use Rattle.htl_main.specs.Picking.{EndsAnswer};
+ghost use Rattle.htl_main.specs.Picking.{EndsAnswer, NamesMissing};
 ghost use Rattle.htl_main.specs.Printing.{EndsOver, PrintsOver};
-ghost use Rattle.htl_main.specs.Subjects.{HasSubject, ReportsSubject};
+ghost use Rattle.htl_main.specs.Remarks.{RemarksOver, ReportsRemarks};
+ghost use Rattle.htl_main.specs.Subjects.{HasAbsence, ReportsAbsence};
 
 use crate::answering::answer;
 use crate::cases::case_of;
-use crate::completed::{Completed, has_finding, has_subject};
+use crate::completed::{Absence, Completed, absence_of};
 use crate::coverage::{Missed, is_above};
+use crate::cut_inputs::CutEnd;
 use crate::fault::RunFault;
 use crate::inputs::decode_all;
 use crate::loading::{Loaded, with_symbols};
 use crate::refused::Refused;
+use crate::remarks::{Remarks, remarks_on};
 use htl_command::{Format, Job, Moment};
 use htl_device::{Sink, write_whole};
 use htl_event::NoMemory;
@@ -41,12 +44,12 @@ use std::thread::Threads;
 ///
 /// The number of workers is tested first; then each input in order is decoded, the segments are
 /// made a case, which is refused where it has a gap and the job asks for a complete one, the
-/// symbols are read, a subject without an event is refused where the job asks for its status, and
-/// the answer is made. The first fault ends the run. Nothing is written
+/// symbols are read, a question of which nothing can be found is refused where the job asks for its
+/// status, and the answer is made. The first fault ends the run. Nothing is written
 /// before the whole text is made; after a failed write some first part of it went out. What is
 /// printed is the same for every number of workers. A run that ends well reports how much of its
-/// trace the case of all segments has, whether it has an event of what was asked about, and whether
-/// the answer finds something.
+/// trace the case of all segments has, why nothing can be found of what was asked about, and what
+/// is told of the answer beside its lines.
 pub fn run<Rt: Threads + Sync, W: Sink>(
     rt: &Rt,
     alloc: Global,
@@ -62,10 +65,10 @@ pub fn run<Rt: Threads + Sync, W: Sink>(
         Covers job.now.setting.form (map (λ input. input.items) inputs.now) completed.coverage) }
     ensures cut { IfOk result (λ completed.
         AreCut job.now.setting.form.hex (map (λ input. input.items) inputs.now) completed.cut) }
-    ensures subject { IfOk result (λ completed. ReportsSubject
-        (map (λ input. input.items) inputs.now) job.now completed.has_subject) }
-    ensures finding { IfOk result (λ completed. Finds job.now
-        (map (λ input. input.items) inputs.now) completed.has_finding) }
+    ensures absence { IfOk result (λ completed. ReportsAbsence
+        (map (λ input. input.items) inputs.now) job.now completed.absence) }
+    ensures remarks { IfOk result (λ completed. ReportsRemarks job.now
+        (map (λ input. input.items) inputs.now) (option_copied symbols.entry) completed.remarks) }
     ensures fine { OnOk result (W.has_failed out.new ≡ false) }
     ensures cause { IfErr (by_fault result) (IsCause job.now (map (λ input. input.items) inputs.now)
         (option_copied symbols.entry)) }
@@ -79,15 +82,14 @@ pub fn run<Rt: Threads + Sync, W: Sink>(
 {
     check_workers(job.setting.workers)?;
     let decoded = decode_all(alloc, job.setting.form, inputs)?;
-    let cut = decoded.cut;
-    let case = case_of(alloc, decoded)?;
-    let loaded = with_symbols(alloc, job.setting.complete, job.until, case, cut, symbols)?;
+    let (case, cuts) = case_of(alloc, decoded)?;
+    let loaded = with_symbols(alloc, job.setting.complete, job.until, case, &cuts, symbols)?;
     let completed = print_answer(rt, alloc, job, &loaded, out)?;
     Ok(completed)
 }
 
 /// Prints the answer to the job's question over what was loaded, and says what is reported beside
-/// it. If the exit status says what the answer finds, an answer about a subject without events is
+/// it. If the exit status says what the answer finds, a question of which nothing can be found is
 /// refused.
 pub(crate) fn print_answer<Rt: Threads + Sync, W: Sink>(
     rt: &Rt,
@@ -102,10 +104,10 @@ pub(crate) fn print_answer<Rt: Threads + Sync, W: Sink>(
         (Appends (W.contents out.old) (W.contents out.new))) }
     ensures coverage { IfOk result (λ completed. completed.coverage ≡ loaded.now.coverage) }
     ensures cut { IfOk result (λ completed. completed.cut ≡ loaded.now.cut) }
-    ensures subject { IfOk result (λ completed.
-        HasSubject loaded.now.case job.now completed.has_subject) }
-    ensures finding { IfOk result (λ completed.
-        FindsOver loaded.now.case job.now completed.has_finding) }
+    ensures absence { IfOk result (λ completed.
+        HasAbsence loaded.now.case job.now completed.absence) }
+    ensures remarks { IfOk result (λ completed.
+        RemarksOver loaded.now.case loaded.now.symbols job.now completed.remarks) }
     ensures fine { OnOk result (W.has_failed out.new ≡ false) }
     ensures err { IfErr result (EndsOver loaded.now.case job.now) }
     ensures write { result ≡ Err RunFault.Write
@@ -113,28 +115,27 @@ pub(crate) fn print_answer<Rt: Threads + Sync, W: Sink>(
         (AppendsPrefix (W.contents out.old) (W.contents out.new)) × (W.has_failed out.new ≡ true) }
     ensures untouched { IfErr result (λ fault. fault ≢ RunFault.Write → out.new ≡ out.old) }
 {
-    let has_subject = has_subject(job, loaded);
-    check_subject(job, has_subject)?;
+    let absence = absence_of(job, loaded);
+    check_absence(job, absence)?;
     let text = answer_text(rt, alloc, job.setting.workers, job, loaded)?;
     write_lines(out, &text.lines)?;
     Ok(Completed {
         coverage: loaded.coverage,
         cut: loaded.cut,
-        has_subject,
-        has_finding: text.has_finding,
+        absence,
+        remarks: text.remarks,
     })
 }
 
-/// If the exit status says what the answer finds, refuses one about a subject without events.
-pub(crate) fn check_subject(job: &Job, has_subject: bool) -> Result<(), RunFault>
-    ensures ok { OnOk result (job.now.exit_code ≡ true → has_subject ≡ true) }
+/// If the exit status says what the answer finds, refuses a question of which nothing can be found.
+pub(crate) fn check_absence(job: &Job, absence: Option<Absence>) -> Result<(), RunFault>
+    ensures ok { OnOk result (job.now.exit_code ≡ true → absence ≡ None) }
     ensures err { IfErr result (λ fault. (fault ≡ RunFault.NoSubject)
-        × (job.now.exit_code ≡ true) × (has_subject ≡ false)) }
+        × (job.now.exit_code ≡ true) × ((why : Absence) × (absence ≡ Some why))) }
 {
-    if job.exit_code && !has_subject {
-        Err(RunFault::NoSubject)
-    } else {
-        Ok(())
+    match absence {
+        Some(_) if job.exit_code => Err(RunFault::NoSubject),
+        _ => Ok(()),
     }
 }
 
@@ -150,11 +151,29 @@ pub(crate) fn check_workers(workers: u32) -> Result<(), RunFault>
     }
 }
 
-/// The lines of the answer to a question, and whether the answer finds something.
+/// The lines of the answer to a question, and what is told of it beside them.
 #[derive(Drop)]
 pub struct AnswerText {
     pub lines: Vec<u8>,
-    pub has_finding: bool,
+    pub remarks: Remarks,
+}
+
+impl AnswerText {
+    ghost use Rattle.std.specs.Prelude.{◌≡◌, []};
+
+    /// No lines, of which nothing is told.
+    pub(crate) fn none(alloc: Global) -> AnswerText
+        ensures { result.lines.items ≡ [] }
+    {
+        AnswerText {
+            lines: Vec::new(alloc),
+            remarks: Remarks {
+                has_finding: false,
+                is_unmarked: false,
+                is_unnamed: false,
+            },
+        }
+    }
 }
 
 /// Answers the job's question over what was loaded. A run over the same inputs prints exactly these
@@ -169,15 +188,15 @@ pub fn answer_text(
 ) -> Result<AnswerText, NoMemory>
     ensures lines { IfOk result (λ text. IsCoverage loaded.now.case loaded.now.coverage
         → IsText loaded.now.case loaded.now.symbols job.now text.lines.items) }
-    ensures finding { IfOk result (λ text. IsCoverage loaded.now.case loaded.now.coverage
-        → FindsOver loaded.now.case job.now text.has_finding) }
+    ensures remarks { IfOk result (λ text. IsCoverage loaded.now.case loaded.now.coverage
+        → RemarksOver loaded.now.case loaded.now.symbols job.now text.remarks) }
 {
     let until = loaded.moment(job.until);
     let answer = answer(rt, alloc, workers, job.question, until, &loaded.case)?;
     let lines = lines(alloc, job, until, &answer, &loaded.symbols)?;
     Ok(AnswerText {
         lines,
-        has_finding: has_finding(&answer),
+        remarks: remarks_on(job, &answer, &loaded.symbols),
     })
 }
 
@@ -199,24 +218,27 @@ pub(crate) fn lines(
     }
 }
 
-/// If a complete case is asked for, refuses one of which a segment up to the moment is missing.
+/// If a complete case is asked for, refuses one of which a segment up to the moment is missing, or
+/// may be: an input is cut within a segment of which it isn't known which it is.
 #[tactic(auto, using(crate::proofs::MomentLaws::complete_until, crate::proofs::MomentLaws::not_above))]
 pub(crate) fn check_gaps(
     complete: bool,
     until: Option<Moment>,
     missed: &Missed,
+    cuts: &[CutEnd],
 ) -> Result<(), RunFault>
     ensures ok { OnOk result (complete ≡ true
-        → (T : Trace) → IsMissed T missed.now → IsCompleteUntil T until) }
+        → (T : Trace) → IsMissed T missed.now → IsCompleteUntil T cuts.now until) }
     ensures err { IfErr result (λ fault. (complete ≡ true) × ((T : Trace) → IsMissed T missed.now
-        → (IsCompleteUntil T until → ⊥) × ReportsMissing T fault)) }
+        → (IsCompleteUntil T cuts.now until → ⊥) × ReportsMissing T cuts.now fault)) }
     ensures after { IfErr result EndsAnswer }
+    ensures names { IfErr result NamesMissing }
 {
     if !complete || !is_above(until, missed.complete_to) {
         return Ok(());
     }
-    match missed.first() {
-        Some((processor, number)) => Err(RunFault::Incomplete { processor, number }),
+    match missed.fault(cuts) {
+        Some(fault) => Err(fault),
         None => Ok(()),
     }
 }

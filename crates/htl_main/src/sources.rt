@@ -2,7 +2,7 @@
 
 ghost use Rattle.std.specs.Prelude.{◌≡◌, ℕ, List, All, Some, false};
 ghost use Rattle.std.specs.Prelude.{map, IfOk, IfErr, IfSome};
-ghost use Rattle.htl_main.specs.CutInputs.{AreCut};
+ghost use Rattle.htl_main.specs.CutInputs.{AreCutEnds};
 ghost use Rattle.htl_main.specs.Ends.{IsInput};
 ghost use Rattle.htl_main.specs.Inputs.{DecodeAll, StopsAtInput};
 ghost use Rattle.htl_main.specs.Spans.{AreSpans};
@@ -15,8 +15,8 @@ use crate::decoded::Decoded;
 use crate::fault::RunFault;
 use crate::inputs::decode_input;
 use htl_command::InputForm;
-use htl_device::{MAX_READS, Parted, read_whole};
-use htl_reading::read_bundle;
+use htl_device::{MAX_READS, Parted};
+use htl_reading::{read_bundle, read_digits};
 use htl_segment::Segment;
 use std::alloc::Global;
 use std::thread::Threads;
@@ -37,8 +37,8 @@ pub(crate) fn read_all<Rt: Threads + Sync, R: Parted>(
     ensures spans { (inputs : List (List ℕ)) → map R.remaining sources.old ≡ map Some inputs
         → IfOk result (λ decoded.
         AreSpans form inputs decoded.segments.items decoded.spans.items) }
-    ensures cut { (inputs : List (List ℕ)) → map R.remaining sources.old ≡ map Some inputs
-        → IfOk result (λ decoded. AreCut form.hex inputs decoded.cut) }
+    ensures cuts { (inputs : List (List ℕ)) → map R.remaining sources.old ≡ map Some inputs
+        → IfOk result (λ decoded. AreCutEnds form.hex inputs decoded.cuts.items) }
     ensures err { (inputs : List (List ℕ)) → map R.remaining sources.old ≡ map Some inputs
         → IfErr result (StopsAtInput form (IsReportedAt form (map R.remaining sources.new)
         (map R.has_ended sources.new)) inputs) }
@@ -55,7 +55,7 @@ pub(crate) fn read_all<Rt: Threads + Sync, R: Parted>(
 }
 
 /// The segments of the source at a place, read by this number of workers. One worker gathers a text
-/// in hexadecimal whole, and then decodes it.
+/// in hexadecimal, and then decodes it. It is read no further than its first foreign byte.
 fn read_input<Rt: Threads + Sync, R: Parted>(
     rt: &Rt,
     alloc: Global,
@@ -67,7 +67,7 @@ fn read_input<Rt: Threads + Sync, R: Parted>(
     requires fresh { R.has_failed source.old ≡ false }
     requires inside { R.has_ended source.old ≡ false }
     ensures ok { IfOk result (λ input. IfSome (R.remaining source.old)
-        (λ bytes. IsInput form bytes input.segments.items input.is_cut)) }
+        (λ bytes. IsInput form bytes input.segments.items input.end)) }
     ensures err { IfErr result (λ fault. IfSome (R.remaining source.old) (λ bytes.
         IsReportedOfSource form (R.remaining source.new) (R.has_ended source.new) place bytes fault)) }
     ensures reading { IsRead form.hex MAX_READS R.has_failed R.has_ended R.good_reads R.remaining
@@ -75,9 +75,9 @@ fn read_input<Rt: Threads + Sync, R: Parted>(
     ensures no_write { NeverWrite result }
 {
     if form.hex {
-        return match read_whole(alloc, source) {
+        return match read_digits(alloc, source) {
             Ok(text) => decode_input(alloc, form, place, &text),
-            Err(fault) => Err(RunFault::from_read(place, fault)),
+            Err(fault) => Err(RunFault::from_digits(place, fault)),
         };
     }
     match read_bundle(rt, alloc, workers, source) {

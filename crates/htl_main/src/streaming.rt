@@ -3,14 +3,14 @@
 ghost use Rattle.std.specs.Prelude.{◌≡◌, ◌≢◌, ℕ, List, All, Some, Err, false, true, map};
 ghost use Rattle.std.specs.Prelude.{IfErr, IfOk, OnOk};
 ghost use Rattle.std.specs.Option.{option_copied};
-ghost use Rattle.htl_main.specs.Answers.{Finds};
 ghost use Rattle.htl_main.specs.Causes.{Prints, PrintsPart};
 ghost use Rattle.htl_main.specs.Coverages.{Covers};
 ghost use Rattle.htl_main.specs.CutInputs.{AreCut};
 ghost use Rattle.htl_main.specs.Origins.{IsBetween, by_fault};
 ghost use Rattle.htl_main.specs.Readings.{AreRead};
 ghost use Rattle.htl_main.specs.Sources.{IsSourcesCause};
-ghost use Rattle.htl_main.specs.Subjects.{ReportsSubject};
+ghost use Rattle.htl_main.specs.Remarks.{ReportsRemarks};
+ghost use Rattle.htl_main.specs.Subjects.{ReportsAbsence};
 
 use crate::completed::Completed;
 use crate::fault::RunFault;
@@ -22,12 +22,13 @@ use htl_device::{Parted, Sink};
 use std::alloc::Global;
 use std::thread::Threads;
 
-/// The same as `run`, for the bytes that sources give. Each source is read to its end.
+/// Reads all sources, makes their case, and writes the answer, as `run` does for bytes in memory.
+/// Each source is read to its end.
 ///
 /// A fault of a source ends the run: bytes are decoded as they come, and nothing is read after the
-/// read that showed the fault. A text in hexadecimal is read whole first. Several workers begin
-/// with parts of a source that has some, and one worker reads what they left. They report the fault
-/// that one worker reports.
+/// read that showed the fault. A text in hexadecimal is gathered first, and nothing is read after the
+/// read that gave its first foreign byte. Several workers begin with parts of a source that has some,
+/// and one worker reads what they left. They report the fault that one worker reports.
 pub fn run_from<Rt: Threads + Sync, R: Parted, W: Sink>(
     rt: &Rt,
     alloc: Global,
@@ -47,10 +48,11 @@ pub fn run_from<Rt: Threads + Sync, R: Parted, W: Sink>(
         → IfOk result (λ completed. Covers job.now.setting.form texts completed.coverage) }
     ensures cut { (texts : List (List ℕ)) → map R.remaining inputs.old ≡ map Some texts
         → IfOk result (λ completed. AreCut job.now.setting.form.hex texts completed.cut) }
-    ensures subject { (texts : List (List ℕ)) → map R.remaining inputs.old ≡ map Some texts
-        → IfOk result (λ completed. ReportsSubject texts job.now completed.has_subject) }
-    ensures finding { (texts : List (List ℕ)) → map R.remaining inputs.old ≡ map Some texts
-        → IfOk result (λ completed. Finds job.now texts completed.has_finding) }
+    ensures absence { (texts : List (List ℕ)) → map R.remaining inputs.old ≡ map Some texts
+        → IfOk result (λ completed. ReportsAbsence texts job.now completed.absence) }
+    ensures remarks { (texts : List (List ℕ)) → map R.remaining inputs.old ≡ map Some texts
+        → IfOk result (λ completed.
+        ReportsRemarks job.now texts (option_copied symbols.entry) completed.remarks) }
     ensures fine { OnOk result (W.has_failed out.new ≡ false) }
     ensures cause { (texts : List (List ℕ)) → map R.remaining inputs.old ≡ map Some texts
         → IfErr (by_fault result) (IsSourcesCause job.now texts (map R.remaining inputs.new)

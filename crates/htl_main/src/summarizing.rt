@@ -29,7 +29,11 @@ pub(crate) fn summary(
 ) -> Result<Answer, NoMemory>
     ensures { IfOk result (IsAnswer case.now until questions.Summary) }
 {
-    let Missed { gaps, complete_to } = Missed::of_case(alloc, case)?;
+    let Missed {
+        gaps,
+        complete_to,
+        ..
+    } = Missed::of_case(alloc, case)?;
     let lists = case.until(alloc, until)?;
     let Summary { objects, processes } = summary_of_lists(rt, alloc, workers, &lists)?;
     let Objects { number, unbalanced } = objects;

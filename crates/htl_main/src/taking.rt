@@ -5,7 +5,7 @@ ghost use Rattle.std.specs.Prelude.{IfErr, IfOk, IfSome, OnErr, OnOk};
 ghost use Rattle.htl_segment.specs.Content.{Content};
 ghost use Rattle.htl_device.specs.declared.whole.TheConstants.{MAX_READS};
 ghost use Rattle.htl_segment.specs.Keepers.{Took};
-ghost use Rattle.htl_main.specs.CutInputs.{AreCut};
+ghost use Rattle.htl_main.specs.CutInputs.{AreCutEnds};
 ghost use Rattle.htl_main.specs.Ends.{IsInput};
 ghost use Rattle.htl_main.specs.Folders.{AreAllTaken, GaveOwn, IsOfInput, folds_of};
 ghost use Rattle.htl_main.specs.Folding.{AreFolded, AreGiven, AsksFoldsMemory};
@@ -19,28 +19,28 @@ ghost use Rattle.htl_main.specs.Reads.{IsRead, NamesOnly, NeverRead, NeverWrite}
 ghost use Rattle.htl_main.specs.Sources.{IsReportedAt, IsReportedOfSource};
 
 use crate::cases::unknown;
-use crate::cut_inputs::{CutInputs, check_end, with_input};
+use crate::cut_inputs::{CutEnd, add_end, check_end};
 use crate::fault::RunFault;
 use crate::folder::Folder;
 use crate::folding::Folded;
 use crate::refused::Refused;
 use htl_case::CaseFault;
 use htl_command::{InputForm, Setting};
-use htl_device::{Parted, read_whole};
+use htl_device::Parted;
 use htl_event::NoMemory;
-use htl_reading::{early_end, take_source};
+use htl_reading::{EarlyEnd, early_end, read_digits, take_source};
 use htl_segment::{from_hex, split};
 use std::alloc::Global;
 use std::mem;
 use std::thread::Threads;
 
 /// What was taken from all sources.
-#[derive(Clone, Copy)]
+#[derive(Drop)]
 pub(crate) struct Taken {
     /// How many segments they have. It stays at the greatest `u64` once it is there.
     pub segments: u64,
     /// Which of them end within another segment.
-    pub cut: Option<CutInputs>,
+    pub cuts: Vec<CutEnd>,
 }
 
 /// Takes the segments of all sources, and then folds all that can be folded, even after a fault.
@@ -57,7 +57,7 @@ pub(crate) fn take_all<Rt: Threads + Sync, R: Parted>(
     ensures ok { (before : List Content) (texts : List (List ℕ))
         → AreFolded folded.old.analyst before → map R.remaining inputs.old ≡ map Some texts
         → OnOk result.1 (IfOk result.0 (λ taken. AreAllTaken setting.form before texts
-        folded.old.analyst folded.new.analyst taken.segments taken.cut)) }
+        folded.old.analyst folded.new.analyst taken.segments taken.cuts.items)) }
     ensures err { (before : List Content) (texts : List (List ℕ))
         → AreFolded folded.old.analyst before → map R.remaining inputs.old ≡ map Some texts
         → WorkersFit setting.workers
@@ -80,8 +80,8 @@ pub(crate) fn take_all<Rt: Threads + Sync, R: Parted>(
     let read = read_all(rt, alloc, setting, inputs, &mut folder);
     let far = folder.fold_by(rt, setting.workers);
     folded.analyst = folder.analyst;
-    let cut = match read {
-        Ok(cut) => cut,
+    let cuts = match read {
+        Ok(cuts) => cuts,
         Err(fault) => return (Err(Refused::from(fault)), far),
     };
     if let Some(fault) = folder.unfit {
@@ -89,7 +89,7 @@ pub(crate) fn take_all<Rt: Threads + Sync, R: Parted>(
     }
     let taken = Taken {
         segments: folder.segments,
-        cut,
+        cuts,
     };
     (Ok(taken), far)
 }
@@ -102,14 +102,14 @@ fn read_all<Rt: Threads + Sync, R: Parted>(
     setting: Setting,
     sources: &mut [R],
     folder: &mut Folder,
-) -> Result<Option<CutInputs>, RunFault>
+) -> Result<Vec<CutEnd>, RunFault>
     requires fresh { All (λ source. R.has_failed source ≡ false) sources.old }
     requires inside { All (λ source. R.has_ended source ≡ false) sources.old }
     ensures ok { (inputs : List (List ℕ)) → map R.remaining sources.old ≡ map Some inputs
         → OnOk result ((given : List Content) × DecodeAll setting.form inputs given
         × Took folds_of folder.old folder.new given) }
-    ensures cut { (inputs : List (List ℕ)) → map R.remaining sources.old ≡ map Some inputs
-        → IfOk result (AreCut setting.form.hex inputs) }
+    ensures cuts { (inputs : List (List ℕ)) → map R.remaining sources.old ≡ map Some inputs
+        → IfOk result (λ cuts. AreCutEnds setting.form.hex inputs cuts.items) }
     ensures err { (inputs : List (List ℕ)) → map R.remaining sources.old ≡ map Some inputs
         → IfErr result (StopsAtInput setting.form (IsReportedAt setting.form
         (map R.remaining sources.new) (map R.has_ended sources.new)) inputs) }
@@ -121,15 +121,15 @@ fn read_all<Rt: Threads + Sync, R: Parted>(
     ensures reading { AreRead setting.form.hex R.has_failed R.has_ended R.good_reads R.remaining
         sources.old sources.new result }
 {
-    let mut cut = None;
+    let mut cuts = Vec::new(alloc);
     for (place, source) in sources.iter_mut().enumerate() {
-        let is_cut = read_input(rt, alloc, setting, place as u64, source, folder)?;
-        cut = with_input(cut, place as u64, is_cut);
+        let end = read_input(rt, alloc, setting, place as u64, source, folder)?;
+        add_end(&mut cuts, place as u64, end)?;
     }
-    Ok(cut)
+    Ok(cuts)
 }
 
-/// Has a folder take the segments of the source at a place, and says whether the source ends within
+/// Has a folder take the segments of the source at a place, and says where the source ends within
 /// another segment. What the folder holds is folded between reads.
 fn read_input<Rt: Threads + Sync, R: Parted>(
     rt: &Rt,
@@ -138,11 +138,11 @@ fn read_input<Rt: Threads + Sync, R: Parted>(
     place: u64,
     source: &mut R,
     folder: &mut Folder,
-) -> Result<bool, RunFault>
+) -> Result<Option<EarlyEnd>, RunFault>
     requires fresh { R.has_failed source.old ≡ false }
     requires inside { R.has_ended source.old ≡ false }
-    ensures ok { IfOk result (λ is_cut. IfSome (R.remaining source.old) (λ text.
-        (given : List Content) × IsInput setting.form text given is_cut
+    ensures ok { IfOk result (λ end. IfSome (R.remaining source.old) (λ text.
+        (given : List Content) × IsInput setting.form text given end
         × Took folds_of folder.old folder.new given)) }
     ensures err { IfErr result (λ fault. IfSome (R.remaining source.old) (λ text.
         IsReportedOfSource setting.form (R.remaining source.new) (R.has_ended source.new)
@@ -156,9 +156,9 @@ fn read_input<Rt: Threads + Sync, R: Parted>(
         place source.old source.new result }
 {
     if setting.form.hex {
-        return match read_whole(alloc, source) {
+        return match read_digits(alloc, source) {
             Ok(text) => take_text(alloc, setting.form, place, &text, folder),
-            Err(fault) => Err(RunFault::from_read(place, fault)),
+            Err(fault) => Err(RunFault::from_digits(place, fault)),
         };
     }
     let fold = |folder: &mut Folder| -> Result<(), NoMemory>
@@ -177,9 +177,9 @@ fn take_text(
     place: u64,
     text: &[u8],
     folder: &mut Folder,
-) -> Result<bool, RunFault>
+) -> Result<Option<EarlyEnd>, RunFault>
     requires { form.hex ≡ true }
-    ensures ok { IfOk result (λ is_cut. (given : List Content) × IsInput form text.now given is_cut
+    ensures ok { IfOk result (λ end. (given : List Content) × IsInput form text.now given end
         × Took folds_of folder.old folder.new given) }
     ensures err { IfErr result (IsReportedOfInput form place text.now) }
     ensures kept { IfErr result (λ fault. fault ≢ RunFault.Memory → (given : List Content)
@@ -202,9 +202,9 @@ fn take_bytes(
     place: u64,
     bytes: &[u8],
     folder: &mut Folder,
-) -> Result<bool, RunFault>
+) -> Result<Option<EarlyEnd>, RunFault>
     ensures ok { (input : List ℕ) → HasBytes form.hex input bytes.now
-        → IfOk result (λ is_cut. (given : List Content) × IsInput form input given is_cut
+        → IfOk result (λ end. (given : List Content) × IsInput form input given end
         × Took folds_of folder.old folder.new given) }
     ensures err { (input : List ℕ) → HasBytes form.hex input bytes.now
         → IfErr result (IsReportedOfInput form place input) }

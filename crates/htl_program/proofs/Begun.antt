@@ -10,15 +10,15 @@ use Rattle.htl_program.specs.declared.ask_fault.AskFault.{AskFault}
 use Rattle.htl_program.specs.declared.ask_fault.AskFault.TheVariants.{Dialogue}
 
 module _ {S Host : Type 0} (answers : Answers S) (wanted : Bool) (before : S) (text : List ℕ) (old new : Option (List ℕ))
-    (told : Host → Note → Host) (audience host after : Host) (opening : Opening)
-    (is : host ≡ told audience (opening_note opening.coverage opening.cut)) where
+    (told : Host → Note → Host) (audience host after : Host) (names : List (List ℕ)) (opening : Opening)
+    (is : host ≡ told audience (opening_note names opening.coverage opening.cut)) where
   gets : (replies : List ℕ) (notes : List Note) → Gets old new told host after replies notes
-      → BeginsAndGets old new told audience after opening replies notes
+      → BeginsAndGets names old new told audience after opening replies notes
   gets replies notes got = (got.0, rw is at got.1)
 
   -- a dialogue that gets the notes after its beginning gets all its notes, with that of the beginning first
   pub converses_begun : (conversed : Conversed) → Converses answers wanted before text (Gets old new told host after) conversed
-      → Converses answers wanted before text (BeginsAndGets old new told audience after opening) conversed
+      → Converses answers wanted before text (BeginsAndGets names old new told audience after opening) conversed
   converses_begun conversed all = record {
     after = all.after;
     replies = all.replies;
@@ -31,14 +31,14 @@ module _ {S Host : Type 0} (answers : Answers S) (wanted : Bool) (before : S) (t
 
   waited : (failed : Bool) (replies : List ℕ) (notes : List Note)
       → Gets old new told host after replies (notes ++ awaits ∷ []) ⊎ ((failed ≡ false) × Gets old new told host after replies notes)
-      → BeginsAndGets old new told audience after opening replies (notes ++ awaits ∷ [])
-      ⊎ ((failed ≡ false) × BeginsAndGets old new told audience after opening replies notes)
+      → BeginsAndGets names old new told audience after opening replies (notes ++ awaits ∷ [])
+      ⊎ ((failed ≡ false) × BeginsAndGets names old new told audience after opening replies notes)
   waited failed replies notes (inl got) = inl (gets replies (notes ++ awaits ∷ []) got)
   waited failed replies notes (inr got) = inr (got.0, gets replies notes got.1)
 
   got_at : (state : S) (failed : Bool) (fault : DialogueFault) (later : List (List ℕ)) (replies : List ℕ) (notes : List Note)
       → GotAt answers state failed (Gets old new told host after) fault later replies notes
-      → GotAt answers state failed (BeginsAndGets old new told audience after opening) fault later replies notes
+      → GotAt answers state failed (BeginsAndGets names old new told audience after opening) fault later replies notes
   got_at state failed Write [] replies notes got = got
   got_at state failed Write (line ∷ more) replies notes got =
       (got.0, got.1, got.2, got.3, got.4, gets (replies ++ take got.2 got.1) (notes ++ awaits ∷ got.3) got.5)
@@ -48,7 +48,7 @@ module _ {S Host : Type 0} (answers : Answers S) (wanted : Bool) (before : S) (t
   -- a dialogue that stops with the notes after its beginning stops with all its notes, that of the beginning first
   pub stops_begun : (left : Option (List ℕ)) (failed : Bool) (fault : DialogueFault)
       → DialogueStops answers wanted before text left failed (Gets old new told host after) fault
-      → DialogueStops answers wanted before text left failed (BeginsAndGets old new told audience after opening) fault
+      → DialogueStops answers wanted before text left failed (BeginsAndGets names old new told audience after opening) fault
   stops_begun left failed fault at = record {
     earlier = at.earlier;
     later = at.later;

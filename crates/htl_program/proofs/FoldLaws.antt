@@ -36,6 +36,8 @@ module _ (setting : Setting) (before : List Content) (texts : List (List ℕ)) (
       segments = is.segments;
       new = is.new;
       coverage = is.coverage;
+      cuts = is.cuts;
+      cut_ends = is.cut_ends;
       whole = is.whole;
       cut = is.cut;
     },
@@ -73,6 +75,7 @@ module _ (setting : Setting) (before : List Content) (texts : List (List ℕ)) (
     took_before faults.Write known is = took_part faults.Write is
     took_before faults.Memory known is = absurd (known refl)
     took_before faults.NoThread known is = took_part faults.NoThread is
+    took_before (faults.UnknownCut input) known is = took_part (faults.UnknownCut input) is
 
     -- what came of folding, where it goes on, is of one list of segments of which what is kept holds
     pub took : (ended : Result Added Refused) → GoesOn ended → IsFolding setting before texts lefts ends Keeps ended

@@ -7,17 +7,21 @@ use Rattle.htl_main.specs.Folding.{AreFolded}
 use Rattle.htl_main.specs.Loading.{AreLoadedOf}
 use Rattle.htl_main.specs.Printed.{HasSymbols}
 use Rattle.htl_main.specs.declared.adding.Added.{Added}
+use Rattle.htl_main.specs.declared.completed.Absence.{Absence}
+use Rattle.htl_main.specs.declared.fault.RunFault.{RunFault}
+use Rattle.htl_main.specs.declared.fault.RunFault.TheVariants.{Incomplete}
 use Rattle.htl_main.specs.declared.folding.Folded.{Folded}
 use Rattle.htl_main.specs.declared.loading.Loaded.{Loaded}
+use Rattle.htl_main.specs.declared.printing.AnswerText.{AnswerText}
 use Rattle.htl_main.specs.declared.refused.Refused.{Refused}
-use Rattle.htl_program.specs.Asking.{Found, GoesOn, IfAllHold, IsSubjectOver, IsTextOver, LeadsTo, ReadsMore, Taken, all_hold, found}
+use Rattle.htl_program.specs.Asking.{Found, GoesOn, IfAllHold, IsAbsenceOver, IsOutcomeOver, LeadsTo, ReadsMore, Taken, all_hold, found}
 use Rattle.htl_program.specs.Asking.{found_with, inputs, inputs_then, one_is_absent, segments, unknown}
-use Rattle.htl_program.specs.Loads.{AddsFiles, AreKept, FoldsFiles, HasSubjectIn, HasTextIn, IsCovered, ReadsFiles}
+use Rattle.htl_program.specs.Loads.{AddsFiles, AreKept, FoldsFiles, HasAbsenceIn, HasOutcomeIn, IsCovered, ReadsFiles}
 use Rattle.htl_program.specs.Opened.{Known, Opened, ends, lefts}
 use Rattle.htl_program.specs.declared.kept.Kept.{Kept}
 use Rattle.htl_program.specs.declared.kept.Kept.TheVariants.{Case, State}
 use Rattle.htl_program.proofs.FoldLaws.{took}
-use Rattle.htl_program.proofs.LoadLaws.{adds_to, loaded_subject, loaded_text, loaded_then}
+use Rattle.htl_program.proofs.LoadLaws.{adds_to, loaded_absence, loaded_answer, loaded_then}
 
 -- What is kept is of what was read, where that is known.
 pub record Holds (setting : Setting) (symbols : Option (List ℕ)) (kept : Kept) (read : Option Taken) : Type 0 where
@@ -25,27 +29,32 @@ pub record Holds (setting : Setting) (symbols : Option (List ℕ)) (kept : Kept)
   pub are : IfSome read (AreKept setting symbols kept)
 
 module _ (setting : Setting) (symbols : Option (List ℕ)) where
-  -- a text over what is kept is one over what was read
-  pub holds_text : (kept : Kept) (read : Option Taken) (job : Job) (text : List ℕ) → Holds setting symbols kept read
-      → HasTextIn kept job text → IsTextOver setting symbols read job text
-  holds_text kept None job text holds has = tt
-  holds_text (Case loaded) (Some (inputs texts)) job text holds has =
-      loaded_text setting texts symbols loaded.case loaded.symbols holds.are job text (has holds.covered)
-  holds_text (Case loaded) (Some (segments taken)) job text holds has = absurd holds.are
-  holds_text (State folded) (Some (inputs texts)) job text holds has = absurd holds.are
-  holds_text (State folded) (Some (segments taken)) job text holds has =
+  -- an answer over what is kept is one over what was read, and so is a gap for which it isn't answered
+  pub holds_outcome : (kept : Kept) (read : Option Taken) (job : Job) (outcome : Result AnswerText RunFault) → Holds setting symbols kept read
+      → HasOutcomeIn setting.complete kept job outcome → IsOutcomeOver setting symbols read job outcome
+  holds_outcome kept None job outcome holds has = tt
+  holds_outcome (Case loaded) (Some (inputs texts)) job (Ok answer) holds has =
+      loaded_answer setting texts symbols loaded.case loaded.symbols holds.are job answer (has holds.covered)
+  holds_outcome (Case loaded) (Some (inputs texts)) job (Err fault) holds has = has
+  holds_outcome (Case loaded) (Some (segments taken)) job outcome holds has = absurd holds.are
+  holds_outcome (State folded) (Some (inputs texts)) job outcome holds has = absurd holds.are
+  holds_outcome (State folded) (Some (segments taken)) job (Ok answer) holds has =
       let are : AreFolded folded.analyst taken × HasSymbols symbols folded.symbols = holds.are in
-      λ T case. (folded.symbols, are.1, has taken T are.0 case)
+      λ T case. ((folded.symbols, are.1, (has taken T are.0 case).0), (has taken T are.0 case).1)
+  holds_outcome (State folded) (Some (segments taken)) job (Err (Incomplete processor number)) holds has =
+      let are : AreFolded folded.analyst taken × HasSymbols symbols folded.symbols = holds.are in
+      (has.0, λ T all. has.1 taken T are.0 all)
+  holds_outcome (State folded) (Some (segments taken)) job (Err fault) holds has = absurd has
 
-  -- whether what is kept has an event of the subject is what a run over what was read reports
-  pub holds_subject : (kept : Kept) (read : Option Taken) (job : Job) (found : Bool) → Holds setting symbols kept read
-      → HasSubjectIn kept job found → IsSubjectOver setting read job found
-  holds_subject kept None job found holds has = tt
-  holds_subject (Case loaded) (Some (inputs texts)) job found holds has =
-      loaded_subject setting texts symbols loaded.case loaded.symbols holds.are job found (has holds.covered)
-  holds_subject (Case loaded) (Some (segments taken)) job found holds has = absurd holds.are
-  holds_subject (State folded) (Some (inputs texts)) job found holds has = absurd holds.are
-  holds_subject (State folded) (Some (segments taken)) job found holds has = has
+  -- why nothing can be found in what is kept is what a run over what was read reports
+  pub holds_absence : (kept : Kept) (read : Option Taken) (job : Job) (absence : Option Absence) → Holds setting symbols kept read
+      → HasAbsenceIn kept job absence → IsAbsenceOver setting read job absence
+  holds_absence kept None job absence holds has = tt
+  holds_absence (Case loaded) (Some (inputs texts)) job absence holds has =
+      loaded_absence setting texts symbols loaded.case loaded.symbols holds.are job absence (has holds.covered)
+  holds_absence (Case loaded) (Some (segments taken)) job absence holds has = absurd holds.are
+  holds_absence (State folded) (Some (inputs texts)) job absence holds has = absurd holds.are
+  holds_absence (State folded) (Some (segments taken)) job absence holds has = has
 
 -- ---- over time
 

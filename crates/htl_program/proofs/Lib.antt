@@ -10,5 +10,6 @@ pub mod NamesRead
 pub mod LoadLaws
 pub mod FoldLaws
 pub mod KeptLaws
+pub mod StateOutcomes
 pub mod Begun
 pub mod OfForm

@@ -1,6 +1,6 @@
 -- What is said of what was loaded is said of runs of their own over all inputs, also once files are added.
 use Rattle.std.proofs.Common.{◌≡◌, ◌⊎◌, ◌∙◌, ℕ, Bool, List, [], ◌∷◌, ◌++◌, Option, None, Some, map, refl, sym, ap, subst, inl, inr}
-use Rattle.std.proofs.Common.{append_assoc}
+use Rattle.std.proofs.Common.{append_assoc, length, ◌+◌}
 use Rattle.std.specs.Prelude.{IfErr, IfOk, Result, Ok, Err, Vec}
 use Rattle.std.proofs.lemmas.List.Elements.{Contains-append_cases, Contains-append_left, Contains-append_right}
 use Rattle.htl_case.specs.Cases.{IsCaseOf}
@@ -18,15 +18,20 @@ use Rattle.htl_main.specs.Loading.{AreLoadedOf}
 use Rattle.htl_main.specs.Origins.{by_fault}
 use Rattle.htl_main.specs.Printed.{HasSymbols, IsText}
 use Rattle.htl_main.specs.Readings.{AreRead}
-use Rattle.htl_main.specs.Subjects.{HasSubject}
+use Rattle.htl_main.specs.Subjects.{HasAbsence}
 use Rattle.htl_main.specs.declared.adding.Added.{Added}
+use Rattle.htl_main.specs.declared.completed.Absence.{Absence}
 use Rattle.htl_main.specs.declared.coverage.Coverage.{Coverage}
 use Rattle.htl_main.specs.declared.cut_inputs.CutInputs.{CutInputs}
 use Rattle.htl_main.specs.declared.loading.Loaded.{Loaded}
+use Rattle.htl_main.specs.declared.printing.AnswerText.{AnswerText}
 use Rattle.htl_main.specs.declared.origin.Between.TheVariants.{Nothing}
 use Rattle.htl_main.specs.declared.refused.Refused.{Refused}
-use Rattle.htl_main.proofs.AfterLoading.{as_of, runs_subject, runs_text}
-use Rattle.htl_program.specs.Asking.{AddsTo, IsAdding, IsRunsSubject, IsRunsText, Opens, own_run}
+use Rattle.htl_main.specs.CutInputs.{decoding}
+use Rattle.htl_main.proofs.AfterLoading.{as_of, runs_absence, runs_remarks, runs_text}
+use Rattle.htl_main.proofs.CompleteLaws.{complete_both}
+use Rattle.htl_main.proofs.CutLaws.{ends_both, ends_moved}
+use Rattle.htl_program.specs.Asking.{AddsTo, AreRunsRemarks, IsAdding, IsAnswerText, IsRunsAbsence, IsRunsText, Opens, own_run}
 use Rattle.htl_program.specs.Endings.{RunsOut}
 use Rattle.htl_program.specs.Openings.{IsUnopenedFor}
 use Rattle.htl_program.specs.Opened.{Known, Opened, ends, lefts}
@@ -39,19 +44,28 @@ module _ (setting : Setting) (inputs : List (List ℕ)) (symbols : Option (List 
   -- what is told of what was loaded, its coverage and its cut inputs, is that of the inputs
   pub loaded_opens : (coverage : Coverage) (cut : Option CutInputs) → IsCoverage T coverage → AreCut setting.form.hex inputs cut
       → Opens setting.form inputs (record { coverage = coverage; cut = cut })
-  loaded_opens coverage cut is are = record { coverage = (loaded.segments, loaded.decoded, (T, loaded.loaded.case, is)); cut = are }
+  loaded_opens coverage cut is are = record { coverage = (loaded.given.segments, loaded.decoded.segments, (T, loaded.loaded.case, is)); cut = are }
 
   -- a text over what was loaded is one of a run of its own
-  pub loaded_text : (job : Job) (text : List ℕ) → IsText T table job text → IsRunsText setting symbols inputs job text
+  loaded_text : (job : Job) (text : List ℕ) → IsText T table job text → IsRunsText setting symbols inputs job text
   loaded_text job text is =
       let own = own_run setting job in
       runs_text setting inputs symbols T table own (as_of inputs symbols setting own T table loaded) text (λ coded. absurd (cc coded)) is
 
-  -- whether what was loaded has an event of the subject is what a run of its own reports
-  pub loaded_subject : (job : Job) (found : Bool) → HasSubject T job found → IsRunsSubject setting inputs job found
-  loaded_subject job found is =
+  -- and what is told of an answer over it is told by a run of its own
+  pub loaded_answer : (job : Job) (answer : AnswerText) → IsAnswerText T table job answer
+      → IsRunsText setting symbols inputs job answer.lines.items × AreRunsRemarks setting symbols inputs job answer.remarks
+  loaded_answer job answer is =
+      let own = own_run setting job in (
+        loaded_text job answer.lines.items is.text,
+        runs_remarks setting inputs symbols T table own (as_of inputs symbols setting own T table loaded) answer.remarks is.remarks,
+      )
+
+  -- why nothing can be found in what was loaded is what a run of its own reports
+  pub loaded_absence : (job : Job) (absence : Option Absence) → HasAbsence T job absence → IsRunsAbsence setting inputs job absence
+  loaded_absence job absence is =
       let own = own_run setting job in
-      runs_subject setting inputs symbols T table own (as_of inputs symbols setting own T table loaded) found is
+      runs_absence setting inputs symbols T table own (as_of inputs symbols setting own T table loaded) absence is
 
 -- ---- over time
 
@@ -93,13 +107,18 @@ module _ {R : Type 0} (world : Known) (ways : Opened R) (setting : Setting) (sym
       → AreLoadedOf (inputs ++ texts) symbols setting None after.case after.symbols
   loaded_then texts added held adds =
       let new = only_added (adds.adds texts held) in
+      let ends = ends_moved setting.form.hex 0 (0 + length inputs) texts new.cuts new.cut_ends in
       record {
         workers = old.workers;
-        segments = old.segments ++ new.segments;
-        decoded = decode_both setting.form inputs texts old.segments new.segments old.decoded new.decoded;
+        given = decoding (old.given.segments ++ new.segments) (old.given.cuts ++ ends.0);
+        decoded = record {
+          segments = decode_both setting.form inputs texts old.given.segments new.segments old.decoded.segments new.decoded;
+          cuts = ends_both setting.form.hex 0 inputs texts old.given.cuts ends.0 old.decoded.cuts ends.1;
+        };
         loaded = record {
-          case = case_both old.segments new.segments before.case after.case old.loaded.case new.case;
-          whole = new.whole;
+          case = case_both old.given.segments new.segments before.case after.case old.loaded.case new.case;
+          whole = λ complete. complete_both old.given.segments new.segments before.case after.case old.given.cuts new.cuts ends.0 ends.2
+              old.loaded.case new.case (old.loaded.whole complete) (new.whole complete);
           named = subst (HasSymbols symbols) (sym adds.symbols) old.loaded.named;
         };
       }
@@ -116,8 +135,8 @@ module _ {R : Type 0} (world : Known) (ways : Opened R) (setting : Setting) (sym
   adds_to texts ended adds held =
       elim (adds.adds texts held) [
         | inl is ↦ inl (record {
-          segments = old.segments;
-          decoded = old.decoded;
+          segments = old.given.segments;
+          decoded = old.decoded.segments;
           before = before.case;
           case = old.loaded.case;
           after = after.case;

@@ -2,13 +2,13 @@
 use Rattle.std.proofs.Common.{◌≡◌, ◌⊎◌, ℕ, Bool, List, Option, Result, Ok, Err, ap, inl}
 use Rattle.std.specs.Prelude.{IfOk, IfErr, OnOk}
 use Rattle.htl_command.specs.declared.question.Job.{Job}
-use Rattle.htl_main.specs.Answers.{Finds}
 use Rattle.htl_main.specs.Causes.{Prints, PrintsPart}
 use Rattle.htl_main.specs.Coverages.{Covers}
 use Rattle.htl_main.specs.CutInputs.{AreCut}
 use Rattle.htl_main.specs.Origins.{IsBetween, by_fault}
 use Rattle.htl_main.specs.Sources.{IsSourcesCause}
-use Rattle.htl_main.specs.Subjects.{ReportsSubject}
+use Rattle.htl_main.specs.Remarks.{ReportsRemarks}
+use Rattle.htl_main.specs.Subjects.{ReportsAbsence}
 use Rattle.htl_main.specs.declared.completed.Completed.{Completed}
 use Rattle.htl_main.specs.declared.fault.RunFault.{RunFault}
 use Rattle.htl_main.specs.declared.fault.RunFault.TheVariants.{Memory, Write}
@@ -20,15 +20,15 @@ pub run_ends : (job : Job) (texts : List (List ℕ)) (table : Option (List ℕ))
     (old new : Option (List ℕ)) (result : Result Completed Refused) → OnOk result (Prints job texts table old new)
     → IfOk result (λ completed. Covers job.setting.form texts completed.coverage)
     → IfOk result (λ completed. AreCut job.setting.form.hex texts completed.cut)
-    → IfOk result (λ completed. ReportsSubject texts job completed.has_subject)
-    → IfOk result (λ completed. Finds job texts completed.has_finding)
+    → IfOk result (λ completed. ReportsAbsence texts job completed.absence)
+    → IfOk result (λ completed. ReportsRemarks job texts table completed.remarks)
     → IfErr (by_fault result) (IsSourcesCause job texts lefts ends table)
     → (by_fault result ≡ Err Write → PrintsPart job texts table old new)
     → IfErr result (λ refused. IsBetween job.setting.form texts refused.fault refused.between)
     → Ends job texts table lefts ends old new result
-run_ends job texts table lefts ends old new (Ok completed) prints covers cut subject finds cause write between =
-    (prints, record { coverage = covers; cut = cut; subject = subject; finding = finds })
-run_ends job texts table lefts ends old new (Err refused) prints covers cut subject finds cause write between = record {
+run_ends job texts table lefts ends old new (Ok completed) prints covers cut absence remarks cause write between =
+    (prints, record { coverage = covers; cut = cut; absence = absence; remarks = remarks })
+run_ends job texts table lefts ends old new (Err refused) prints covers cut absence remarks cause write between = record {
   cause = cause;
   between = between;
   written = λ is. write (ap Err is);

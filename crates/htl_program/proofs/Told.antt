@@ -2,7 +2,7 @@
 use Rattle.std.proofs.Common.{◌≡◌, ◌++◌, ◌∷◌, [], List, append_assoc, refl}
 use Rattle.std.specs.Prelude.{Option, Some, None}
 use Rattle.htl_command.specs.declared.command.Command.{Command}
-use Rattle.htl_program.specs.Messages.{Hears, HearsRun, Message, begun, over}
+use Rattle.htl_program.specs.Messages.{Hears, HearsAll, HearsRun, Message, begun, over}
 
 -- a person that is told of the beginning and then of the end was told of the run
 pub run_told : (old within new : Option (List Message)) (command : Command) → Hears old within (begun command) → Hears within new over
@@ -10,3 +10,10 @@ pub run_told : (old within new : Option (List Message)) (command : Command) → 
 run_told None within new command first last = tt
 run_told (Some said) within new command first last =
     let ended : new ≡ Some ((said ++ begun command ∷ []) ++ over ∷ []) = rw first at last in rw (ended, append_assoc said (begun command ∷ []) (over ∷ [])) refl
+
+-- a person that is told these messages and then those was told all of them
+pub all_told : (old within new : Option (List Message)) (first more : List Message) → HearsAll old within first → HearsAll within new more
+    → HearsAll old new (first ++ more)
+all_told None within new first more one other = tt
+all_told (Some said) within new first more one other =
+    let ended : new ≡ Some ((said ++ first) ++ more) = rw one at other in rw (ended, append_assoc said first more) refl

@@ -1,8 +1,8 @@
 -- What asking comes to (this project's own). Who answers is known by what was read so far, as far as that is known: the texts of all
 -- inputs, where their segments are kept, or the segments that were taken, where these are forgotten. A question gets the text that a run of
--- its own over these prints.
+-- its own over these prints, or isn't answered while a segment is missing of a trace that is asked for complete.
 use Rattle.std.specs.Prelude.{◌≡◌, ◌≢◌, ◌≤◌, ◌⊎◌, ◌++◌, ◌∷◌, [], ⊤, ℕ, Bool, true, false, List, Option, None, Some, Result, Ok, Err}
-use Rattle.std.specs.Prelude.{IfErr, IfSome, length, map, option_map}
+use Rattle.std.specs.Prelude.{IfErr, IfSome, is_some, length, map, option_map}
 use Rattle.htl_case.specs.Cases.{IsCaseOf}
 use Rattle.htl_command.specs.declared.question.InputForm.{InputForm}
 use Rattle.htl_command.specs.declared.question.Job.{Job}
@@ -12,22 +12,27 @@ use Rattle.htl_device.specs.declared.whole.TheConstants.{MAX_READS}
 use Rattle.htl_dialogue.specs.Notes.{Note, begins}
 use Rattle.htl_dialogue.specs.declared.dialogue.DialogueFault.TheVariants.{Questions, Write}
 use Rattle.htl_main.specs.Adding.{IsAdded, IsAddingRefused}
+use Rattle.htl_main.specs.Completeness.{IsComplete, IsLeastMissing}
 use Rattle.htl_main.specs.Coverages.{Covers}
 use Rattle.htl_main.specs.CutInputs.{AreCut}
-use Rattle.htl_main.specs.Folding.{IsAskedOver, IsBeginningRefused, IsFolded, IsFoldingRefused, IsHalfKnown}
+use Rattle.htl_main.specs.Folding.{IsAskedOver, IsBeginningRefused, IsCollectionOf, IsFolded, IsFoldingRefused, IsHalfKnown}
 use Rattle.htl_main.specs.Inputs.{DecodeAll}
 use Rattle.htl_main.specs.Loading.{in_setting}
 use Rattle.htl_main.specs.Origins.{IsBetween, by_fault}
 use Rattle.htl_main.specs.Printed.{HasSymbols, IsText, Printed}
 use Rattle.htl_main.specs.Sources.{IsEndless, IsSourcesCause, IsTrueAt}
-use Rattle.htl_main.specs.Subjects.{ReportsSubject}
+use Rattle.htl_main.specs.Remarks.{RemarksOver, ReportsRemarks}
+use Rattle.htl_main.specs.Subjects.{ReportsAbsence}
 use Rattle.htl_main.specs.declared.adding.Added.{Added}
+use Rattle.htl_main.specs.declared.completed.Absence.{Absence}
 use Rattle.htl_main.specs.declared.coverage.Coverage.{Coverage}
 use Rattle.htl_main.specs.declared.cut_inputs.CutInputs.{CutInputs}
 use Rattle.htl_main.specs.declared.fault.RunFault.{RunFault}
-use Rattle.htl_main.specs.declared.fault.RunFault.TheVariants.{Memory, Read}
+use Rattle.htl_main.specs.declared.fault.RunFault.TheVariants.{Incomplete, Memory, Read}
 use Rattle.htl_main.specs.declared.origin.Between.{Between}
+use Rattle.htl_main.specs.declared.printing.AnswerText.{AnswerText}
 use Rattle.htl_main.specs.declared.refused.Refused.{Refused}
+use Rattle.htl_main.specs.declared.remarks.Remarks.{Remarks}
 use Rattle.htl_segment.specs.Content.{Content}
 use Rattle.htl_segment.specs.Traces.{Trace}
 use Rattle.htl_symbols.specs.Ranges.{Range}
@@ -46,9 +51,17 @@ own_run setting job = record (in_setting setting job) { exit_code = false }
 abbrev pub IsRunsText : Setting → Option (List ℕ) → List (List ℕ) → Job → List ℕ → Type 0
 IsRunsText setting symbols inputs job text = Printed (own_run setting job) inputs symbols (Ok text)
 
--- This is what it reports of the subject.
-abbrev pub IsRunsSubject : Setting → List (List ℕ) → Job → Bool → Type 0
-IsRunsSubject setting inputs job found = ReportsSubject inputs (own_run setting job) found
+-- This is what it tells of its answer, and why nothing can be found of what is asked about.
+abbrev pub AreRunsRemarks : Setting → Option (List ℕ) → List (List ℕ) → Job → Remarks → Type 0
+AreRunsRemarks setting symbols inputs job remarks = ReportsRemarks (own_run setting job) inputs symbols remarks
+
+abbrev pub IsRunsAbsence : Setting → List (List ℕ) → Job → Option Absence → Type 0
+IsRunsAbsence setting inputs job absence = ReportsAbsence inputs (own_run setting job) absence
+
+-- This answers the job over a trace, with these names of addresses.
+pub record IsAnswerText (T : Trace) (table : List Range) (job : Job) (answer : AnswerText) : Type 0 where
+  pub text : IsText T table job answer.lines.items
+  pub remarks : RemarksOver T table job answer.remarks
 
 -- ---- what was read
 
@@ -57,22 +70,34 @@ pub data Taken : Type 0 where
   inputs : List (List ℕ) → Taken
   segments : List Content → Taken
 
--- This is what a run prints over the first segment of each key, where the question can be asked over these: the text of the definition's
--- value over all of them.
-abbrev pub IsFoldsText : Option (List ℕ) → List Content → Job → List ℕ → Type 0
-IsFoldsText symbols taken job text =
-    (T : Trace) → IsAskedOver job.question taken T → (table : List Range) × HasSymbols symbols table × IsText T table job text
+-- This is what a run prints and tells over the first segment of each key, where the question can be asked over these: the answer by the
+-- definition's value over all of them. Where a complete trace is asked for, none is missing.
+abbrev pub IsFoldsAnswer : Setting → Option (List ℕ) → List Content → Job → AnswerText → Type 0
+IsFoldsAnswer setting symbols taken job answer =
+    (T : Trace) → IsAskedOver job.question taken T
+    → ((table : List Range) × HasSymbols symbols table × IsAnswerText T table job answer) × (setting.complete ≡ true → IsComplete T [])
 
-abbrev pub IsTextOver : Setting → Option (List ℕ) → Option Taken → Job → List ℕ → Type 0
-IsTextOver setting symbols None job text = ⊤
-IsTextOver setting symbols (Some (inputs texts)) job text = IsRunsText setting symbols texts job text
-IsTextOver setting symbols (Some (segments taken)) job text = IsFoldsText symbols taken job text
+-- A complete trace is asked for, and of the segments that were taken this is the least key that is missing.
+abbrev pub IsFoldsGap : Setting → List Content → RunFault → Type 0
+IsFoldsGap setting taken (Incomplete processor number) =
+    (setting.complete ≡ true) × ((T : Trace) → IsCollectionOf taken T → IsLeastMissing T [] processor number)
+IsFoldsGap setting taken fault = ⊥
 
--- What is told of the subject of a question. Where events were forgotten, it is never told that there is none.
-abbrev pub IsSubjectOver : Setting → Option Taken → Job → Bool → Type 0
-IsSubjectOver setting None job found = ⊤
-IsSubjectOver setting (Some (inputs texts)) job found = IsRunsSubject setting texts job found
-IsSubjectOver setting (Some (segments taken)) job found = found ≡ true
+-- The answer to a question, or why it isn't answered: a gap of what was taken and forgotten. (Inputs whose segments are kept have none
+-- where a complete trace is asked for, since they would have been refused.)
+abbrev pub IsOutcomeOver : Setting → Option (List ℕ) → Option Taken → Job → Result AnswerText RunFault → Type 0
+IsOutcomeOver setting symbols None job outcome = ⊤
+IsOutcomeOver setting symbols (Some (inputs texts)) job (Ok answer) =
+    IsRunsText setting symbols texts job answer.lines.items × AreRunsRemarks setting symbols texts job answer.remarks
+IsOutcomeOver setting symbols (Some (inputs texts)) job (Err fault) = ⊥
+IsOutcomeOver setting symbols (Some (segments taken)) job (Ok answer) = IsFoldsAnswer setting symbols taken job answer
+IsOutcomeOver setting symbols (Some (segments taken)) job (Err fault) = IsFoldsGap setting taken fault
+
+-- Why nothing can be found of what a question is about. Where events were forgotten, it is never told that nothing can.
+abbrev pub IsAbsenceOver : Setting → Option Taken → Job → Option Absence → Type 0
+IsAbsenceOver setting None job absence = ⊤
+IsAbsenceOver setting (Some (inputs texts)) job absence = IsRunsAbsence setting texts job absence
+IsAbsenceOver setting (Some (segments taken)) job absence = absence ≡ None
 
 -- ---- reading more
 
@@ -170,7 +195,7 @@ pub record ReadsMore {R : Type 0} (world : Known) (ways : Opened R) (setting : S
 -- Who answers from what was read so far.
 abbrev pub answers_over : {R : Type 0} → Known → Opened R → Setting → Bool → Option (List ℕ) → Answers (Option Taken)
 answers_over world ways setting forgets symbols =
-    answers_by forgets (IsTextOver setting symbols) (IsSubjectOver setting) (ReadsMore world ways setting)
+    answers_by forgets (is_some symbols) (IsOutcomeOver setting symbols) (IsAbsenceOver setting) (ReadsMore world ways setting)
 
 -- ---- the beginning
 
@@ -191,15 +216,16 @@ Begins true setting texts (segments taken) opening =
     (added : Added) × IsFolded setting [] texts (λ all. all ≡ taken) added × (opening.coverage ≡ added.coverage) × (opening.cut ≡ added.cut)
 Begins folds setting texts read opening = ⊥
 
--- the first note
-abbrev pub opening_note : Coverage → Option CutInputs → Note
-opening_note coverage cut = begins coverage.gaps coverage.complete_to (option_map (λ inputs. (inputs.first, inputs.others)) cut)
+-- the first note, on files of these names
+abbrev pub opening_note : List (List ℕ) → Coverage → Option CutInputs → Note
+opening_note names coverage cut =
+    begins names coverage.gaps coverage.complete_to (option_map (λ inputs. (inputs.first, inputs.others)) cut)
 
--- A sink got these replies, and the audience these notes, after it was told this.
-abbrev pub BeginsAndGets : {Host : Type 0} → Option (List ℕ) → Option (List ℕ) → (Host → Note → Host) → Host → Host → Opening → List ℕ
-    → List Note → Type 0
-BeginsAndGets old new told audience after opening replies notes =
-    Gets old new told audience after replies (opening_note opening.coverage opening.cut ∷ notes)
+-- A sink got these replies, and the audience these notes, after it was told this of the files of these names.
+abbrev pub BeginsAndGets : {Host : Type 0} → List (List ℕ) → Option (List ℕ) → Option (List ℕ) → (Host → Note → Host) → Host → Host
+    → Opening → List ℕ → List Note → Type 0
+BeginsAndGets names old new told audience after opening replies notes =
+    Gets old new told audience after replies (opening_note names opening.coverage opening.cut ∷ notes)
 
 -- why a run of its own over sources of these bytes would end, whatever it is asked of all events
 abbrev pub IsRunsCause : Setting → List (List ℕ) → List (Option (List ℕ)) → List Bool → Option (List ℕ) → RunFault → Type 0

@@ -28,7 +28,7 @@ pub record IsRefusal (job : Job) (texts : List (List ℕ)) (table : Option (List
 abbrev pub Ends : Job → List (List ℕ) → Option (List ℕ) → List (Option (List ℕ)) → List Bool → Option (List ℕ) → Option (List ℕ)
     → Result Completed Refused → Type 0
 Ends job texts table lefts ends old new (Ok completed) =
-    Prints job texts table old new × Reports job texts completed
+    Prints job texts table old new × Reports job texts table completed
 Ends job texts table lefts ends old new (Err refused) = IsRefusal job texts table lefts ends old new refused
 
 -- memory was refused

@@ -1,24 +1,30 @@
 -- For the clauses of private functions: what is kept answers the lines of a dialogue, before files are read and after.
-use Rattle.std.specs.Prelude.{◌≡◌, ◌⊎◌, ⊤, ℕ, Bool, true, false, List, IfErr, IfOk, None, Some, Option, Result, map}
+use Rattle.std.specs.Prelude.{◌≡◌, ◌⊎◌, [], ⊤, ℕ, Bool, true, false, List, IfErr, IfOk, None, Some, Option, Result, Ok, Err, map}
 use Rattle.htl_command.specs.Needs.{needs_events}
 use Rattle.htl_command.specs.declared.question.Job.{Job}
 use Rattle.htl_command.specs.declared.question.Setting.{Setting}
 use Rattle.htl_dialogue.specs.Dialogues.{Answers, answers_by}
 use Rattle.htl_dialogue.specs.declared.saying.Said.{Said}
 use Rattle.htl_dialogue.specs.declared.saying.Said.TheVariants as said
+use Rattle.htl_main.specs.Completeness.{IsComplete, IsLeastMissing}
 use Rattle.htl_main.specs.Coverages.{IsCoverage}
-use Rattle.htl_main.specs.Folding.{AreFolded, IsAskedOver}
+use Rattle.htl_main.specs.Folding.{AreFolded, IsAskedOver, IsCollectionOf}
 use Rattle.htl_main.specs.Loading.{AreLoadedOf}
 use Rattle.htl_main.specs.Origins.{by_fault}
-use Rattle.htl_main.specs.Printed.{HasSymbols, IsText}
-use Rattle.htl_main.specs.Subjects.{HasSubject}
+use Rattle.htl_main.specs.Printed.{HasSymbols}
+use Rattle.htl_main.specs.Subjects.{HasAbsence}
 use Rattle.htl_main.specs.declared.adding.Added.{Added}
+use Rattle.htl_main.specs.declared.completed.Absence.{Absence}
+use Rattle.htl_main.specs.declared.fault.RunFault.{RunFault}
+use Rattle.htl_main.specs.declared.fault.RunFault.TheVariants.{Incomplete, Memory}
 use Rattle.htl_main.specs.declared.folding.Folded.{Folded}
 use Rattle.htl_main.specs.declared.loading.Loaded.{Loaded}
+use Rattle.htl_main.specs.declared.printing.AnswerText.{AnswerText}
 use Rattle.htl_main.specs.declared.refused.Refused.{Refused}
 use Rattle.htl_segment.specs.Content.{Content}
 use Rattle.htl_segment.specs.Traces.{Trace}
-use Rattle.htl_program.specs.Asking.{Begins, GoesOn, IsAdding, IsFolding, ReadsNames, Taken, found, inputs, one_is_absent, segments}
+use Rattle.htl_program.specs.Asking.{Begins, GoesOn, IsAdding, IsAnswerText, IsFolding, ReadsNames, Taken, found}
+use Rattle.htl_program.specs.Asking.{inputs, one_is_absent, segments}
 use Rattle.htl_program.specs.Endings.{RunsOut}
 use Rattle.htl_program.specs.Opened.{Known, Opened, ends, lefts}
 use Rattle.htl_program.specs.declared.kept.Begun.{Begun}
@@ -29,6 +35,11 @@ abbrev pub is_state : Kept → Bool
 is_state (Case loaded) = false
 is_state (State folded) = true
 
+-- memory was refused
+abbrev pub is_memory : RunFault → Bool
+is_memory Memory = true
+is_memory fault = false
+
 -- a question is one that what is kept answers
 abbrev pub IsOfForm : Bool → Said → Type 0
 IsOfForm forgets (said.Asks job) = forgets ≡ true → needs_events job ≡ false
@@ -36,18 +47,23 @@ IsOfForm forgets other = ⊤
 
 -- ---- what is kept
 
--- This answers the job. That the coverage of a case is known is a premise, which every step keeps; and so is that a state was folded of
--- segments.
-abbrev pub HasTextIn : Kept → Job → List ℕ → Type 0
-HasTextIn (Case loaded) job text = IsCoverage loaded.case loaded.coverage → IsText loaded.case loaded.symbols job text
-HasTextIn (State folded) job text =
+-- This answers the job, or it isn't answered for this fault. That the coverage of a case is known is a premise, which every step keeps; and
+-- so is that a state was folded of segments. What is asked for complete and misses a segment isn't answered.
+abbrev pub HasOutcomeIn : Bool → Kept → Job → Result AnswerText RunFault → Type 0
+HasOutcomeIn complete (Case loaded) job (Ok answer) =
+    IsCoverage loaded.case loaded.coverage → IsAnswerText loaded.case loaded.symbols job answer
+HasOutcomeIn complete (State folded) job (Ok answer) =
     (taken : List Content) (T : Trace) → AreFolded folded.analyst taken → IsAskedOver job.question taken T
-    → IsText T folded.symbols job text
+    → IsAnswerText T folded.symbols job answer × (complete ≡ true → IsComplete T [])
+HasOutcomeIn complete (State folded) job (Err (Incomplete processor number)) =
+    (complete ≡ true) × ((taken : List Content) (T : Trace) → AreFolded folded.analyst taken → IsCollectionOf taken T
+    → IsLeastMissing T [] processor number)
+HasOutcomeIn complete kept job (Err fault) = ⊥
 
--- a state can't tell that there is no event
-abbrev pub HasSubjectIn : Kept → Job → Bool → Type 0
-HasSubjectIn (Case loaded) job found = IsCoverage loaded.case loaded.coverage → HasSubject loaded.case job found
-HasSubjectIn (State folded) job found = found ≡ true
+-- a state can't tell that nothing can be found
+abbrev pub HasAbsenceIn : Kept → Job → Option Absence → Type 0
+HasAbsenceIn (Case loaded) job absence = IsCoverage loaded.case loaded.coverage → HasAbsence loaded.case job absence
+HasAbsenceIn (State folded) job absence = absence ≡ None
 
 -- What is kept is of what was read, where that is known.
 abbrev pub AreKept : Setting → Option (List ℕ) → Kept → Taken → Type 0
@@ -90,8 +106,9 @@ ReadsFiles world ways setting before names after ended = ⊥
 -- ---- a dialogue
 
 -- who answers from what is kept
-abbrev pub answers_from : {R : Type 0} → Known → Opened R → Setting → Bool → Answers Kept
-answers_from world ways setting forgets = answers_by forgets HasTextIn HasSubjectIn (ReadsFiles world ways setting)
+abbrev pub answers_from : {R : Type 0} → Known → Opened R → Setting → Bool → Bool → Answers Kept
+answers_from world ways setting forgets has_table =
+    answers_by forgets has_table (HasOutcomeIn setting.complete) HasAbsenceIn (ReadsFiles world ways setting)
 
 -- What there is before the first line, by what was read.
 pub record IsBegun (folds : Bool) (setting : Setting) (symbols : Option (List ℕ)) (texts : List (List ℕ)) (begun : Begun) : Type 0 where

@@ -1,12 +1,12 @@
 -- What a person is told beside the output (this project's own).
 use Rattle.std.specs.Prelude.{◌≡◌, ◌++◌, ◌∷◌, ◌&&◌, ◌==◌, [], not, ℕ, Bool, true, false, List, Option, None, Some}
-use Rattle.std.specs.Prelude.{IfSome, if◌then◌else◌, string_bytes}
+use Rattle.std.specs.Prelude.{IfSome, if◌then◌else◌, is_some, string_bytes}
 use Rattle.htl_command.specs.declared.command.Command.{Command}
+use Rattle.htl_command.specs.declared.command.Run.{Run}
 use Rattle.htl_command.specs.declared.fault.ParseFault.{ParseFault}
 use Rattle.htl_command.specs.declared.fault.ParseFault.TheVariants.{Help, Usage, Memory}
 use Rattle.htl_command.specs.declared.question.Job.{Job}
 use Rattle.htl_command.specs.declared.question.Moment.{Moment}
-use Rattle.htl_command.specs.declared.question.Question.{Question}
 use Rattle.htl_dialogue.specs.declared.dialogue.DialogueFault.{DialogueFault}
 use Rattle.htl_main.specs.Moments.{is_above}
 use Rattle.htl_main.specs.declared.completed.Completed.{Completed}
@@ -15,13 +15,13 @@ use Rattle.htl_main.specs.declared.cut_inputs.CutInputs.{CutInputs}
 use Rattle.htl_main.specs.declared.fault.RunFault.{RunFault}
 use Rattle.htl_main.specs.declared.origin.Between.TheVariants.{Nothing}
 use Rattle.htl_main.specs.declared.refused.Refused.{Refused}
-use Rattle.htl_program.specs.AskedAbout.{subject_of_question}
-use Rattle.htl_program.specs.declared.subject.Subject.{Subject}
+use Rattle.htl_program.specs.AskedAbout.{lack_of}
+use Rattle.htl_program.specs.declared.lack.Lack.{Lack}
 
 -- A message to a person: that the run of a command begins, and that it has ended; a text as it stands; that memory was refused;
--- that a text could not be written; the fault that ended a run, and the same in words, by what its command names; that what was asked
--- about has no event; that segments are missing; which inputs end within a segment; why the replies of a dialogue stopped, and the same in
--- words.
+-- that a text could not be written; the fault that ended a run, and the same in words, by what its command names; what a question lacks;
+-- that the table of symbols has none of the addresses that are shown; that segments are missing; which inputs end within a segment; why the
+-- replies of a dialogue stopped, and the same in words.
 pub data Message : Type 0 where
   begun : Command → Message
   over : Message
@@ -30,9 +30,10 @@ pub data Message : Type 0 where
   unwritten : Message
   fault : Refused → Message
   meaning : Command → Refused → Message
-  absence : Subject → Message
+  lack : Lack → Message
+  unnamed : Message
   gaps : Coverage → Message
-  cut : CutInputs → Message
+  cut : Command → CutInputs → Message
   stop : DialogueFault → Message
   stop_meaning : DialogueFault → Message
 
@@ -56,14 +57,17 @@ abbrev pub stop_said : Bool → DialogueFault → List Message
 stop_said true stopped = stop stopped ∷ stop_meaning stopped ∷ []
 stop_said false stopped = stop stopped ∷ []
 
--- what was asked about, where it has no event
-abbrev pub absent_subject : Question → Bool → Option Subject
-absent_subject question true = None
-absent_subject question false = subject_of_question question
+-- what the question lacks, if anything
+abbrev pub said_lack : Option Lack → List Message
+said_lack None = []
+said_lack (Some lacking) = lack lacking ∷ []
 
-abbrev pub absence_said : Option Subject → List Message
-absence_said None = []
-absence_said (Some subject) = absence subject ∷ []
+abbrev pub lack_said : Job → Completed → List Message
+lack_said job completed = said_lack (lack_of job completed.absence completed.remarks)
+
+-- that the table of symbols has none of the addresses, where that is so
+abbrev pub unnamed_said : Bool → List Message
+unnamed_said is_unnamed = if is_unnamed then unnamed ∷ [] else []
 
 -- segments are missing, and the moment up to which events count is above what the case is complete to
 abbrev pub is_touched : Coverage → Option Moment → Bool
@@ -72,22 +76,22 @@ is_touched coverage until = not (coverage.gaps == 0) && is_above until coverage.
 abbrev pub gaps_said : Coverage → Option Moment → List Message
 gaps_said coverage until = if is_touched coverage until then gaps coverage ∷ [] else []
 
--- some inputs end within a segment
-abbrev pub cut_said : Option CutInputs → List Message
-cut_said None = []
-cut_said (Some inputs) = cut inputs ∷ []
+-- some inputs end within a segment, which are told by what the command names
+abbrev pub cut_said : Command → Option CutInputs → List Message
+cut_said command None = []
+cut_said command (Some inputs) = cut command inputs ∷ []
 
 -- what is said beside the text of segments, where words are wanted
-abbrev pub cut_noted : Bool → Option CutInputs → List Message
-cut_noted false inputs = []
-cut_noted true inputs = cut_said inputs
+abbrev pub cut_noted : Bool → Command → Option CutInputs → List Message
+cut_noted false command inputs = []
+cut_noted true command inputs = cut_said command inputs
 
 -- what is said beside an answer, where words are wanted
-abbrev pub notes_said : Bool → Job → Completed → List Message
-notes_said false job completed = []
-notes_said true job completed =
-    absence_said (absent_subject job.question completed.has_subject)
-    ++ (gaps_said completed.coverage job.until ++ cut_said completed.cut)
+abbrev pub notes_said : Bool → Command → Run → Completed → List Message
+notes_said false command run completed = []
+notes_said true command run completed =
+    lack_said run.job completed ++ (unnamed_said (is_some run.symbols && completed.remarks.is_unnamed)
+    ++ (gaps_said completed.coverage run.job.until ++ cut_said command completed.cut))
 
 -- These messages were given, one after the other, and nothing else.
 abbrev pub HearsAll : Option (List Message) → Option (List Message) → List Message → Type 0

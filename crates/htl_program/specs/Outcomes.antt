@@ -1,6 +1,7 @@
 -- What comes of a question, a dump, an encoding and a dialogue in a world (this project's own). Each is said of the inputs that were opened
 -- for it, as they are by then.
 use Rattle.std.specs.Prelude.{◌≡◌, ◌≢◌, ◌⊎◌, ℕ, Bool, true, false, List, map, Option, Some, IfErr, IfOk, OnOk, Result, Err, String}
+use Rattle.std.specs.Prelude.{string_bytes}
 use Rattle.htl_command.specs.declared.command.Dialogue.{Dialogue}
 use Rattle.htl_command.specs.declared.command.Run.{Run}
 use Rattle.htl_command.specs.declared.question.InputForm.{InputForm}
@@ -101,8 +102,8 @@ talk questions left read_failed old new write_failed told wants_absence before a
 }
 
 -- after the opening the output got these replies, and the speaker these notes
-abbrev pub HasGot : {S : Type 0} → Talk S → Opening → List ℕ → List Note → Type 0
-HasGot talk opening = BeginsAndGets talk.old talk.new talk.told talk.before talk.after opening
+abbrev pub HasGot : {S : Type 0} → List (List ℕ) → Talk S → Opening → List ℕ → List Note → Type 0
+HasGot names talk opening = BeginsAndGets names talk.old talk.new talk.told talk.before talk.after opening
 
 -- Each line got what a run of its own prints over what the names hold, or those before a fault did. What comes before the first line ends
 -- as any run does, which is said of the fault alone.
@@ -112,13 +113,13 @@ pub record IsConversed {R S : Type 0} (world : Known) (inputs : Opened R) (of : 
       → IsTable world.holds of.symbols table → talk.questions ≡ Some lines
       → IfOk ended (λ conversed. (read : Taken) × (opening : Opening) × Begins of.folds of.setting texts read opening
       × Converses (answers_over world (ways_of inputs) of.setting of.folds table) talk.wants_absence (Some read) lines
-      (HasGot talk opening) conversed)
+      (HasGot (map string_bytes of.files.items) talk opening) conversed)
   pub stops : (texts : List (List ℕ)) → (table : Option (List ℕ)) → (lines : List ℕ) → (stopped : DialogueFault)
       → HaveTexts world of.files.items texts → IsTable world.holds of.symbols table → talk.questions ≡ Some lines
       → ended ≡ Err (asks.Dialogue stopped)
       → (read : Taken) × (opening : Opening) × Begins of.folds of.setting texts read opening
       × DialogueStops (answers_over world (ways_of inputs) of.setting of.folds table) talk.wants_absence (Some read) lines
-      talk.left talk.read_failed (HasGot talk opening) stopped
+      talk.left talk.read_failed (HasGot (map string_bytes of.files.items) talk opening) stopped
   pub devices : ReportsDevices talk.read_failed talk.questions talk.write_failed ended
   pub cause : (texts : List (List ℕ)) → (table : Option (List ℕ)) → HaveTexts world of.files.items texts
       → IsTable world.holds of.symbols table → IfErr (by_fault (before_dialogue ended)) (λ fault.

@@ -2,7 +2,8 @@
 use Rattle.std.specs.Prelude.{◌++◌, ℕ, List, Option, None, Some, codes}
 use Rattle.std.specs.Fmt.{decimal}
 use Rattle.htl_command.specs.declared.code.Code.{Code}
-use Rattle.htl_command.specs.declared.code.Code.TheVariants.{S11, S12, S13, S14, S15, H1, C2, C3, C4, C5, C7, C8, Y2, Y3, Y4, Y5, Y6, E1}
+use Rattle.htl_command.specs.declared.code.Code.TheVariants.{S11, S12, S13, S14, S15, H1, C2, C3, C4, C5, C7, C8, C10}
+use Rattle.htl_command.specs.declared.code.Code.TheVariants.{Y2, Y3, Y4, Y5, Y6, E1}
 use Rattle.htl_command.specs.declared.printed.Parts.{Parts}
 use Rattle.htl_command.specs.declared.printed.Parts.TheVariants.{Nothing, Number, Numbers, Field}
 use Rattle.htl_program.specs.AskedAbout.{subject_text}
@@ -20,6 +21,7 @@ part_text (parts.Row row) = codes "row " ++ decimal row
 part_text (parts.Field name) = codes "the line's " ++ name.now
 part_text (parts.Subject subject) = subject_text subject
 part_text (parts.Unnumbered words) = words.now
+part_text (parts.Input input) = codes "input " ++ decimal input
 
 -- the part that the number of a fault names, or its two numbers, or its field
 abbrev pub number_part : Code → ℕ → Option NamedPart
@@ -32,6 +34,7 @@ number_part H1 place = Some (parts.Byte place)
 number_part C2 place = Some (parts.Segment place)
 number_part C3 place = Some (parts.Segment place)
 number_part C5 sequence = Some (parts.Sequence sequence)
+number_part C10 input = Some (parts.Input input)
 number_part Y2 row = Some (parts.Row row)
 number_part Y3 row = Some (parts.Row row)
 number_part Y4 row = Some (parts.Row row)

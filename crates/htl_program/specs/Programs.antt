@@ -1,5 +1,5 @@
 -- What the program does with its arguments (this project's own).
-use Rattle.std.specs.Prelude.{◌≡◌, ◌⊎◌, ◌&&◌, ◌||◌, ⊤, not, ℕ, Bool, true, false, List, Option, Some}
+use Rattle.std.specs.Prelude.{◌≡◌, ◌⊎◌, ◌∷◌, [], ◌&&◌, ◌||◌, ⊤, not, ℕ, Bool, true, false, List, Option, Some}
 use Rattle.std.specs.Prelude.{IfErr, Result, Ok, Err, String, string_bytes}
 use Rattle.std.specs.Io.KnownBytes.{Appends}
 use Rattle.htl_command.specs.Refusals.{IsUsageWith, RefusesArguments}
@@ -15,6 +15,7 @@ use Rattle.htl_command.specs.declared.question.InputForm.{InputForm}
 use Rattle.htl_device.specs.Devices.{AppendsPrefix}
 use Rattle.htl_dialogue.specs.Notes.{Note}
 use Rattle.htl_dialogue.specs.declared.dialogue.Conversed.{Conversed}
+use Rattle.htl_dialogue.specs.declared.dialogue.DialogueFault.{DialogueFault}
 use Rattle.htl_dialogue.specs.declared.dialogue.DialogueFault.TheVariants as dialogues
 use Rattle.htl_main.specs.Origins.{by_fault}
 use Rattle.htl_main.specs.declared.completed.Completed.{Completed}
@@ -33,97 +34,122 @@ use Rattle.htl_program.specs.declared.ask_fault.AskFault.{AskFault}
 use Rattle.htl_program.specs.declared.ask_fault.AskFault.TheVariants as asks
 use Rattle.htl_program.specs.declared.console.Console.{Console}
 
--- what was written and said: which bytes the output holds, whether a write to it failed, and what a person heard
+-- what was written and said: which bytes the output holds, whether a write to it failed, and whether that is because its reader has gone,
+-- and what a person heard
 pub record Told : Type 0 where
   pub out : Option (List ℕ)
   pub write_failed : Bool
+  pub reader_gone : Bool
   pub heard : Option (List Message)
 
-abbrev pub told : {O P : Type 0} → (O → Option (List ℕ)) → (O → Bool) → (P → Option (List Message)) → Console O P → Told
-told contents has_failed heard console = record {
+abbrev pub told : {O P : Type 0} → (O → Option (List ℕ)) → (O → Bool) → (O → Bool) → (P → Option (List Message)) → Console O P → Told
+told contents has_failed has_lost_reader heard console = record {
   out = contents console.out;
   write_failed = has_failed console.out;
+  reader_gone = has_lost_reader console.out;
   heard = heard console.person;
 }
 
--- The fault that ended a run is said, once, and in words where these are wanted. A failed write may go unsaid.
-abbrev pub SaysFault : Bool → Option (List Message) → Option (List Message) → Command → Refused → Type 0
-SaysFault in_words old new command refused =
-    HearsAll old new (fault_said in_words command refused) ⊎ ((refused.fault ≡ faults.Write) × (new ≡ old))
+-- A failed write goes unsaid where a person watches and the output's reader has gone, as after `head`, and nowhere else.
+abbrev pub is_quiet : Bool → Told → Bool
+is_quiet watches new = watches && new.reader_gone
+
+abbrev pub is_unsaid : Bool → RunFault → Bool
+is_unsaid quiet faults.Write = quiet
+is_unsaid quiet reported = false
+
+-- the same where the replies of a dialogue stopped
+abbrev pub is_stop_unsaid : Bool → DialogueFault → Bool
+is_stop_unsaid quiet dialogues.Write = quiet
+is_stop_unsaid quiet stopped = false
+
+-- nothing is said (`true`), or these messages
+abbrev pub HearsUnless : Bool → Option (List Message) → Option (List Message) → List Message → Type 0
+HearsUnless true old new messages = new ≡ old
+HearsUnless false old new messages = HearsAll old new messages
+
+-- The fault that ended a run is said, once, and in words where these are wanted; a failed write may go unsaid.
+abbrev pub SaysFault : Bool → Bool → Option (List Message) → Option (List Message) → Command → Refused → Type 0
+SaysFault quiet in_words old new command refused =
+    HearsUnless (is_unsaid quiet refused.fault) old new (fault_said in_words command refused)
 
 -- how a question's end is said, once its run is over
-abbrev pub SaysAnswer : Bool → Option (List Message) → Option (List Message) → Command → Run → Result Completed Refused → Type 0
-SaysAnswer in_words old new command run (Ok completed) = HearsAll old new (notes_said in_words run.job completed)
-SaysAnswer in_words old new command run (Err refused) = SaysFault in_words old new command refused
+abbrev pub SaysAnswer : Bool → Bool → Option (List Message) → Option (List Message) → Command → Run → Result Completed Refused → Type 0
+SaysAnswer quiet in_words old new command run (Ok completed) = HearsAll old new (notes_said in_words command run completed)
+SaysAnswer quiet in_words old new command run (Err refused) = SaysFault quiet in_words old new command refused
 
-pub record DoesAnswer {R : Type 0} (in_words : Bool) (world : Known) (inputs : Opened R) (old new : Told) (command : Command) (run : Run)
-    (status : ℕ) : Type 0 where
+pub record DoesAnswer {R : Type 0} (watches in_words : Bool) (world : Known) (inputs : Opened R) (old new : Told) (command : Command)
+    (run : Run) (status : ℕ) : Type 0 where
   pub ended : Result Completed Refused
   pub is : IsAnswered world (files_of inputs) run old.out new.out new.write_failed ended
   pub status_is : status ≡ end_status run.job.exit_code (by_fault ended)
   pub after_run : Option (List Message)
   pub hears_run : HearsRun command old.heard after_run
-  pub said : SaysAnswer in_words after_run new.heard command run ended
+  pub said : SaysAnswer (is_quiet watches new) in_words after_run new.heard command run ended
 
 -- how a conversion's end is said: nothing, if it ended well
-abbrev pub SaysConversion : {S : Type 0} → Bool → Option (List Message) → Option (List Message) → Command → Result S RunFault → Type 0
-SaysConversion in_words old new command (Ok done) = new ≡ old
-SaysConversion in_words old new command (Err reported) = SaysFault in_words old new command (alone reported)
+abbrev pub SaysConversion : {S : Type 0} → Bool → Bool → Option (List Message) → Option (List Message) → Command → Result S RunFault
+    → Type 0
+SaysConversion quiet in_words old new command (Ok done) = new ≡ old
+SaysConversion quiet in_words old new command (Err reported) = SaysFault quiet in_words old new command (alone reported)
 
 -- the same of a dump: which inputs end within a segment, where they may
-abbrev pub SaysDump : Bool → Option (List Message) → Option (List Message) → Command → Result (Option CutInputs) RunFault → Type 0
-SaysDump in_words old new command (Ok cut) = HearsAll old new (cut_noted in_words cut)
-SaysDump in_words old new command (Err reported) = SaysFault in_words old new command (alone reported)
+abbrev pub SaysDump : Bool → Bool → Option (List Message) → Option (List Message) → Command → Result (Option CutInputs) RunFault → Type 0
+SaysDump quiet in_words old new command (Ok cut) = HearsAll old new (cut_noted in_words command cut)
+SaysDump quiet in_words old new command (Err reported) = SaysFault quiet in_words old new command (alone reported)
 
-pub record DoesDump {R A : Type 0} (in_words : Bool) (world : Known) (inputs : Opened R) (old new : Told) (command : Command)
+pub record DoesDump {R A : Type 0} (watches in_words : Bool) (world : Known) (inputs : Opened R) (old new : Told) (command : Command)
     (form : InputForm) (files : List (String A)) (status : ℕ) : Type 0 where
   pub ended : Result (Option CutInputs) RunFault
   pub is : IsDumped world (files_of inputs) form files old.out new.out new.write_failed ended
   pub status_is : status ≡ conversion_status ended
   pub after_run : Option (List Message)
   pub hears_run : HearsRun command old.heard after_run
-  pub said : SaysDump in_words after_run new.heard command ended
+  pub said : SaysDump (is_quiet watches new) in_words after_run new.heard command ended
 
-pub record DoesEncode {R A : Type 0} (in_words : Bool) (world : Known) (inputs : Opened R) (old new : Told) (command : Command)
+pub record DoesEncode {R A : Type 0} (watches in_words : Bool) (world : Known) (inputs : Opened R) (old new : Told) (command : Command)
     (hex : Bool) (files : List (String A)) (status : ℕ) : Type 0 where
   pub ended : Result (Unit {0}) RunFault
   pub is : IsEncoded world (files_of inputs) hex files old.out new.out new.write_failed ended
   pub status_is : status ≡ conversion_status ended
   pub after_run : Option (List Message)
   pub hears_run : HearsRun command old.heard after_run
-  pub said : SaysConversion in_words after_run new.heard command ended
+  pub said : SaysConversion (is_quiet watches new) in_words after_run new.heard command ended
 
--- A text that was asked for: it is written and nothing is said, with status 0; or its write fails, which is said, with status 5.
-abbrev pub IsPrinted : List ℕ → Told → Told → ℕ → Type 0
-IsPrinted bytes old new status =
+-- A text that was asked for: it is written and nothing is said, with status 0; or its write fails, with status 5, which is said unless a
+-- person watches and the output's reader has gone.
+abbrev pub IsPrinted : Bool → List ℕ → Told → Told → ℕ → Type 0
+IsPrinted watches bytes old new status =
     ((new.write_failed ≡ false) × (status ≡ 0) × Appends old.out new.out bytes × (new.heard ≡ old.heard))
-    ⊎ ((new.write_failed ≡ true) × (status ≡ 5) × AppendsPrefix old.out new.out bytes × Hears old.heard new.heard unwritten)
+    ⊎ ((new.write_failed ≡ true) × (status ≡ 5) × AppendsPrefix old.out new.out bytes
+    × HearsUnless (is_quiet watches new) old.heard new.heard (unwritten ∷ []))
 
 -- Where the arguments give no command: help is printed, and all else is said.
-abbrev pub Refuses : Told → Told → ParseFault → ℕ → Type 0
-Refuses old new (Help help) status = IsPrinted (string_bytes help) old new status
-Refuses old new (Usage why) status = (status ≡ 2) × (new.out ≡ old.out) × Hears old.heard new.heard (text (string_bytes why))
-Refuses old new Memory status = (status ≡ 6) × (new.out ≡ old.out) × Hears old.heard new.heard no_memory
+abbrev pub Refuses : Bool → Told → Told → ParseFault → ℕ → Type 0
+Refuses watches old new (Help help) status = IsPrinted watches (string_bytes help) old new status
+Refuses watches old new (Usage why) status = (status ≡ 2) × (new.out ≡ old.out) × Hears old.heard new.heard (text (string_bytes why))
+Refuses watches old new Memory status = (status ≡ 6) × (new.out ≡ old.out) × Hears old.heard new.heard no_memory
 
 -- a fault is explained, unless memory is refused
-abbrev pub Explains : Told → Told → List ℕ → ℕ → Type 0
-Explains old new bytes status =
-    IsPrinted bytes old new status
+abbrev pub Explains : Bool → Told → Told → List ℕ → ℕ → Type 0
+Explains watches old new bytes status =
+    IsPrinted watches bytes old new status
     ⊎ ((status ≡ 6) × (new.out ≡ old.out) × Hears old.heard new.heard (fault (alone faults.Memory)))
 
 -- Segments are made of text, but their bytes aren't shown to a person.
-abbrev pub EncodesOrRefuses : {R A : Type 0} → Bool → Bool → Known → Opened R → Told → Told → Command → Bool → List (String A) → ℕ → Type 0
-EncodesOrRefuses true in_words world inputs old new command hex files status =
-    (why : ParseFault) × IsUsageWith ⊤ why × Refuses old new why status
-EncodesOrRefuses false in_words world inputs old new command hex files status =
-    DoesEncode in_words world inputs old new command hex files status
+abbrev pub EncodesOrRefuses : {R A : Type 0} → Bool → Bool → Bool → Known → Opened R → Told → Told → Command → Bool → List (String A) → ℕ
+    → Type 0
+EncodesOrRefuses true watches in_words world inputs old new command hex files status =
+    (why : ParseFault) × IsUsageWith ⊤ why × Refuses watches old new why status
+EncodesOrRefuses false watches in_words world inputs old new command hex files status =
+    DoesEncode watches in_words world inputs old new command hex files status
 
 -- how a dialogue's end is said, once it is over: nothing, if it ended well
-abbrev pub SaysDialogue : {S : Type 0} → Bool → Option (List Message) → Option (List Message) → Command → Result S AskFault → Type 0
-SaysDialogue in_words old new command (Ok done) = new ≡ old
-SaysDialogue in_words old new command (Err (asks.Run refused)) = SaysFault in_words old new command refused
-SaysDialogue in_words old new command (Err (asks.Dialogue stopped)) =
-    HearsAll old new (stop_said in_words stopped) ⊎ ((stopped ≡ dialogues.Write) × (new ≡ old))
+abbrev pub SaysDialogue : {S : Type 0} → Bool → Bool → Option (List Message) → Option (List Message) → Command → Result S AskFault → Type 0
+SaysDialogue quiet in_words old new command (Ok done) = new ≡ old
+SaysDialogue quiet in_words old new command (Err (asks.Run refused)) = SaysFault quiet in_words old new command refused
+SaysDialogue quiet in_words old new command (Err (asks.Dialogue stopped)) =
+    HearsUnless (is_stop_unsaid quiet stopped) old new (stop_said in_words stopped)
 
 -- The speaker of a dialogue, before it and after. `told`, `noted` and `left` say how a note, the wish for notes, and the end of the replies
 -- change the speaker. Whether the speaker wants to know what has no event is said before, and whether wrong lines count after.
@@ -167,7 +193,7 @@ pub record IsUnread {R : Type 0} (inputs : Opened R) (questions : R) (bytes : Op
   pub inside : inputs.has_ended questions ≡ false
 
 -- The lines of standard input get their replies. The speaker is given as they were when the last reply had come.
-pub record DoesConverse {S R : Type 0} (in_words : Bool) (speaker : Spoken S) (world : Known) (inputs : Opened R) (old new : Told)
+pub record DoesConverse {S R : Type 0} (watches in_words : Bool) (speaker : Spoken S) (world : Known) (inputs : Opened R) (old new : Told)
     (command : Command) (of : Dialogue) (status : ℕ) : Type 0 where
   pub ended : Result Conversed AskFault
   pub listening : S
@@ -181,20 +207,21 @@ pub record DoesConverse {S R : Type 0} (in_words : Bool) (speaker : Spoken S) (w
   pub status_is : status ≡ dialogue_status speaker.counts_wrong ended
   pub after_run : Option (List Message)
   pub hears_run : HearsRun command old.heard after_run
-  pub said : SaysDialogue in_words after_run new.heard command ended
+  pub said : SaysDialogue (is_quiet watches new) in_words after_run new.heard command ended
 
--- What is done for a command, and the status with which the program ends. Whether a person sees the output is given first, and then
--- whether what is said is said in words too.
-abbrev pub Does : {S R : Type 0} → Bool → Bool → Spoken S → Known → Opened R → Told → Told → Command → ℕ → Type 0
-Does sees in_words speaker world inputs old new (wish.Question run) status =
-    DoesAnswer in_words world inputs old new (wish.Question run) run status
-Does sees in_words speaker world inputs old new (wish.Explain reported) status = Explains old new (explained reported) status
-Does sees in_words speaker world inputs old new (wish.Dump form files) status =
-    DoesDump in_words world inputs old new (wish.Dump form files) form files.items status
-Does sees in_words speaker world inputs old new (wish.Encode hex files) status =
-    EncodesOrRefuses (not hex && sees) in_words world inputs old new (wish.Encode hex files) hex files.items status
-Does sees in_words speaker world inputs old new (wish.Ask of) status =
-    DoesConverse in_words speaker world inputs old new (wish.Ask of) of status
+-- What is done for a command, and the status with which the program ends. Whether a person sees the output is given first, then
+-- whether one watches what is said, and then whether that is said in words too.
+abbrev pub Does : {S R : Type 0} → Bool → Bool → Bool → Spoken S → Known → Opened R → Told → Told → Command → ℕ → Type 0
+Does sees watches in_words speaker world inputs old new (wish.Question run) status =
+    DoesAnswer watches in_words world inputs old new (wish.Question run) run status
+Does sees watches in_words speaker world inputs old new (wish.Explain reported) status =
+    Explains watches old new (explained reported) status
+Does sees watches in_words speaker world inputs old new (wish.Dump form files) status =
+    DoesDump watches in_words world inputs old new (wish.Dump form files) form files.items status
+Does sees watches in_words speaker world inputs old new (wish.Encode hex files) status =
+    EncodesOrRefuses (not hex && sees) watches in_words world inputs old new (wish.Encode hex files) hex files.items status
+Does sees watches in_words speaker world inputs old new (wish.Ask of) status =
+    DoesConverse watches in_words speaker world inputs old new (wish.Ask of) of status
 
 -- what arguments give
 abbrev pub IsParsed : List (List ℕ) → Result CommandLine ParseFault → Type 0
@@ -210,9 +237,10 @@ SpeaksIn command speaker = speaker.after ≡ speaker.before
 abbrev pub DoesParsed : {S R : Type 0} → Bool → Bool → Spoken S → Known → Opened R → Told → Told → Result CommandLine ParseFault → ℕ
     → Type 0
 DoesParsed sees watches speaker world inputs old new (Ok line) status =
-    Does sees (watches || line.notes) (with_notes line.notes speaker) world inputs old new line.command status
+    Does sees watches (watches || line.notes) (with_notes line.notes speaker) world inputs old new line.command status
     × SpeaksIn line.command speaker
-DoesParsed sees watches speaker world inputs old new (Err why) status = Refuses old new why status × (speaker.after ≡ speaker.before)
+DoesParsed sees watches speaker world inputs old new (Err why) status =
+    Refuses watches old new why status × (speaker.after ≡ speaker.before)
 
 -- The program does what its arguments ask for.
 pub record Obeys {S R : Type 0} (sees watches : Bool) (speaker : Spoken S) (world : Known) (inputs : Opened R) (old new : Told)

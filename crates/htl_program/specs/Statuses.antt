@@ -12,7 +12,7 @@ use Rattle.htl_program.specs.declared.ask_fault.AskFault.TheVariants.{Run, Dialo
 
 -- the status after a run, which says that the answer finds something only where that is asked for
 abbrev pub end_status : Bool → Result Completed RunFault → ℕ
-end_status exit_code (Ok completed) = if exit_code && completed.has_finding then 1 else 0
+end_status exit_code (Ok completed) = if exit_code && completed.remarks.has_finding then 1 else 0
 end_status exit_code (Err fault) = status_of fault
 
 -- the status after a conversion

@@ -7,7 +7,7 @@ use Rattle.htl_command.specs.Codes.{code_name}
 use Rattle.htl_command.specs.declared.code.Code.{Code}
 use Rattle.htl_command.specs.declared.code.Code.TheVariants.{S1, S2, S3, S4, S5, S6, S7, S8, S9, S10, S11, S12, S13, S14, S15, S16, S17}
 use Rattle.htl_command.specs.declared.code.Code.TheVariants.{H1, H2, H3}
-use Rattle.htl_command.specs.declared.code.Code.TheVariants.{C1, C2, C3, C4, C5, C6, C7, C8, C9}
+use Rattle.htl_command.specs.declared.code.Code.TheVariants.{C1, C2, C3, C4, C5, C6, C7, C8, C9, C10}
 use Rattle.htl_command.specs.declared.code.Code.TheVariants.{Y1, Y2, Y3, Y4, Y5, Y6, Y7}
 use Rattle.htl_command.specs.declared.code.Code.TheVariants.{E1, E2}
 use Rattle.htl_command.specs.declared.printed.Parts.{Parts}
@@ -32,6 +32,7 @@ part_of C5 = Some (codes "sequence <sequence>")
 part_of C7 = Some (codes "segment <number> of processor <processor>")
 part_of C8 = Some (codes "segment <number> of processor <processor>")
 part_of C9 = Some (codes "what was asked about")
+part_of C10 = Some (codes "input <input>")
 part_of Y2 = Some (codes "row <row>")
 part_of Y3 = Some (codes "row <row>")
 part_of Y4 = Some (codes "row <row>")
@@ -80,7 +81,9 @@ wrong_of C5 = codes "stands in two different segments"
 wrong_of C6 = codes "the system refused memory"
 wrong_of C7 = codes "has a sequence that isn't above those of the processor's earlier segments"
 wrong_of C8 = codes "is missing"
-wrong_of C9 = codes "has no event in these inputs, or none up to --until"
+wrong_of C9 = codes "has no event in these inputs, or none up to --until, or no event that counts is above --since"
+wrong_of C10 =
+    codes "ends within a segment's header, or within a segment of another trace, so it isn't known which segment is missing"
 wrong_of Y1 = codes "the first line isn't start,end,module,name"
 wrong_of Y2 = codes "hasn't four fields"
 wrong_of Y3 = codes "has a start or an end that is no number"
@@ -122,7 +125,7 @@ advice_of S14 = damaged
 advice_of S15 = damaged
 advice_of S16 = damaged
 advice_of S17 = free_memory
-advice_of H1 = codes "is it a trace in bytes, without --hex?"
+advice_of H1 = codes "is it a trace in bytes (without --hex), or a text (hleak encode)?"
 advice_of H2 = codes "was it copied whole?"
 advice_of H3 = free_memory
 advice_of C1 = codes "are these the files of a trace?"
@@ -132,8 +135,10 @@ advice_of C4 = codes "give the files of one trace, as they were written"
 advice_of C5 = mixed
 advice_of C6 = free_memory
 advice_of C7 = mixed
-advice_of C8 = codes "give all files of the trace, or leave out --complete"
-advice_of C9 = codes "is its number right, and --until late enough? A mistyped number looks like one without a leak"
+advice_of C8 =
+    codes "give all files of the trace. Without --complete, summary lists the gaps and --until complete answers what is final"
+advice_of C9 = codes "is each number right, and --until late enough? A mistyped number looks like one without a leak"
+advice_of C10 = codes "copy it whole, or leave out --complete"
 advice_of Y1 = codes "is it a table of symbols?"
 advice_of Y2 = codes "is a name with a comma in quotes, and is each quote ended?"
 advice_of Y3 = codes "each is 1 to 16 hexadecimal digits, with or without 0x"
@@ -141,7 +146,7 @@ advice_of Y4 = codes "an end is the first address after the range"
 advice_of Y5 = codes "are all rows of one moment?"
 advice_of Y6 = codes "is the file in UTF-8?"
 advice_of Y7 = free_memory
-advice_of E1 = codes "is it written as dump prints it? A log goes through tools/from-htrace first"
+advice_of E1 = codes "is it written as dump prints it? Segments go to dump, and a log through tools/from-htrace first"
 advice_of E2 = codes "is a line left out before it?"
 
 -- what is wrong, after the part that it is wrong with

@@ -33,8 +33,8 @@ pub fn program<Rt: Threads + Sync, W: World, O: Output, P: Person, S: Speaker>(
         (known W.holds W.is_absent W.standard world.now)
         (opened W.Input.remaining W.Input.has_ended W.Input.has_failed W.Input.good_reads
         inputs.new)
-        (told O.contents O.has_failed P.heard console.old)
-        (told O.contents O.has_failed P.heard console.new)
+        (told O.contents O.has_failed O.has_lost_reader P.heard console.old)
+        (told O.contents O.has_failed O.has_lost_reader P.heard console.new)
         (map string_bytes arguments.items) result }
 {
     match parse(alloc, arguments) {
@@ -54,15 +54,15 @@ fn obey<Rt: Threads + Sync, W: World, O: Output, P: Person, S: Speaker>(
     speaker: &mut S,
 ) -> u8
     requires { O.has_failed console.old.out ≡ false }
-    ensures does { Does (P.sees_output console.old.person)
+    ensures does { Does (P.sees_output console.old.person) (P.is_watching console.old.person)
         (P.is_watching console.old.person || line.now.notes)
         (with_notes line.now.notes
         (spoken S.told S.noted S.left S.wants_absence S.counts speaker.old speaker.new))
         (known W.holds W.is_absent W.standard world.now)
         (opened W.Input.remaining W.Input.has_ended W.Input.has_failed W.Input.good_reads
         inputs.new)
-        (told O.contents O.has_failed P.heard console.old)
-        (told O.contents O.has_failed P.heard console.new) line.now.command result }
+        (told O.contents O.has_failed O.has_lost_reader P.heard console.old)
+        (told O.contents O.has_failed O.has_lost_reader P.heard console.new) line.now.command result }
     ensures speaks { SpeaksIn line.now.command
         (spoken S.told S.noted S.left S.wants_absence S.counts speaker.old speaker.new) }
 {

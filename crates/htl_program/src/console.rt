@@ -1,7 +1,8 @@
 //! Where answers are written, and who reads the messages beside them.
 
-ghost use Rattle.std.specs.Prelude.{◌≡◌, ◌||◌};
+ghost use Rattle.std.specs.Prelude.{◌≡◌, ◌&&◌, ◌||◌};
 
+use crate::output::Output;
 use crate::person::Person;
 use htl_command::CommandLine;
 
@@ -20,5 +21,15 @@ impl<O, P: Person> Console<O, P> {
         ensures { result ≡ (P.is_watching self.now.person || line.now.notes) }
     {
         self.person.is_watching() || line.notes
+    }
+}
+
+impl<O: Output, P> Console<O, P> {
+    /// Whether a failed write goes unsaid: a person watches, and the output's reader has gone. Whoever
+    /// ends `hleak .. | head` at a terminal knows that it read no further.
+    pub(crate) fn is_quiet(&self, is_watched: bool) -> bool
+        ensures { result ≡ (is_watched && O.has_lost_reader self.now.out) }
+    {
+        is_watched && self.out.has_lost_reader()
     }
 }

@@ -1,7 +1,7 @@
 //! A dialogue in a world: the files are read once, and each line of standard input gets its reply.
 
 ghost use Rattle.std.specs.Prelude.{◌≡◌, ℕ, All, Bool, Err, IfErr, IfOk, List, OnOk, Option, Some};
-ghost use Rattle.std.specs.Prelude.{false, map, option_copied, option_map};
+ghost use Rattle.std.specs.Prelude.{false, map, option_copied, option_map, string_bytes};
 ghost use Rattle.htl_command.specs.declared.question.Setting.{Setting};
 ghost use Rattle.htl_dialogue.specs.Dialogues.{Converses, DialogueStops};
 ghost use Rattle.htl_dialogue.specs.declared.dialogue.DialogueFault.{DialogueFault};
@@ -125,8 +125,8 @@ fn ask_opened<Rt: Threads + Sync, W: World, Q: Source, O: Sink, H: Speaker>(
         (ways W.Input.remaining W.Input.has_ended W.Input.has_failed W.Input.good_reads)
         files.now.dialogue.now.setting files.now.dialogue.now.folds (option_copied symbols.entry))
         (H.wants_absence speaker.old) (Some read) lines
-        (BeginsAndGets (O.contents out.old) (O.contents out.new) H.told speaker.old speaker.new
-        opening) conversed) }
+        (BeginsAndGets (map string_bytes files.now.dialogue.now.files.items) (O.contents out.old)
+        (O.contents out.new) H.told speaker.old speaker.new opening) conversed) }
     ensures stops { (texts : List (List ℕ)) → (lines : List ℕ) → (stopped : DialogueFault)
         → map W.Input.remaining inputs.old.items ≡ map Some texts
         → Q.remaining questions.old ≡ Some lines
@@ -138,8 +138,8 @@ fn ask_opened<Rt: Threads + Sync, W: World, Q: Source, O: Sink, H: Speaker>(
         files.now.dialogue.now.setting files.now.dialogue.now.folds (option_copied symbols.entry))
         (H.wants_absence speaker.old) (Some read) lines
         (Q.remaining questions.new) (Q.has_failed questions.new)
-        (BeginsAndGets (O.contents out.old) (O.contents out.new) H.told speaker.old speaker.new
-        opening) stopped }
+        (BeginsAndGets (map string_bytes files.now.dialogue.now.files.items) (O.contents out.old)
+        (O.contents out.new) H.told speaker.old speaker.new opening) stopped }
     ensures devices { ReportsDevices (Q.has_failed questions.new) (Q.remaining questions.old)
         (O.has_failed out.new) result }
     ensures cause { (texts : List (List ℕ)) → map W.Input.remaining inputs.old.items ≡ map Some texts
@@ -170,7 +170,15 @@ fn ask_opened<Rt: Threads + Sync, W: World, Q: Source, O: Sink, H: Speaker>(
         inputs,
         symbols,
     )?;
-    speaker.begins(coverage, cut);
-    let conversed = converse_lines(alloc, files, &mut kept, questions, out, speaker)?;
+    speaker.begins(&files.dialogue.files, coverage, cut);
+    let conversed = converse_lines(
+        alloc,
+        files,
+        &mut kept,
+        symbols.is_some(),
+        questions,
+        out,
+        speaker,
+    )?;
     Ok(conversed)
 }

@@ -4,10 +4,12 @@ ghost use Rattle.std.specs.Prelude.{◌≡◌, ◌≤◌, ◌⊎◌, ℕ, List, 
 ghost use Rattle.std.specs.Prelude.{IfErr, IfOk, IfSome, OnOk, length, string_bytes};
 ghost use Rattle.std.specs.Io.KnownBytes.{Appends};
 ghost use Rattle.htl_device.specs.Devices.{AppendsPrefix};
+ghost use Rattle.htl_command.specs.Needs.{needs_events};
 ghost use Rattle.htl_dialogue.specs.Dialogues.{Converses, Gets, DialogueStops, is_end, reading_reply};
-ghost use Rattle.htl_dialogue.specs.Replying.{IsRefusedReply, Lacks, Replies, fault_of};
+ghost use Rattle.htl_dialogue.specs.Replying.{IsRefusedReply, Replies, Tells, fault_of};
+ghost use Rattle.htl_dialogue.specs.Notes.{told_of};
 ghost use Rattle.htl_dialogue.specs.Sayings.{saying};
-ghost use Rattle.htl_program.specs.Loads.{HasSubjectIn, IsOfForm, answers_from, is_state};
+ghost use Rattle.htl_program.specs.Loads.{HasAbsenceIn, IsOfForm, answers_from, is_memory, is_state};
 ghost use Rattle.htl_program.specs.Opened.{known, ways};
 
 use crate::files::Files;
@@ -16,14 +18,15 @@ use crate::world::World;
 use htl_command::Job;
 use htl_device::{MAX_READS, Sink, Source, write_whole};
 use htl_dialogue::{Conversed, DialogueFault, Host, ReadAhead, Said, next_line, read_line};
-use htl_main::{Added, Refused, RunFault};
+use htl_main::{Added, AnswerText, Refused, Remarks, RunFault};
 use std::alloc::{AllocError, Global};
 use std::thread::Threads;
 
 /// Replies to each line of the source up to `quit` or its end, and returns how that went. A line
 /// may name files to read: later lines are answered from these too. The host hears that a line is
-/// awaited, and before the reply why the line is wrong or what its files added; after a reply it
-/// hears if the question's subject has no event.
+/// awaited, and before the reply why the line is wrong, what its files added, or why its question
+/// isn't answered; after the reply to a question it hears what is told of that and of its answer.
+/// `has_table` says whether addresses are named by a table of symbols.
 ///
 /// All lines that were read have their replies before more is read, and nothing is read once a line
 /// ends the dialogue.
@@ -31,6 +34,7 @@ pub(crate) fn converse_lines<Rt: Threads + Sync, W: World, Q: Source, O: Sink, H
     alloc: Global,
     files: &Files<Rt, W>,
     kept: &mut Kept,
+    has_table: bool,
     questions: &mut Q,
     out: &mut O,
     host: &mut H,
@@ -42,14 +46,16 @@ pub(crate) fn converse_lines<Rt: Threads + Sync, W: World, Q: Source, O: Sink, H
     ensures ok { (text : List ℕ) → Q.remaining questions.old ≡ Some text → IfOk result
         (Converses (answers_from (known W.holds W.is_absent W.standard files.now.world.now)
         (ways W.Input.remaining W.Input.has_ended W.Input.has_failed W.Input.good_reads)
-        files.now.dialogue.now.setting (is_state kept.old)) (H.wants_absence host.old) kept.old text
+        files.now.dialogue.now.setting (is_state kept.old) has_table) (H.wants_absence host.old)
+        kept.old text
         (Gets (O.contents out.old) (O.contents out.new) H.told host.old host.new)) }
     // After a fault, the lines before it have their replies; if a read failed, these are all that
     // were read.
     ensures stops { (text : List ℕ) → Q.remaining questions.old ≡ Some text → IfErr result
         (DialogueStops (answers_from (known W.holds W.is_absent W.standard files.now.world.now)
         (ways W.Input.remaining W.Input.has_ended W.Input.has_failed W.Input.good_reads)
-        files.now.dialogue.now.setting (is_state kept.old)) (H.wants_absence host.old) kept.old text
+        files.now.dialogue.now.setting (is_state kept.old) has_table) (H.wants_absence host.old)
+        kept.old text
         (Q.remaining questions.new) (Q.has_failed questions.new)
         (Gets (O.contents out.old) (O.contents out.new) H.told host.old host.new)) }
     ensures fine { OnOk result ((Q.has_failed questions.new ≡ false)
@@ -71,7 +77,7 @@ pub(crate) fn converse_lines<Rt: Threads + Sync, W: World, Q: Source, O: Sink, H
         if ends(&said) {
             return Ok(conversed);
         }
-        let line = reply(alloc, files, kept, &said, out, host)?;
+        let line = reply(alloc, files, kept, has_table, &said, out, host)?;
         conversed = conversed.then(line);
         if next.is_last {
             return Ok(conversed);
@@ -92,6 +98,7 @@ fn reply<Rt: Threads + Sync, W: World, O: Sink, H: Host>(
     alloc: Global,
     files: &Files<Rt, W>,
     kept: &mut Kept,
+    has_table: bool,
     said: &Said,
     out: &mut O,
     host: &mut H,
@@ -101,14 +108,14 @@ fn reply<Rt: Threads + Sync, W: World, O: Sink, H: Host>(
     ensures ok { IfOk result (Replies
         (answers_from (known W.holds W.is_absent W.standard files.now.world.now)
         (ways W.Input.remaining W.Input.has_ended W.Input.has_failed W.Input.good_reads)
-        files.now.dialogue.now.setting (is_state kept.old)) (H.wants_absence host.old) said.now kept.old
-        kept.new (O.contents out.old) (O.contents out.new) H.told host.old host.new) }
+        files.now.dialogue.now.setting (is_state kept.old) has_table) (H.wants_absence host.old)
+        said.now kept.old kept.new (O.contents out.old) (O.contents out.new) H.told host.old host.new) }
     ensures fine { OnOk result (O.has_failed out.new ≡ false) }
     ensures err { IfErr result (IsRefusedReply
         (answers_from (known W.holds W.is_absent W.standard files.now.world.now)
         (ways W.Input.remaining W.Input.has_ended W.Input.has_failed W.Input.good_reads)
-        files.now.dialogue.now.setting (is_state kept.old)) said.now kept.old (O.contents out.old)
-        (O.contents out.new) (O.has_failed out.new) H.told host.old host.new) }
+        files.now.dialogue.now.setting (is_state kept.old) has_table) said.now kept.old
+        (O.contents out.old) (O.contents out.new) (O.has_failed out.new) H.told host.old host.new) }
     ensures same { H.wants_absence host.new ≡ H.wants_absence host.old }
     ensures form { OnOk result (is_state kept.new ≡ is_state kept.old) }
 {
@@ -123,11 +130,8 @@ fn reply<Rt: Threads + Sync, W: World, O: Sink, H: Host>(
             })
         }
         Said::Asks(job) => {
-            let mut text = kept.answer(files.rt, alloc, files.dialogue.setting.workers, job)?;
-            text.push(b'\n')?;
-            write(out, &text)?;
-            note_absence(kept, job, host);
-            Ok(Conversed::fine())
+            let conversed = reply_to(alloc, files, kept, has_table, job, out, host)?;
+            Ok(conversed)
         }
         Said::Reads(names) => {
             let ended = files.read(alloc, kept, names)?;
@@ -140,6 +144,60 @@ fn reply<Rt: Threads + Sync, W: World, O: Sink, H: Host>(
             })
         }
     }
+}
+
+/// Writes the reply to a question, and tells the host why it isn't answered, or of its answer.
+fn reply_to<Rt: Threads + Sync, W: World, O: Sink, H: Host>(
+    alloc: Global,
+    files: &Files<Rt, W>,
+    kept: &Kept,
+    has_table: bool,
+    job: &Job,
+    out: &mut O,
+    host: &mut H,
+) -> Result<Conversed, DialogueFault>
+    requires out { O.has_failed out.old ≡ false }
+    requires asks { is_state kept.now ≡ true → needs_events job.now ≡ false }
+    ensures ok { IfOk result (Replies
+        (answers_from (known W.holds W.is_absent W.standard files.now.world.now)
+        (ways W.Input.remaining W.Input.has_ended W.Input.has_failed W.Input.good_reads)
+        files.now.dialogue.now.setting (is_state kept.now) has_table) (H.wants_absence host.old)
+        (Said.Asks job.now) kept.now kept.now (O.contents out.old) (O.contents out.new) H.told
+        host.old host.new) }
+    ensures fine { OnOk result (O.has_failed out.new ≡ false) }
+    ensures err { IfErr result (IsRefusedReply
+        (answers_from (known W.holds W.is_absent W.standard files.now.world.now)
+        (ways W.Input.remaining W.Input.has_ended W.Input.has_failed W.Input.good_reads)
+        files.now.dialogue.now.setting (is_state kept.now) has_table) (Said.Asks job.now) kept.now
+        (O.contents out.old) (O.contents out.new) (O.has_failed out.new) H.told host.old host.new) }
+    ensures same { H.wants_absence host.new ≡ H.wants_absence host.old }
+{
+    match kept.answer(files.rt, alloc, files.dialogue.setting, job) {
+        Ok(AnswerText { mut lines, remarks }) => {
+            lines.push(b'\n')?;
+            write(out, &lines)?;
+            tell(kept, has_table, job, remarks, host);
+            Ok(Conversed::fine())
+        }
+        Err(fault) => {
+            if is_memory(fault) {
+                return Err(DialogueFault::NoMemory);
+            }
+            host.declines(fault);
+            write(out, b"\n")?;
+            Ok(Conversed {
+                has_wrong: false,
+                first_fault: Some(fault),
+            })
+        }
+    }
+}
+
+/// Whether memory was refused.
+fn is_memory(fault: RunFault) -> bool
+    ensures { result ≡ is_memory fault }
+{
+    matches!(fault, RunFault::Memory)
 }
 
 /// The reply to a line that names files to read.
@@ -162,14 +220,26 @@ fn fault_of(ended: Result<Added, Refused>) -> Option<RunFault>
     }
 }
 
-/// Notes to a host that wants to know it that the question's subject has no event, if it has none.
-fn note_absence<H: Host>(kept: &Kept, job: &Job, host: &mut H)
-    ensures told { Lacks (HasSubjectIn kept.now) (H.wants_absence host.old) H.told host.old job.now
-        host.new }
+/// Tells a host that wants to know it why nothing can be found of what the job's question is about,
+/// and what is told of its answer.
+fn tell<H: Host>(kept: &Kept, has_table: bool, job: &Job, remarks: Remarks, host: &mut H)
+    ensures told { Tells has_table (HasAbsenceIn kept.now) remarks (H.wants_absence host.old)
+        H.told host.old job.now host.new }
     ensures same { H.wants_absence host.new ≡ H.wants_absence host.old }
 {
-    if host.notes_absence() && !kept.has_subject(job) {
-        host.lacks(job.question);
+    if host.notes_absence() {
+        let absence = kept.absence(job);
+        host.answered(job, absence, told_of(has_table, remarks));
+    }
+}
+
+/// What is told of an answer, whose addresses may have no name where there is no table of symbols.
+fn told_of(has_table: bool, remarks: Remarks) -> Remarks
+    ensures { result ≡ told_of has_table remarks }
+{
+    Remarks {
+        is_unnamed: has_table && remarks.is_unnamed,
+        ..remarks
     }
 }
 

@@ -16,7 +16,7 @@ pub(crate) fn status_of_answer(exit_code: bool, ended: Result<Completed, Refused
 {
     match ended {
         Ok(completed) => {
-            if exit_code && completed.has_finding {
+            if exit_code && completed.remarks.has_finding {
                 1
             } else {
                 0

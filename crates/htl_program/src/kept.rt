@@ -9,10 +9,9 @@ ghost use Rattle.htl_program.specs.Loads.{IsBegun, IsCovered, is_state};
 
 use htl_command::{Job, Setting};
 use htl_device::Parted;
-use htl_event::NoMemory;
 use htl_main::{
-    Coverage, CutInputs, Folded, Loaded, Refused, answer_text, folded_text, has_subject, load,
-    load_folded,
+    Absence, AnswerText, Coverage, CutInputs, Folded, Loaded, Refused, RunFault, absence_of,
+    answer_text, folded_text, load, load_folded,
 };
 use std::alloc::Global;
 use std::thread::Threads;
@@ -27,9 +26,9 @@ pub(crate) enum Kept {
 }
 
 impl Kept {
-    ghost use Rattle.std.specs.Prelude.{◌≡◌, IfOk, false, true};
+    ghost use Rattle.std.specs.Prelude.{◌≡◌, ◌≢◌, Err, false, true};
     ghost use Rattle.htl_command.specs.Needs.{needs_events};
-    ghost use Rattle.htl_program.specs.Loads.{HasSubjectIn, HasTextIn, is_state};
+    ghost use Rattle.htl_program.specs.Loads.{HasAbsenceIn, HasOutcomeIn, is_state};
 
     /// Whether the events are forgotten.
     pub fn forgets(&self) -> bool
@@ -38,34 +37,36 @@ impl Kept {
         matches!(self, Kept::State(_))
     }
 
-    /// The text of the answer to a job, as a run prints it.
+    /// The answer to a job, as a run prints it, or why it isn't answered. Where a complete trace is
+    /// asked for, what was folded isn't answered from while a segment is missing.
     pub fn answer(
         &self,
         rt: &(impl Threads + Sync),
         alloc: Global,
-        workers: u32,
+        setting: Setting,
         job: &Job,
-    ) -> Result<Vec<u8>, NoMemory>
+    ) -> Result<AnswerText, RunFault>
         requires { is_state self.now ≡ true → needs_events job.now ≡ false }
-        ensures { IfOk result (λ text. HasTextIn self.now job.now text.items) }
+        ensures { result ≢ Err RunFault.Memory
+            → HasOutcomeIn setting.complete self.now job.now result }
     {
         match self {
             Kept::Case(loaded) => {
-                let text = answer_text(rt, alloc, workers, job, loaded)?;
-                Ok(text.lines)
+                let answer = answer_text(rt, alloc, setting.workers, job, loaded)?;
+                Ok(answer)
             }
-            Kept::State(folded) => folded_text(rt, alloc, workers, job, folded),
+            Kept::State(folded) => folded_text(rt, alloc, setting, job, folded),
         }
     }
 
-    /// Whether the question's subject has an event. What was folded can't tell, so the answer is
-    /// true then.
-    pub fn has_subject(&self, job: &Job) -> bool
-        ensures { HasSubjectIn self.now job.now result }
+    /// Why nothing can be found of what the job's question is about, if nothing can. What was
+    /// folded can't tell.
+    pub fn absence(&self, job: &Job) -> Option<Absence>
+        ensures { HasAbsenceIn self.now job.now result }
     {
         match self {
-            Kept::Case(loaded) => has_subject(job, loaded),
-            Kept::State(_) => true,
+            Kept::Case(loaded) => absence_of(job, loaded),
+            Kept::State(_) => None,
         }
     }
 }

@@ -15,7 +15,8 @@
 //! `files.rt` (a dialogue: each line is answered as by a run over all that was read so far),
 //! `kept.rt` (what is kept of that: all segments, or what they come to), `ask_fault.rt` (why it ends
 //! before its lines do), `explained.rt` and `words.rt` (what a fault means), `named_part.rt` (the
-//! part of the inputs that it names), `subject.rt` (what a question is about).
+//! part of the inputs that it names), `subject.rt` (what a question is about), `lack.rt` (what it
+//! lacks).
 #![tactic(auto)]
 
 mod answering;
@@ -30,6 +31,7 @@ mod explained;
 mod files;
 mod inputs;
 mod kept;
+mod lack;
 mod named_part;
 mod opening;
 mod output;
@@ -51,6 +53,7 @@ pub use conversing::converse;
 pub use converting::{dump, encode};
 pub use files::Files;
 pub use inputs::Inputs;
+pub use lack::Lack;
 pub use named_part::NamedPart;
 pub use output::Output;
 pub use person::Person;

@@ -27,6 +27,8 @@ pub enum NamedPart {
     Subject(Subject),
     /// The words for every fault of a code, with a placeholder such as `<row>` for each number.
     Unnumbered(&'static str),
+    /// An input, by its place.
+    Input(u64),
 }
 
 impl NamedPart {
@@ -77,6 +79,7 @@ impl NamedPart {
             Code::H1 => Some(NamedPart::Byte(number)),
             Code::C2 | Code::C3 => Some(NamedPart::Segment(number)),
             Code::C5 => Some(NamedPart::Sequence(number)),
+            Code::C10 => Some(NamedPart::Input(number)),
             Code::Y2 | Code::Y3 | Code::Y4 | Code::Y5 | Code::Y6 => Some(NamedPart::Row(number)),
             _ => None,
         }
@@ -111,6 +114,7 @@ impl fmt::Display for NamedPart {
             NamedPart::Field(name) => write!(f, "the line's {name}"),
             NamedPart::Subject(subject) => write!(f, "{subject}"),
             NamedPart::Unnumbered(words) => write!(f, "{words}"),
+            NamedPart::Input(input) => write!(f, "input {input}"),
         }
     }
 }

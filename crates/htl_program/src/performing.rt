@@ -35,23 +35,27 @@ pub(crate) fn do_answer<Rt: Threads + Sync, W: World, O: Output, P: Person>(
     console: &mut Console<O, P>,
 ) -> u8
     requires { O.has_failed console.old.out ≡ false }
-    ensures { DoesAnswer (P.is_watching console.old.person || line.now.notes)
+    ensures { DoesAnswer (P.is_watching console.old.person)
+        (P.is_watching console.old.person || line.now.notes)
         (known W.holds W.is_absent W.standard world.now)
         (opened W.Input.remaining W.Input.has_ended W.Input.has_failed W.Input.good_reads
         inputs.new)
-        (told O.contents O.has_failed P.heard console.old)
-        (told O.contents O.has_failed P.heard console.new) line.now.command run.now result }
+        (told O.contents O.has_failed O.has_lost_reader P.heard console.old)
+        (told O.contents O.has_failed O.has_lost_reader P.heard console.new)
+        line.now.command run.now result }
 {
+    let is_watched = console.person.is_watching();
     let in_words = console.says_words(line);
     console.person.begins(&line.command);
     let ended = answer(rt, alloc, world, run, &mut inputs.files, &mut console.out);
     console.person.ends();
+    let is_quiet = console.is_quiet(is_watched);
     say_answer(
         &line.command,
         run,
+        is_quiet,
         in_words,
         ended,
-        &console.out,
         &mut console.person,
     );
     status_of_answer(run.job.exit_code, ended)
@@ -68,13 +72,16 @@ pub(crate) fn do_dump<W: World, O: Output, P: Person>(
     console: &mut Console<O, P>,
 ) -> u8
     requires { O.has_failed console.old.out ≡ false }
-    ensures { DoesDump (P.is_watching console.old.person || line.now.notes)
+    ensures { DoesDump (P.is_watching console.old.person)
+        (P.is_watching console.old.person || line.now.notes)
         (known W.holds W.is_absent W.standard world.now)
         (opened W.Input.remaining W.Input.has_ended W.Input.has_failed W.Input.good_reads
         inputs.new)
-        (told O.contents O.has_failed P.heard console.old)
-        (told O.contents O.has_failed P.heard console.new) line.now.command form files.now result }
+        (told O.contents O.has_failed O.has_lost_reader P.heard console.old)
+        (told O.contents O.has_failed O.has_lost_reader P.heard console.new)
+        line.now.command form files.now result }
 {
+    let is_watched = console.person.is_watching();
     let in_words = console.says_words(line);
     console.person.begins(&line.command);
     let ended = dump(
@@ -86,11 +93,12 @@ pub(crate) fn do_dump<W: World, O: Output, P: Person>(
         &mut console.out,
     );
     console.person.ends();
+    let is_quiet = console.is_quiet(is_watched);
     say_dump(
         &line.command,
+        is_quiet,
         in_words,
         ended,
-        &console.out,
         &mut console.person,
     );
     status_of_conversion(ended)
@@ -108,12 +116,14 @@ pub(crate) fn do_encode<W: World, O: Output, P: Person>(
 ) -> u8
     requires { O.has_failed console.old.out ≡ false }
     ensures { EncodesOrRefuses (not hex && P.sees_output console.old.person)
+        (P.is_watching console.old.person)
         (P.is_watching console.old.person || line.now.notes)
         (known W.holds W.is_absent W.standard world.now)
         (opened W.Input.remaining W.Input.has_ended W.Input.has_failed W.Input.good_reads
         inputs.new)
-        (told O.contents O.has_failed P.heard console.old)
-        (told O.contents O.has_failed P.heard console.new) line.now.command hex files.now result }
+        (told O.contents O.has_failed O.has_lost_reader P.heard console.old)
+        (told O.contents O.has_failed O.has_lost_reader P.heard console.new)
+        line.now.command hex files.now result }
 {
     if !hex && console.person.sees_output() {
         return refuse(&ParseFault::bytes_at_terminal(alloc), console);
@@ -132,13 +142,16 @@ fn encode_into<W: World, O: Output, P: Person>(
     console: &mut Console<O, P>,
 ) -> u8
     requires { O.has_failed console.old.out ≡ false }
-    ensures { DoesEncode (P.is_watching console.old.person || line.now.notes)
+    ensures { DoesEncode (P.is_watching console.old.person)
+        (P.is_watching console.old.person || line.now.notes)
         (known W.holds W.is_absent W.standard world.now)
         (opened W.Input.remaining W.Input.has_ended W.Input.has_failed W.Input.good_reads
         inputs.new)
-        (told O.contents O.has_failed P.heard console.old)
-        (told O.contents O.has_failed P.heard console.new) line.now.command hex files.now result }
+        (told O.contents O.has_failed O.has_lost_reader P.heard console.old)
+        (told O.contents O.has_failed O.has_lost_reader P.heard console.new)
+        line.now.command hex files.now result }
 {
+    let is_watched = console.person.is_watching();
     let in_words = console.says_words(line);
     console.person.begins(&line.command);
     let ended = encode(
@@ -150,11 +163,12 @@ fn encode_into<W: World, O: Output, P: Person>(
         &mut console.out,
     );
     console.person.ends();
+    let is_quiet = console.is_quiet(is_watched);
     say_encoding(
         &line.command,
+        is_quiet,
         in_words,
         ended,
-        &console.out,
         &mut console.person,
     );
     status_of_conversion(ended)
@@ -170,15 +184,17 @@ pub(crate) fn do_converse<Rt: Threads + Sync, W: World, O: Output, P: Person, S:
     speaker: &mut S,
 ) -> u8
     requires { O.has_failed console.old.out ≡ false }
-    ensures { DoesConverse (P.is_watching console.old.person || line.now.notes)
+    ensures { DoesConverse (P.is_watching console.old.person)
+        (P.is_watching console.old.person || line.now.notes)
         (spoken S.told S.noted S.left S.wants_absence S.counts speaker.old speaker.new)
         (known W.holds W.is_absent W.standard files.now.world.now)
         (opened W.Input.remaining W.Input.has_ended W.Input.has_failed W.Input.good_reads
         inputs.new)
-        (told O.contents O.has_failed P.heard console.old)
-        (told O.contents O.has_failed P.heard console.new) line.now.command files.now.dialogue.now
-        result }
+        (told O.contents O.has_failed O.has_lost_reader P.heard console.old)
+        (told O.contents O.has_failed O.has_lost_reader P.heard console.new)
+        line.now.command files.now.dialogue.now result }
 {
+    let is_watched = console.person.is_watching();
     let in_words = console.says_words(line);
     console.person.begins(&line.command);
     let mut questions = files.world.questions();
@@ -193,11 +209,12 @@ pub(crate) fn do_converse<Rt: Threads + Sync, W: World, O: Output, P: Person, S:
     speaker.leaves(questions.ended());
     inputs.questions = Some(questions);
     console.person.ends();
+    let is_quiet = console.is_quiet(is_watched);
     say_dialogue(
         &line.command,
+        is_quiet,
         in_words,
         ended,
-        &console.out,
         &mut console.person,
     );
     status_after(speaker.counts_wrong(), ended)

@@ -1,6 +1,6 @@
 //! Whoever reads standard error, at a terminal or not.
 
-use crate::subject::Subject;
+use crate::lack::Lack;
 use htl_command::{Command, ParseFault};
 use htl_dialogue::DialogueFault;
 use htl_main::{Coverage, CutInputs, Refused};
@@ -8,8 +8,9 @@ use htl_main::{Coverage, CutInputs, Refused};
 /// Who reads the messages beside the output. The implementation chooses their words.
 pub trait Person {
     ghost use Rattle.std.specs.Prelude.{◌≡◌, Bool, List, Option};
-    ghost use Rattle.htl_program.specs.Messages.{Hears, Message, absence, begun, cut, fault, gaps};
-    ghost use Rattle.htl_program.specs.Messages.{meaning, over, refusal, stop, stop_meaning, unwritten};
+    ghost use Rattle.htl_program.specs.Messages.{Hears, Message, begun, cut, fault, gaps, lack};
+    ghost use Rattle.htl_program.specs.Messages.{meaning, over, refusal, stop, stop_meaning};
+    ghost use Rattle.htl_program.specs.Messages.{unnamed, unwritten};
 
     // What the person was told, where that is known.
     ghost heard: { Self → Option (List Message) };
@@ -40,7 +41,8 @@ pub trait Person {
     fn refuses(&mut self, refused: &ParseFault)
         ensures { Hears (heard self.old) (heard self.new) (refusal refused.now) };
 
-    /// A text that was asked for could not be written.
+    /// A text that was asked for could not be written. Like any failed write it isn't said to a person
+    /// who watches where the output's reader has gone, and is said everywhere else.
     fn loses_text(&mut self)
         ensures { Hears (heard self.old) (heard self.new) unwritten };
 
@@ -52,17 +54,21 @@ pub trait Person {
     fn explains(&mut self, command: &Command, refused: Refused)
         ensures { Hears (heard self.old) (heard self.new) (meaning command.now refused) };
 
-    /// What was asked about has no event.
-    fn lacks(&mut self, subject: Subject)
-        ensures { Hears (heard self.old) (heard self.new) (absence subject) };
+    /// The question lacks something in the segments.
+    fn lacks(&mut self, lacking: Lack)
+        ensures { Hears (heard self.old) (heard self.new) (lack lacking) };
+
+    /// The answer shows addresses, and the table of symbols has none of them.
+    fn finds_no_name(&mut self)
+        ensures { Hears (heard self.old) (heard self.new) unnamed };
 
     /// Segments are missing, whose events the answer may lack.
     fn finds_gaps(&mut self, coverage: Coverage)
         ensures { Hears (heard self.old) (heard self.new) (gaps coverage) };
 
-    /// Some inputs end within a segment, which counts for nothing.
-    fn finds_cut(&mut self, inputs: CutInputs)
-        ensures { Hears (heard self.old) (heard self.new) (cut inputs) };
+    /// Some inputs of the command end within a segment, which counts for nothing.
+    fn finds_cut(&mut self, command: &Command, inputs: CutInputs)
+        ensures { Hears (heard self.old) (heard self.new) (cut command.now inputs) };
 
     /// The replies of a dialogue stopped.
     fn stops(&mut self, stopped: DialogueFault)

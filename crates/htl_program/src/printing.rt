@@ -10,16 +10,17 @@ use crate::output::Output;
 use crate::person::Person;
 use crate::saying::alone;
 use htl_command::{ParseFault, PrintedFault};
-use htl_device::{Sink, write_whole};
+use htl_device::write_whole;
 use htl_main::RunFault;
 use std::alloc::Global;
 
 /// Ends the program if the arguments give no command. Help is written to the output; any other
 /// fault is reported to the person, and keeps its status even if that fails.
-pub fn refuse<O: Sink, P: Person>(refused: &ParseFault, console: &mut Console<O, P>) -> u8
+pub fn refuse<O: Output, P: Person>(refused: &ParseFault, console: &mut Console<O, P>) -> u8
     requires { O.has_failed console.old.out ≡ false }
-    ensures { Refuses (told O.contents O.has_failed P.heard console.old)
-        (told O.contents O.has_failed P.heard console.new) refused.now result }
+    ensures { Refuses (P.is_watching console.old.person)
+        (told O.contents O.has_failed O.has_lost_reader P.heard console.old)
+        (told O.contents O.has_failed O.has_lost_reader P.heard console.new) refused.now result }
 {
     match refused {
         ParseFault::Help(text) => print(text, console),
@@ -37,8 +38,9 @@ pub(crate) fn do_explain<O: Output, P: Person>(
     console: &mut Console<O, P>,
 ) -> u8
     requires { O.has_failed console.old.out ≡ false }
-    ensures { Explains (told O.contents O.has_failed P.heard console.old)
-        (told O.contents O.has_failed P.heard console.new) (explained fault) result }
+    ensures { Explains (P.is_watching console.old.person)
+        (told O.contents O.has_failed O.has_lost_reader P.heard console.old)
+        (told O.contents O.has_failed O.has_lost_reader P.heard console.new) (explained fault) result }
 {
     let explained = Explained { fault };
     match format!(in alloc; "{explained}") {
@@ -50,16 +52,20 @@ pub(crate) fn do_explain<O: Output, P: Person>(
     }
 }
 
-/// Writes a text that was asked for, and reports a failed write.
-fn print<O: Sink, P: Person>(text: &str, console: &mut Console<O, P>) -> u8
+/// Writes a text that was asked for, and reports a failed write, unless a person watches and the
+/// output's reader has gone.
+fn print<O: Output, P: Person>(text: &str, console: &mut Console<O, P>) -> u8
     requires { O.has_failed console.old.out ≡ false }
-    ensures { IsPrinted text.now (told O.contents O.has_failed P.heard console.old)
-        (told O.contents O.has_failed P.heard console.new) result }
+    ensures { IsPrinted (P.is_watching console.old.person) text.now
+        (told O.contents O.has_failed O.has_lost_reader P.heard console.old)
+        (told O.contents O.has_failed O.has_lost_reader P.heard console.new) result }
 {
     match write_whole(&mut console.out, text.as_bytes()) {
         Ok(()) => 0,
         Err(_) => {
-            console.person.loses_text();
+            if !console.is_quiet(console.person.is_watching()) {
+                console.person.loses_text();
+            }
             RunFault::Write.status()
         }
     }

@@ -1,119 +1,159 @@
-//! What is said to a person of how a run ended.
+//! What is said to a person of how a run ended. Where that is `quiet`, a person watches and the output's
+//! reader has gone: then a failed write goes unsaid.
 
-ghost use Rattle.std.specs.Prelude.{◌≡◌};
+ghost use Rattle.std.specs.Prelude.{◌≡◌, ◌&&◌, is_some};
 ghost use Rattle.htl_program.specs.Programs.{SaysAnswer, SaysConversion, SaysDialogue, SaysDump};
-ghost use Rattle.htl_program.specs.Programs.{SaysFault};
-ghost use Rattle.htl_program.specs.Messages.{HearsAll, absent_subject, alone as alone_of, fault_said};
-ghost use Rattle.htl_program.specs.Messages.{cut_said, notes_said, stop_said};
+ghost use Rattle.htl_program.specs.Programs.{SaysFault, is_stop_unsaid, is_unsaid};
+ghost use Rattle.htl_program.specs.Messages.{HearsAll, alone as alone_of, cut_said, fault_said};
+ghost use Rattle.htl_program.specs.Messages.{gaps_said, lack_said, notes_said, stop_said};
+ghost use Rattle.htl_program.specs.Messages.{unnamed_said};
 
 use crate::ask_fault::AskFault;
-use crate::output::Output;
+use crate::lack::Lack;
 use crate::person::Person;
-use crate::subject::Subject;
-use htl_command::{Command, Job, Question, Run};
+use htl_command::{Command, Job, Moment, Run};
 use htl_dialogue::{Conversed, DialogueFault};
-use htl_main::{Between, Completed, CutInputs, Refused, RunFault};
+use htl_main::{Between, Completed, Coverage, CutInputs, Refused, RunFault};
 
 /// Says how the run of a question ended.
-pub(crate) fn say_answer<O: Output, P: Person>(
+pub(crate) fn say_answer<P: Person>(
     command: &Command,
     run: &Run,
+    is_quiet: bool,
     in_words: bool,
     ended: Result<Completed, Refused>,
-    out: &O,
     person: &mut P,
 )
-    ensures { SaysAnswer in_words (P.heard person.old) (P.heard person.new) command.now run.now
+    ensures { SaysAnswer is_quiet in_words (P.heard person.old) (P.heard person.new) command.now run.now
         ended }
 {
     match ended {
-        Ok(completed) => note(&run.job, in_words, completed, person),
-        Err(refused) => report(command, in_words, refused, out, person),
+        Ok(completed) => note(command, run, in_words, completed, person),
+        Err(refused) => report(command, is_quiet, in_words, refused, person),
     }
 }
 
-/// Gives the notes on an answer, if they are wanted: that the subject has no event, that missing
-/// segments may have events that count, and which inputs were cut.
-fn note<P: Person>(job: &Job, in_words: bool, completed: Completed, person: &mut P)
+/// Gives the notes on an answer, if they are wanted: what the question lacks, that the table of
+/// symbols has none of the addresses, that missing segments may have events that count, and which
+/// inputs were cut.
+fn note<P: Person>(
+    command: &Command,
+    run: &Run,
+    in_words: bool,
+    completed: Completed,
+    person: &mut P,
+)
     ensures { HearsAll (P.heard person.old) (P.heard person.new)
-        (notes_said in_words job.now completed) }
+        (notes_said in_words command.now run.now completed) }
 {
     if !in_words {
         return;
     }
-    if let Some(subject) = absent_subject(job.question, completed.has_subject) {
-        person.lacks(subject);
+    note_lack(&run.job, completed, person);
+    note_names(misses_names(run, completed), person);
+    note_gaps(completed.coverage, run.job.until, person);
+    note_cut(command, completed.cut, person);
+}
+
+/// Says what the job's question lacks, if anything.
+fn note_lack<P: Person>(job: &Job, completed: Completed, person: &mut P)
+    ensures { HearsAll (P.heard person.old) (P.heard person.new) (lack_said job.now completed) }
+{
+    if let Some(lack) = Lack::of(job, completed.absence, completed.remarks) {
+        person.lacks(lack);
     }
-    if completed.coverage.is_touched(job.until) {
-        person.finds_gaps(completed.coverage);
+}
+
+/// Whether a table of symbols was given that has none of the addresses which are shown.
+fn misses_names(run: &Run, completed: Completed) -> bool
+    ensures { result ≡ (is_some run.now.symbols && completed.remarks.is_unnamed) }
+{
+    run.symbols.is_some() && completed.remarks.is_unnamed
+}
+
+/// Says that the table of symbols has none of the addresses, if that is so.
+fn note_names<P: Person>(is_unnamed: bool, person: &mut P)
+    ensures { HearsAll (P.heard person.old) (P.heard person.new) (unnamed_said is_unnamed) }
+{
+    if is_unnamed {
+        person.finds_no_name();
     }
-    note_cut(completed.cut, person);
+}
+
+/// Says that segments are missing, if they may have events that count.
+fn note_gaps<P: Person>(coverage: Coverage, until: Option<Moment>, person: &mut P)
+    ensures { HearsAll (P.heard person.old) (P.heard person.new) (gaps_said coverage until) }
+{
+    if coverage.is_touched(until) {
+        person.finds_gaps(coverage);
+    }
 }
 
 /// Says which inputs end within a segment, where some do.
-fn note_cut<P: Person>(cut: Option<CutInputs>, person: &mut P)
-    ensures { HearsAll (P.heard person.old) (P.heard person.new) (cut_said cut) }
+fn note_cut<P: Person>(command: &Command, cut: Option<CutInputs>, person: &mut P)
+    ensures { HearsAll (P.heard person.old) (P.heard person.new) (cut_said command.now cut) }
 {
     if let Some(inputs) = cut {
-        person.finds_cut(inputs);
+        person.finds_cut(command, inputs);
     }
 }
 
 /// Says how the printing of segments ended: where words are wanted, which inputs end within one.
-pub(crate) fn say_dump<O: Output, P: Person>(
+pub(crate) fn say_dump<P: Person>(
     command: &Command,
+    is_quiet: bool,
     in_words: bool,
     ended: Result<Option<CutInputs>, RunFault>,
-    out: &O,
     person: &mut P,
 )
-    ensures { SaysDump in_words (P.heard person.old) (P.heard person.new) command.now ended }
+    ensures { SaysDump is_quiet in_words (P.heard person.old) (P.heard person.new) command.now ended }
 {
     match ended {
-        Ok(cut) if in_words => note_cut(cut, person),
+        Ok(cut) if in_words => note_cut(command, cut, person),
         Ok(_) => {}
-        Err(fault) => report(command, in_words, alone(fault), out, person),
+        Err(fault) => report(command, is_quiet, in_words, alone(fault), person),
     }
 }
 
 /// Reports why segments could not be made, if they could not.
-pub(crate) fn say_encoding<O: Output, P: Person>(
+pub(crate) fn say_encoding<P: Person>(
     command: &Command,
+    is_quiet: bool,
     in_words: bool,
     ended: Result<(), RunFault>,
-    out: &O,
     person: &mut P,
 )
-    ensures { SaysConversion in_words (P.heard person.old) (P.heard person.new) command.now ended }
+    ensures { SaysConversion is_quiet in_words (P.heard person.old) (P.heard person.new) command.now
+        ended }
 {
     if let Err(fault) = ended {
-        report(command, in_words, alone(fault), out, person);
+        report(command, is_quiet, in_words, alone(fault), person);
     }
 }
 
-/// The question's subject, if it has no event.
-fn absent_subject(question: Question, has_event: bool) -> Option<Subject>
-    ensures { result ≡ absent_subject question has_event }
-{
-    if has_event {
-        return None;
-    }
-    Subject::of(question)
-}
-
-/// Says which fault ended the run of the command, and what it means where words are wanted.
-pub(crate) fn report<O: Output, P: Person>(
+/// Says which fault ended the run of the command, and what it means where words are wanted. A failed
+/// write goes unsaid where that is quiet.
+pub(crate) fn report<P: Person>(
     command: &Command,
+    is_quiet: bool,
     in_words: bool,
     refused: Refused,
-    out: &O,
     person: &mut P,
 )
-    ensures { SaysFault in_words (P.heard person.old) (P.heard person.new) command.now refused }
+    ensures { SaysFault is_quiet in_words (P.heard person.old) (P.heard person.new) command.now refused }
 {
-    match refused.fault {
-        RunFault::Write if out.has_lost_reader() => {}
-        _ => say_fault(command, in_words, refused, person),
+    if !is_unsaid(is_quiet, refused.fault) {
+        say_fault(command, in_words, refused, person);
+    }
+}
+
+/// Whether the fault goes unsaid, as a failed write does where that is quiet.
+fn is_unsaid(is_quiet: bool, fault: RunFault) -> bool
+    ensures { result ≡ is_unsaid is_quiet fault }
+{
+    match fault {
+        RunFault::Write => is_quiet,
+        _ => false,
     }
 }
 
@@ -139,20 +179,34 @@ pub(crate) fn alone(fault: RunFault) -> Refused
 }
 
 /// Reports why a dialogue ended early, if it did.
-pub(crate) fn say_dialogue<O: Output, P: Person>(
+pub(crate) fn say_dialogue<P: Person>(
     command: &Command,
+    is_quiet: bool,
     in_words: bool,
     ended: Result<Conversed, AskFault>,
-    out: &O,
     person: &mut P,
 )
-    ensures { SaysDialogue in_words (P.heard person.old) (P.heard person.new) command.now ended }
+    ensures { SaysDialogue is_quiet in_words (P.heard person.old) (P.heard person.new) command.now
+        ended }
 {
     match ended {
         Ok(_) => {}
-        Err(AskFault::Run(refused)) => report(command, in_words, refused, out, person),
-        Err(AskFault::Dialogue(DialogueFault::Write)) if out.has_lost_reader() => {}
-        Err(AskFault::Dialogue(fault)) => say_stop(in_words, fault, person),
+        Err(AskFault::Run(refused)) => report(command, is_quiet, in_words, refused, person),
+        Err(AskFault::Dialogue(fault)) => {
+            if !is_stop_unsaid(is_quiet, fault) {
+                say_stop(in_words, fault, person);
+            }
+        }
+    }
+}
+
+/// The same of what stopped the replies of a dialogue.
+fn is_stop_unsaid(is_quiet: bool, stopped: DialogueFault) -> bool
+    ensures { result ≡ is_stop_unsaid is_quiet stopped }
+{
+    match stopped {
+        DialogueFault::Write => is_quiet,
+        _ => false,
     }
 }
 

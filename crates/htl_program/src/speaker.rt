@@ -5,7 +5,7 @@ use htl_main::{Coverage, CutInputs};
 
 /// Who types the lines of a dialogue, and hears what goes on beside the replies.
 pub trait Speaker: Host {
-    ghost use Rattle.std.specs.Prelude.{◌≡◌, ◌||◌, Bool};
+    ghost use Rattle.std.specs.Prelude.{◌≡◌, ◌||◌, Bool, map, string_bytes};
     ghost use Rattle.htl_program.specs.Asking.{opening_note};
 
     // Whether a wrong line makes the status of a wrong command line.
@@ -24,10 +24,11 @@ pub trait Speaker: Host {
         ensures wanted { Self.wants_absence self.new
             ≡ (Self.wants_absence self.old || are_asked_for) };
 
-    /// The inputs were read. They have this coverage of their trace, and these end within a
-    /// segment.
-    fn begins(&mut self, coverage: Coverage, cut: Option<CutInputs>)
-        ensures told { self.new ≡ Self.told self.old (opening_note coverage cut) }
+    /// These files were read, or standard input where there is none. They have this coverage of
+    /// their trace, and those told here end within a segment.
+    fn begins(&mut self, files: &[String], coverage: Coverage, cut: Option<CutInputs>)
+        ensures told { self.new ≡ Self.told self.old
+            (opening_note (map string_bytes files.now) coverage cut) }
         ensures same { Self.wants_absence self.new ≡ Self.wants_absence self.old };
 
     /// Whether a wrong line makes the status of a wrong command line.

@@ -37,6 +37,7 @@ pub fn part(code: Code) -> Option<&'static str>
         Code::C4 | Code::C7 | Code::C8 => Some("segment <number> of processor <processor>"),
         Code::C5 => Some("sequence <sequence>"),
         Code::C9 => Some("what was asked about"),
+        Code::C10 => Some("input <input>"),
         Code::Y2 | Code::Y3 | Code::Y4 | Code::Y5 | Code::Y6 => Some("row <row>"),
         _ => None,
     }
@@ -74,7 +75,15 @@ pub fn wrong(code: Code) -> &'static str
         Code::C5 => "stands in two different segments",
         Code::C7 => "has a sequence that isn't above those of the processor's earlier segments",
         Code::C8 => "is missing",
-        Code::C9 => "has no event in these inputs, or none up to --until",
+        Code::C9 => {
+            "\
+has no event in these inputs, or none up to --until, or no event that counts is above --since"
+        }
+        Code::C10 => {
+            "\
+ends within a segment's header, or within a segment of another trace, so it isn't known which \
+segment is missing"
+        }
         Code::Y1 => "the first line isn't start,end,module,name",
         Code::Y2 => "hasn't four fields",
         Code::Y3 => "has a start or an end that is no number",
@@ -129,23 +138,31 @@ is it a trace in bytes, and not digits (--hex), text (hleak encode) or a log (to
         Code::S10 => "was it copied whole? With --partial its whole segments count",
         Code::H2 => "was it copied whole?",
         Code::S17 | Code::H3 | Code::C6 | Code::Y7 => FREE_MEMORY,
-        Code::H1 => "is it a trace in bytes, without --hex?",
+        Code::H1 => "is it a trace in bytes (without --hex), or a text (hleak encode)?",
         Code::C1 => "are these the files of a trace?",
         Code::C2 | Code::C3 => ONE_TRACE,
         Code::C4 => "give the files of one trace, as they were written",
         Code::C5 | Code::C7 => MIXED,
-        Code::C8 => "give all files of the trace, or leave out --complete",
+        Code::C8 => {
+            "\
+give all files of the trace. Without --complete, summary lists the gaps and --until complete answers \
+what is final"
+        }
         Code::C9 => {
             "\
-is its number right, and --until late enough? A mistyped number looks like one without a leak"
+is each number right, and --until late enough? A mistyped number looks like one without a leak"
         }
+        Code::C10 => "copy it whole, or leave out --complete",
         Code::Y1 => "is it a table of symbols?",
         Code::Y2 => "is a name with a comma in quotes, and is each quote ended?",
         Code::Y3 => "each is 1 to 16 hexadecimal digits, with or without 0x",
         Code::Y4 => "an end is the first address after the range",
         Code::Y5 => "are all rows of one moment?",
         Code::Y6 => "is the file in UTF-8?",
-        Code::E1 => "is it written as dump prints it? A log goes through tools/from-htrace first",
+        Code::E1 => {
+            "\
+is it written as dump prints it? Segments go to dump, and a log through tools/from-htrace first"
+        }
         Code::E2 => "is a line left out before it?",
     }
 }

@@ -5,3 +5,4 @@ pub mod PartLaws
 pub mod ReadLaws
 pub mod SkipLaws
 pub mod RoundLaws
+pub mod Foreign

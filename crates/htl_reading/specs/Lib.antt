@@ -1,4 +1,5 @@
 -- What public contracts cite.
+pub mod Digits
 pub mod Sources
 pub mod Taking
 -- What only private contracts cite.

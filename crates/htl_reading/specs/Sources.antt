@@ -1,6 +1,7 @@
 -- How the reading of one source ends, and how far it is read (this project's own). What a source gives is known where it reports its bytes.
 use Rattle.std.specs.Prelude.{◌≡◌, ◌<◌, ◌≤◌, ◌+◌, ◌⊎◌, ⊤, ℕ, Bool, true, false, List, [], ◌++◌, length, Option, Some, None, IfSome}
-use Rattle.std.specs.Prelude.{OnOk, Result, Err}
+use Rattle.std.specs.Prelude.{OnOk, Result, Err, codes, min, nat_eq, nat_lt, take, if◌then◌else◌}
+use Rattle.std.specs.List.{starts_with}
 use Rattle.std.specs.Io.KnownBytes.{Consumes}
 use Rattle.htl_device.specs.declared.source.TheConstants.{MAX_READ_LEN}
 use Rattle.htl_segment.specs.Content.{Content}
@@ -8,14 +9,34 @@ use Rattle.htl_segment.specs.Bundles.{BundleFault, IsRest, RestAt, SegmentAt, Sp
 use Rattle.htl_segment.specs.Faults.{first_fault}
 use Rattle.htl_reading.specs.declared.fault.SourceFault.{SourceFault}
 use Rattle.htl_reading.specs.declared.fault.SourceFault.TheVariants.{Segment, Read, NoMemory}
+use Rattle.htl_segment.specs.Numbers.{number}
 use Rattle.htl_reading.specs.declared.outcome.EarlyEnd.{EarlyEnd}
+use Rattle.htl_reading.specs.declared.outcome.SegmentName.{SegmentName}
 
--- Behind these segments bytes are left that end within one more: its offset, and their first fault, which more bytes may mend.
+-- Bytes begin as a header does, as far as they go: their first four, or all where they are fewer, are those of its magic.
+abbrev pub begins_header : List ℕ → Bool
+begins_header bytes = starts_with nat_eq (codes "HLS1") (take (min (length bytes) 4) bytes)
+
+-- which segment the bytes are of, where its header is whole
+abbrev pub name_in : List ℕ → Option SegmentName
+name_in bytes =
+    if nat_lt (length bytes) 32 then None
+    else Some (record {
+      trace_id = number 16 8 bytes;
+      processors = number 6 2 bytes;
+      processor = number 8 2 bytes;
+      number = number 12 4 bytes;
+    })
+
+-- Behind these segments bytes are left that end within one more: its offset, and their first fault, which more bytes may mend; whether they
+-- begin as a header does; and which segment it is, where its header is whole.
 pub record EndsWithin (segments : List Content) (rest : List ℕ) (end : EarlyEnd) : Type 0 where
   pub some : 0 < length rest
   pub offset_is : end.offset ≡ length (bundle segments)
   pub fault_is : first_fault rest ≡ Some end.fault
   pub early : is_early_end end.fault ≡ true
+  pub begun : end.is_begun ≡ begins_header rest
+  pub named : end.name ≡ name_in rest
 
 -- what is left behind these segments: nothing, or bytes that end within one more
 abbrev pub IsLeft : List Content → List ℕ → Option EarlyEnd → Type 0

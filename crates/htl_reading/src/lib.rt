@@ -13,7 +13,8 @@
 //! Files, in reading order: `fault.rt` (why a reading ends before its source does), `outcome.rt` (what
 //! comes of one that doesn't), `reading.rt` (a source to its end), `block.rt` (the bytes that a read
 //! puts behind those that are held), `gathered.rt` (reading on by one worker), `parts.rt` (several
-//! workers), `ends.rt` (where their parts end), `rounds.rt` (several workers, some bytes at a time).
+//! workers), `ends.rt` (where their parts end), `rounds.rt` (several workers, some bytes at a time),
+//! `digits.rt` (a text in hexadecimal).
 //!
 //! `specs/Sources` says what is left at the end, what is reported and how far a source is read, and
 //! `specs/Taking` what a keeper took of it. In `proofs/`, `TakenLaws` shows which segments reads give,
@@ -23,6 +24,7 @@
 #![tactic(auto)]
 
 mod block;
+mod digits;
 mod ends;
 mod fault;
 mod gathered;
@@ -31,7 +33,8 @@ mod parts;
 mod reading;
 mod rounds;
 
+pub use digits::{DigitsFault, read_digits};
 pub use fault::SourceFault;
-pub use outcome::{Bundle, EarlyEnd, early_end};
+pub use outcome::{Bundle, EarlyEnd, SegmentName, early_end};
 pub use reading::{gather_bundle, read_bundle, take_source};
 pub use rounds::SegmentKeeper;

@@ -12,5 +12,6 @@ pub mod TagBalances
 pub mod ReferenceStacks
 pub mod Summaries
 pub mod Texts
+pub mod Names
 
 -- What only private contracts cite: nothing.

@@ -24,6 +24,8 @@ impl Symbols {
     /// these is reported: it is not UTF-8, it hasn't four fields, its start or its end is no number,
     /// its range is empty, its range overlaps that of an earlier row. Out of memory can come at any
     /// row.
+    // A reader has a buffer of 8 KB, so a caller without a table has no frame with room for one.
+    #[inline(never)]
     pub fn read(alloc: Global, bytes: &[u8]) -> Result<Symbols, SymbolFault>
         ensures { Reads (records_of bytes.now) result }
     {
@@ -35,6 +37,8 @@ impl Symbols {
 }
 
 /// A reader that treats the header as any other record, and takes rows with any number of fields.
+// Its copies while it is made stand in a frame of their own, which is gone when rows are read.
+#[inline(never)]
 fn reader_of(alloc: Global, bytes: &[u8]) -> Reader<&[u8]>
     ensures at { IsAtRecord result }
     ensures records { records_left result ≡ records_of bytes.entry.now }

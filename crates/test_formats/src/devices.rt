@@ -19,7 +19,7 @@ impl Read for Pieces<'_> {
     fn read(&mut self, buffer: &mut [u8]) -> io::Result<usize> {
         if self.calls_left == 0 {
             self.calls_left = usize::MAX;
-            return Err(io::Error::from(io::ErrorKind::Interrupted));
+            return Err(io::Error::from(io::ErrorKind::Other));
         }
         self.calls_left -= 1;
         let count = self.piece.min(self.bytes.len()).min(buffer.len());
@@ -43,7 +43,7 @@ impl Write for Narrow {
     fn write(&mut self, bytes: &[u8]) -> io::Result<usize> {
         if self.held.len() >= self.most {
             self.most = usize::MAX;
-            return Err(io::Error::from(io::ErrorKind::Interrupted));
+            return Err(io::Error::from(io::ErrorKind::Other));
         }
         let count = self.piece.min(bytes.len());
         self.held.extend_from_slice(&bytes[..count])?;

@@ -5,7 +5,7 @@ ghost use Rattle.std.specs.Prelude.{◌≡◌, false, true};
 use crate::rows::assert_row;
 use htl_device::{Failed, Parted, Reading, Source};
 use htl_event::{Interest, SharedEvent};
-use htl_reading::{Bundle, EarlyEnd, SourceFault, gather_bundle, read_bundle};
+use htl_reading::{Bundle, EarlyEnd, SourceFault, early_end, gather_bundle, read_bundle};
 use htl_samples::{RandomTrace, SMALL};
 use htl_segment::{Fault, Picks, Segment, decode_bundle};
 use std::alloc::Global;
@@ -131,13 +131,13 @@ pub type Told = Result<(u64, Option<EarlyEnd>), SourceFault>;
 pub fn told_of_bytes(alloc: Global, bytes: &[u8]) -> Told {
     match decode_bundle(alloc, bytes) {
         Ok(segments) => Ok((told(&segments), None)),
-        Err((offset, fault @ (Fault::Short | Fault::Cut))) => {
-            let (whole, _) = bytes.split_at(offset as usize);
+        Err((offset, Fault::Short | Fault::Cut)) => {
+            let (whole, rest) = bytes.split_at(offset as usize);
             let segments = decode_bundle(alloc, whole).map_err(|(
                 offset,
                 fault,
             )| SourceFault::Segment { offset, fault })?;
-            Ok((told(&segments), Some(EarlyEnd { offset, fault })))
+            Ok((told(&segments), early_end(offset, rest)))
         }
         Err((offset, fault)) => Err(SourceFault::Segment { offset, fault }),
     }

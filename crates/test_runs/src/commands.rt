@@ -2,7 +2,7 @@
 
 use crate::printed::LEAKING;
 use htl_command::{Question, Since};
-use htl_main::{Completed, Coverage};
+use htl_main::{Completed, Coverage, Remarks};
 use htl_samples::TRACE;
 use htl_segment::encode;
 use std::alloc::Global;
@@ -15,16 +15,22 @@ pub const INPUTS: [&str; 2] = [
 ];
 
 /// No segment of it is missing, it has events of what each command asks about, and each answer
-/// finds something.
-pub const COMPLETED: Completed = Completed {
-    coverage: Coverage {
-        gaps: 0,
-        complete_to: 7,
-    },
-    cut: None,
-    has_subject: true,
-    has_finding: true,
-};
+/// finds something. The table has no address of some answers.
+pub fn completed(command: &Command) -> Completed {
+    Completed {
+        coverage: Coverage {
+            gaps: 0,
+            complete_to: 7,
+        },
+        cut: None,
+        absence: None,
+        remarks: Remarks {
+            has_finding: true,
+            is_unmarked: false,
+            is_unnamed: command.is_unnamed,
+        },
+    }
+}
 
 pub const SYMBOLS: &str = "start,end,module,name\n1000,1010,app,main\n";
 
@@ -53,6 +59,8 @@ pub fn digits_of(rt: &impl Abort, alloc: Global, bytes: &[u8]) -> Vec<u8> {
 pub struct Command {
     pub question: Question,
     pub text: &'static str,
+    /// Whether it shows addresses, of which the table has none.
+    pub is_unnamed: bool,
 }
 
 pub const COMMANDS: &[Command] = &[
@@ -63,6 +71,7 @@ summary processors=1 segments=2 events=7 complete_to=7 gaps=0 processes=1 object
 PROCESS process=4 outstanding=1 opens=2 closes=1 bad=1 mark=2 exit=0
 OBJECT object=0x0000000000001000 tags=2 unbalanced=2 refs=1 derefs=1
 ",
+        is_unnamed: false,
     },
     Command {
         question: Question::Outstanding { process: 4 },
@@ -71,6 +80,7 @@ outstanding process=4 count=1
 OPEN handle=0x48 seq=3 thread=12
   0x0000000000000030
 ",
+        is_unnamed: true,
     },
     Command {
         question: Question::Diff {
@@ -82,6 +92,7 @@ diff process=4 since=2 count=1
 OPEN handle=0x48 seq=3 thread=12
   0x0000000000000030
 ",
+        is_unnamed: true,
     },
     Command {
         question: Question::Tags { object: 0x1000 },
@@ -90,6 +101,7 @@ tags object=0x0000000000001000 count=2
 TAG Dflt refs=0 derefs=1 under=1
 TAG Lky8 refs=1 derefs=0 over=1
 ",
+        is_unnamed: false,
     },
     Command {
         question: Question::Bad { process: 4 },
@@ -98,6 +110,7 @@ bad process=4 count=1
 BAD REF handle=0x45 times=1
   0x0000000000000030
 ",
+        is_unnamed: true,
     },
     Command {
         question: LEAKING,
@@ -106,6 +119,7 @@ leaks process=4 count=1
 LEAK handles=1
   0x0000000000000030
 ",
+        is_unnamed: true,
     },
     Command {
         question: Question::Stacks {
@@ -117,6 +131,7 @@ stacks object=0x0000000000001000 tag=Lky8 count=1
 STACK refs=1 derefs=0
   app!main+0x4
 ",
+        is_unnamed: false,
     },
     Command {
         question: Question::Trace {
@@ -132,5 +147,6 @@ OPEN handle=0x44 seq=1 thread=12
   app!main+0x4
   0x0000000000000020
 ",
+        is_unnamed: false,
     },
 ];

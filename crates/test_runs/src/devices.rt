@@ -28,7 +28,7 @@ impl Write for Narrow {
     fn write(&mut self, bytes: &[u8]) -> io::Result<usize> {
         if self.held.len() >= self.most {
             self.most = usize::MAX;
-            return Err(io::Error::from(io::ErrorKind::Interrupted));
+            return Err(io::Error::from(io::ErrorKind::Other));
         }
         let count = self.piece.min(bytes.len());
         self.held.extend_from_slice(&bytes[..count])?;
@@ -291,7 +291,6 @@ const FAULTS: &[(RunFault, &str, u8)] = &[
     (RunFault::SymbolsRead, "hleak: symbols: read failed", 5),
     (RunFault::Write, "hleak: output: write failed", 5),
     (RunFault::Memory, "hleak: out of memory", 6),
-    (RunFault::NoThread, "hleak: no thread", 6),
 ];
 
 #[test]

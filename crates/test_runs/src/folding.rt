@@ -118,11 +118,12 @@ fn has_answer(
     let job = over_bytes(command.question);
     assert!(rt; !job.needs_events());
     for workers in 1..3 {
-        let text = folded_text(rt, alloc, workers, &job, folded).expect(rt, "the memory");
+        let setting = Setting { workers, ..BYTES };
+        let answer = folded_text(rt, alloc, setting, &job, folded).expect(rt, "the memory");
         assert_row(
             rt,
             command.question,
-            text.as_slice(),
+            answer.lines.as_slice(),
             command.text.as_bytes(),
         );
     }

@@ -26,7 +26,7 @@ impl Read for Pieces<'_> {
     fn read(&mut self, buffer: &mut [u8]) -> io::Result<usize> {
         if self.reads_left == 0 {
             self.reads_left = usize::MAX;
-            return Err(io::Error::from(io::ErrorKind::Interrupted));
+            return Err(io::Error::from(io::ErrorKind::Other));
         }
         self.reads_left -= 1;
         let count = self.piece.min(self.bytes.len()).min(buffer.len());

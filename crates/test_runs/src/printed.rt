@@ -205,7 +205,7 @@ fn has_finding_of(
 ) -> bool {
     let inputs = bundles(rt, alloc, &[lines]);
     let (_, ended) = printed(rt, alloc, &over_bytes(question), &inputs, None);
-    ended.expect(rt, "it is printed").has_finding
+    ended.expect(rt, "it is printed").remarks.has_finding
 }
 
 #[test]

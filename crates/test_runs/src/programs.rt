@@ -6,7 +6,7 @@ use crate::devices::Narrow;
 use crate::texts::TEXTS;
 use crate::worlds::{Memory, Named, Said, Silent, Witness};
 use htl_main::{RunFault, Writing};
-use htl_program::{Console, Inputs, Subject, program};
+use htl_program::{Console, Inputs, Lack, Subject, program};
 use std::alloc::Global;
 use std::process::Abort;
 use std::thread::Threads;
@@ -134,7 +134,10 @@ fn notes_say_that_a_process_has_no_event(rt: HostRuntime) {
     let line = Line {
         words: &["bad", "--process", "5", "--notes", "first", "second"],
         printed: "bad process=5 count=0\n",
-        last: Said::Absence(Subject::Process(5)),
+        last: Said::Lack(Lack::Event {
+            subject: Subject::Process(5),
+            has_moment: false,
+        }),
         ..LINE
     };
     is_obeyed(&rt, rt.alloc(), &line);

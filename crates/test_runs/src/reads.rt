@@ -1,6 +1,6 @@
 //! Sources that give a few bytes a read, and that fail at each of their reads in turn.
 
-use crate::commands::{COMMANDS, COMPLETED, Command, INPUTS, SYMBOLS, bytes_of, digits_of};
+use crate::commands::{COMMANDS, Command, INPUTS, SYMBOLS, bytes_of, completed, digits_of};
 use crate::comparison::assert_row;
 use crate::devices::printed_from;
 use crate::pieces::Pieces;
@@ -53,7 +53,7 @@ fn fail_reads(
     alloc: Global,
     job: &Job,
     sources: Sources,
-    text: &str,
+    command: &Command,
 ) -> usize {
     let reads_of_first = sources.reads_of(sources.first);
     let reads = reads_of_first.saturating_add(sources.reads_of(sources.second));
@@ -69,7 +69,7 @@ fn fail_reads(
         );
     }
     let (written, ended) = sources.run(rt, alloc, job, reads);
-    let wanted = (text.as_bytes(), Ok(COMPLETED));
+    let wanted = (command.text.as_bytes(), Ok(completed(command)));
     assert_row(rt, reads, (written.as_slice(), ended), wanted);
     reads
 }
@@ -91,7 +91,7 @@ fn fail_reads_of(
             second,
             piece,
         };
-        failed = failed.wrapping_add(fail_reads(rt, alloc, &job, sources, command.text));
+        failed = failed.wrapping_add(fail_reads(rt, alloc, &job, sources, command));
     }
     failed
 }

@@ -2,7 +2,7 @@
 
 use crate::printed::LEAKING;
 use htl_command::{Question, Since};
-use htl_main::{Completed, Coverage};
+use htl_main::{Completed, Coverage, Remarks};
 
 /// The stored run: two opens and a close of process 4.
 pub const STORED: &str = "\
@@ -20,15 +20,19 @@ OPEN handle=0x48 seq=3 thread=12
   0x0000000000002000
 ";
 
-/// Of its one processor it has the first segment, with events of process 4.
+/// Of its one processor it has the first segment, with events of process 4. No table has names.
 pub const STORED_COMPLETED: Completed = Completed {
     coverage: Coverage {
         gaps: 0,
         complete_to: 3,
     },
     cut: None,
-    has_subject: true,
-    has_finding: true,
+    absence: None,
+    remarks: Remarks {
+        has_finding: true,
+        is_unmarked: false,
+        is_unnamed: true,
+    },
 };
 
 /// A segment with no events.

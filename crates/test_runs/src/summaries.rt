@@ -152,7 +152,7 @@ fn is_summarized(rt: &(impl Threads + Sync + Abort), alloc: Global, row: &Summar
     let (written, ended) = printed(rt, alloc, &job, &input(rt, alloc, row), None);
     assert!(rt; written.as_slice() == row.text.as_bytes());
     let completed = ended.expect(rt, "it is printed");
-    let found = (completed.coverage, completed.has_finding);
+    let found = (completed.coverage, completed.remarks.has_finding);
     assert_row(rt, workers, found, (row.coverage, row.has_finding));
 }
 

@@ -4,10 +4,10 @@ ghost use Rattle.std.specs.Prelude.{◌≡◌, None, Some, false, find, is_none,
 ghost use Rattle.std.specs.Prelude.{option_map};
 ghost use Rattle.std.specs.Str.{bytes_eq};
 
-use htl_command::{Command, ParseFault, Question};
+use htl_command::{Command, Job, ParseFault};
 use htl_dialogue::{DialogueFault, Host};
-use htl_main::{Added, Coverage, CutInputs, Reading, Refused, RunFault};
-use htl_program::{OpenFault, Person, Speaker, Subject, World};
+use htl_main::{Absence, Added, Coverage, CutInputs, Reading, Refused, Remarks, RunFault};
+use htl_program::{Lack, OpenFault, Person, Speaker, World};
 use std::alloc::Global;
 
 /// A name, and the bytes that it holds.
@@ -84,7 +84,8 @@ pub enum Said {
     Unwritten,
     Fault(RunFault),
     Meaning(RunFault),
-    Absence(Subject),
+    Lack(Lack),
+    Unnamed,
     Gaps(Coverage),
     Cut(CutInputs),
     Stop(DialogueFault),
@@ -150,15 +151,19 @@ impl Person for Witness {
         self.hears(Said::Meaning(refused.fault));
     }
 
-    fn lacks(&mut self, subject: Subject) {
-        self.hears(Said::Absence(subject));
+    fn lacks(&mut self, lack: Lack) {
+        self.hears(Said::Lack(lack));
+    }
+
+    fn finds_no_name(&mut self) {
+        self.hears(Said::Unnamed);
     }
 
     fn finds_gaps(&mut self, coverage: Coverage) {
         self.hears(Said::Gaps(coverage));
     }
 
-    fn finds_cut(&mut self, inputs: CutInputs) {
+    fn finds_cut(&mut self, _command: &Command, inputs: CutInputs) {
         self.hears(Said::Cut(inputs));
     }
 
@@ -192,7 +197,9 @@ impl Host for Silent {
         self.wants_notes
     }
 
-    fn lacks(&mut self, _question: Question) {}
+    fn declines(&mut self, _fault: RunFault) {}
+
+    fn answered(&mut self, _job: &Job, _absence: Option<Absence>, _remarks: Remarks) {}
 }
 
 impl Speaker for Silent {
@@ -206,7 +213,7 @@ impl Speaker for Silent {
         self.wants_notes |= are_asked_for;
     }
 
-    fn begins(&mut self, _coverage: Coverage, _cut: Option<CutInputs>) {}
+    fn begins(&mut self, _files: &[String], _coverage: Coverage, _cut: Option<CutInputs>) {}
 
     fn counts_wrong(&self) -> bool {
         true

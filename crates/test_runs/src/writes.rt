@@ -1,6 +1,6 @@
 //! Sinks that take a few bytes a write, and that fail at each of their writes in turn.
 
-use crate::commands::{COMMANDS, COMPLETED, Command, INPUTS, SYMBOLS, bytes_of};
+use crate::commands::{COMMANDS, Command, INPUTS, SYMBOLS, bytes_of, completed};
 use crate::comparison::assert_row;
 use crate::printed::over_bytes;
 use htl_main::{Completed, Refused, RunFault, Writing, run};
@@ -112,7 +112,7 @@ fn fail_writes(
         rt,
         writes,
         (Some(held.as_slice()), ended),
-        (whole, Ok(COMPLETED)),
+        (whole, Ok(completed(command))),
     );
     writes
 }

@@ -5,12 +5,14 @@ ghost use Rattle.hleak.specs.Explanations.{about, about_text, meaning_text};
 ghost use Rattle.hleak.specs.Meanings.{text_of};
 ghost use Rattle.hleak.specs.Subjects.{event_line_of, subject_of};
 
-use crate::explaining::advice::{memory_advice, thread_advice};
 use crate::explaining::meaning::Meaning;
 use crate::explaining::side::Side;
 use crate::explaining::task::Task;
+use crate::reason::Reason;
 use crate::shown::Shown;
+use htl_case::CaseFault;
 use htl_main::{Between, RunFault};
+use htl_program::FREE_MEMORY;
 use std::fmt;
 
 /// A fault in words: the file or the two segments that it is about, the line of the event in a text
@@ -21,13 +23,15 @@ pub struct Explanation<'a> {
     pub fault: RunFault,
     /// Which two segments it is about.
     pub between: Between,
+    /// Why something could not be opened or read, where that is the fault.
+    pub reason: Reason,
 }
 
 impl fmt::Display for Explanation<'_> {
     ghost use Rattle.std.specs.Prelude.{Some};
     ghost use Rattle.hleak.specs.Explanations.{explanation_text};
 
-    ghost output = { λ of. Some (explanation_text of.task of.fault of.between) };
+    ghost output = { λ of. Some (explanation_text of.task of.fault of.between of.reason) };
 
     fn fmt<W: fmt::Write>(&self, f: &mut fmt::Formatter<W>) -> fmt::Result {
         let (about, meaning) = (self.about(), self.meaning());
@@ -76,7 +80,7 @@ impl<'a> Explanation<'a> {
 
     /// What is wrong, and what to do.
     fn meaning(&self) -> Meaning
-        ensures { text_of result ≡ meaning_text self.now.task self.now.fault }
+        ensures { text_of result ≡ meaning_text self.now.task self.now.fault self.now.reason }
     {
         match self.fault {
             RunFault::Workers => Meaning::new("there can't be so many workers", "give 1 to 8"),
@@ -85,15 +89,18 @@ impl<'a> Explanation<'a> {
             RunFault::Text { fault, .. } => Meaning::from_line(fault),
             RunFault::Case(fault) => Meaning::from_case(fault),
             RunFault::Incomplete { processor, number } => Meaning::from_missing(processor, number),
-            RunFault::NoSubject => Meaning::from_absent(self.task.asked_about()),
-            RunFault::Symbols(fault) => Meaning::from_symbols(fault),
-            RunFault::Read { .. } | RunFault::SymbolsRead => Meaning::unread(),
-            RunFault::Write => Meaning::untaken(),
-            RunFault::Memory => Meaning::no_memory(memory_advice(self.task)),
-            RunFault::NoThread => Meaning::new(
-                "the system started no thread",
-                thread_advice(self.task),
+            RunFault::UnknownCut { input } => Meaning::from_unknown_cut(input),
+            RunFault::NoSubject => Meaning::from_absent(
+                self.task.asked_about(),
+                self.task.has_moment(),
+                self.task.has_since(),
             ),
+            RunFault::Symbols(fault) => Meaning::from_symbols(fault),
+            RunFault::Read { .. } | RunFault::SymbolsRead => Meaning::unread(self.reason),
+            RunFault::Write => Meaning::untaken(),
+            RunFault::Memory => Meaning::no_memory(),
+            // No run reports it.
+            RunFault::NoThread => Meaning::new("the system started no thread", FREE_MEMORY),
         }
     }
 
@@ -116,6 +123,8 @@ impl<'a> Explanation<'a> {
             RunFault::Hex { input, .. } => self.task.input(input),
             RunFault::Text { input, .. } => self.task.input(input),
             RunFault::Read { input } => self.task.input(input),
+            RunFault::UnknownCut { input } => self.task.input(input),
+            RunFault::Case(CaseFault::Empty) => self.task.input(0),
             RunFault::Symbols(_) | RunFault::SymbolsRead => self.task.symbols(),
             RunFault::Write => "standard output",
             RunFault::Workers

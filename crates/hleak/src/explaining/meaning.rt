@@ -1,10 +1,12 @@
 //! What a fault means, in words.
 
 ghost use Rattle.std.specs.Prelude.{◌≡◌, None, Some};
-ghost use Rattle.hleak.specs.Meanings.{absent_text, case_text, coded, form_text, hex_text};
+ghost use Rattle.hleak.specs.Meanings.{absent_advice, absent_text, absent_wrong, case_text};
+ghost use Rattle.hleak.specs.Meanings.{coded, form_text, hex_text};
 ghost use Rattle.hleak.specs.Meanings.{line_text, missing_text, no_memory, said, segment_text};
-ghost use Rattle.hleak.specs.Meanings.{symbols_text, text_of, unread, untaken};
+ghost use Rattle.hleak.specs.Meanings.{symbols_text, text_of, unknown_cut_text, unread, untaken};
 
+use crate::reason::Reason;
 use htl_case::CaseFault;
 use htl_command::Code;
 use htl_program::{NamedPart, Subject, advice, form_wrong, wrong};
@@ -33,14 +35,26 @@ impl Meaning {
         }
     }
 
-    /// A file or standard input can't be read.
-    pub fn unread() -> Meaning
-        ensures { text_of result ≡ unread }
+    /// A file or standard input can't be opened or read, for this reason.
+    pub fn unread(reason: Reason) -> Meaning
+        ensures { text_of result ≡ unread reason }
     {
-        Meaning::new(
-            "it can't be opened or read",
-            "is it a file, is it there, and may you read it?",
-        )
+        match reason {
+            Reason::NotThere => Meaning::new("there is no such file", "is its name right?"),
+            Reason::NotAllowed => Meaning::new(
+                "you aren't allowed to read it",
+                "are its rights, and those of the folders above it, as they should be?",
+            ),
+            Reason::Folder => Meaning::new("it is a folder", "give the files in it"),
+            Reason::TooManyOpen => Meaning::new(
+                "too many files are open",
+                "raise their limit (ulimit -n), or give fewer pipes at once",
+            ),
+            Reason::Unknown => Meaning::new(
+                "it can't be opened or read",
+                "is it a file, is it there, and may you read it?",
+            ),
+        }
     }
 
     /// Standard output failed.
@@ -53,11 +67,11 @@ impl Meaning {
         )
     }
 
-    /// The system refused memory. The advice says what helps.
-    pub fn no_memory(advice: &'static str) -> Meaning
-        ensures { text_of result ≡ no_memory advice.now }
+    /// The system refused memory. All codes for this have the same words.
+    pub fn no_memory() -> Meaning
+        ensures { text_of result ≡ no_memory }
     {
-        Meaning::new("the system refused memory", advice)
+        Meaning::from_code(Code::C6)
     }
 
     /// What a fault means that has this code, and names no part of the inputs.
@@ -173,10 +187,18 @@ impl Meaning {
         Meaning::from_part(Code::C8, key(processor, number))
     }
 
-    /// What it means that what was asked about has no event.
-    #[tactic(auto, unfolding(crate::specs::Meanings::coded))]
-    pub fn from_absent(subject: Option<Subject>) -> Meaning
-        ensures { text_of result ≡ absent_text subject }
+    /// What it means that this input is cut within a segment of which it isn't known which it is, where
+    /// a complete case is asked for.
+    pub fn from_unknown_cut(input: u64) -> Meaning
+        ensures { text_of result ≡ unknown_cut_text input }
+    {
+        Meaning::from_part(Code::C10, NamedPart::Input(input))
+    }
+
+    /// What it means that nothing can be found of what was asked about, as of a moment if one was
+    /// given, and since a sequence if one was.
+    pub fn from_absent(subject: Option<Subject>, has_moment: bool, has_since: bool) -> Meaning
+        ensures { text_of result ≡ absent_text subject has_moment has_since }
     {
         let part = match subject {
             Some(subject) => Some(NamedPart::Subject(subject)),
@@ -184,8 +206,8 @@ impl Meaning {
         };
         Meaning {
             part,
-            wrong: wrong(Code::C9),
-            advice: advice(Code::C9),
+            wrong: absent_wrong(has_moment, has_since),
+            advice: absent_advice(has_moment),
         }
     }
 
@@ -202,6 +224,33 @@ impl Meaning {
             SymbolFault::Csv(row) => Meaning::from_part(Code::Y6, NamedPart::Row(row)),
             SymbolFault::NoMemory => Meaning::from_code(Code::Y7),
         }
+    }
+}
+
+/// Why nothing can be found of what was asked about, by what else was asked.
+fn absent_wrong(has_moment: bool, has_since: bool) -> &'static str
+    ensures { result.now ≡ absent_wrong has_moment has_since }
+{
+    match (has_moment, has_since) {
+        (false, false) => "has no event in these inputs",
+        (true, false) => "has no event in these inputs, or none up to --until",
+        (false, true) => "has no event in these inputs, or no event is above --since",
+        (true, true) => {
+            "\
+has no event in these inputs, or none up to --until, or no event that counts is above --since"
+        }
+    }
+}
+
+/// What to do then.
+fn absent_advice(has_moment: bool) -> &'static str
+    ensures { result.now ≡ absent_advice has_moment }
+{
+    if has_moment {
+        "\
+is each number right, and --until late enough? A mistyped number looks like one without a leak"
+    } else {
+        "is each number right? A mistyped number looks like one without a leak"
     }
 }
 

@@ -1,9 +1,11 @@
 //! What the program was doing, and what a person calls its inputs.
 
 ghost use Rattle.std.specs.Prelude.{◌≡◌};
-ghost use Rattle.hleak.specs.Subjects.{IsTaskOf, asked_about, input_name, symbols_name};
+ghost use Rattle.hleak.specs.Subjects.{IsTaskOf, asked_about, has_moment, has_since};
+ghost use Rattle.hleak.specs.Subjects.{input_name, symbols_name};
 
 use htl_command::{Command, Dialogue, Run};
+use htl_main::since_of;
 use htl_program::Subject;
 
 /// What the program was doing.
@@ -76,6 +78,26 @@ impl<'a> Task<'a> {
         match self {
             Task::Question(run) => Subject::of(run.job.question),
             Task::Convert(_) | Task::Ask(_) | Task::Read(_) => None,
+        }
+    }
+
+    /// Whether a question is asked as of a moment.
+    pub fn has_moment(self) -> bool
+        ensures { result ≡ has_moment self.entry }
+    {
+        match self {
+            Task::Question(run) => run.job.until.is_some(),
+            Task::Convert(_) | Task::Ask(_) | Task::Read(_) => false,
+        }
+    }
+
+    /// Whether a question is asked since a sequence.
+    pub fn has_since(self) -> bool
+        ensures { result ≡ has_since self.entry }
+    {
+        match self {
+            Task::Question(run) => since_of(run.job.question).is_some(),
+            Task::Convert(_) | Task::Ask(_) | Task::Read(_) => false,
         }
     }
 }

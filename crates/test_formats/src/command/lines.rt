@@ -346,6 +346,19 @@ const EXPLAINED: &[(&str, Code, Parts)] = &[
     ),
     ("explain|Y6(007)", Code::Y6, Parts::Number(7)),
     ("explain|C4(0, 3)", Code::C4, Parts::Numbers(0, 3)),
+    ("explain|C4 (0, 3)", Code::C4, Parts::Numbers(0, 3)),
+    ("explain| C4(0,3) ", Code::C4, Parts::Numbers(0, 3)),
+    (
+        "explain|hleak: case: C4(0, 3)",
+        Code::C4,
+        Parts::Numbers(0, 3),
+    ),
+    (
+        "explain|hleak: input 0, offset 0: S12(1)\r\n",
+        Code::S12,
+        Parts::Number(1),
+    ),
+    ("explain|hleak: case: C1", Code::C1, Parts::Nothing),
     ("explain|c8(0,2)", Code::C8, Parts::Numbers(0, 2)),
     ("explain|E1", Code::E1, Parts::Nothing),
     ("explain|E1(process)", Code::E1, Parts::Field("process")),
@@ -476,7 +489,7 @@ explain|S1 => commands of their own
 dump => commands of their own
 encode => commands of their own
 ask|a.hls => commands of their own
-ask => <FILES>
+ask => commands of their own
 leaks => --process <N>
 leaks|--process|x => 'x' for '--process <N>'
 leaks|--process|4|--at-least|0 => '0' for '--at-least <N>'
@@ -548,12 +561,13 @@ trace|--process|4|--handle|44|--top| => '' for '--top <N>'
 explain|S0 => 'S0' for '<CODE>'
 explain|S18 => 'S18' for '<CODE>'
 explain|S01 => 'S01' for '<CODE>'
-explain|C10 => 'C10' for '<CODE>'
+explain|C11 => 'C11' for '<CODE>'
 explain|S5(2) => 'S5(2)' for '<CODE>'
 explain|S12() => 'S12()' for '<CODE>'
 explain|S12(1 => 'S12(1' for '<CODE>'
 explain|S12(1)) => 'S12(1))' for '<CODE>'
-explain|S12 (1) => 'S12 (1)' for '<CODE>'
+explain|S1 2(1) => 'S1 2(1)' for '<CODE>'
+explain|case: C8(0, 2): => for '<CODE>'
 explain|S12(1, 2) => 'S12(1, 2)' for '<CODE>'
 explain|S12(handle) => 'S12(handle)' for '<CODE>'
 explain|S12(18446744073709551616) => for '<CODE>'

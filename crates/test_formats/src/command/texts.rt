@@ -34,14 +34,16 @@ Options:
 
 Options of every question, from summary to growth:
       --until <N>       Only events up to this sequence count: decimal, at most
-                        18446744073709551615, or 'complete' for the one up to
-                        which no segment is missing: 0 if a processor is idle
+                        18446744073709551615, or 'complete' for complete_to,
+                        up to which answers are final: 0 if a processor is idle
       --symbols <FILE>  Names for addresses: CSV of start,end,module,name
       --workers <N>     Use up to N threads: 1 to 8 [default: 1]
       --json            One JSON object a line, for other programs
-      --complete        Refuse segments of which one is missing (C8)
+      --complete        Refuse segments with a gap (C8). Without a gap the last
+                        segments of a processor may still be missing
       --hex             The files hold hexadecimal digits, not bytes
-      --partial         A file may end within a segment, which is left out
+      --partial         Behind its whole segments a file may have bytes that
+                        begin as a segment does; they are left out
       --notes           Notes, and the file and the words of a fault, also where
                         standard error is no terminal
   [FILES]...            Trace segments; standard input where no file is given
@@ -80,17 +82,22 @@ Options:
       --top <N>         At most N processes and N objects: 1 to 4294967295
       --exit-code       End with status 1 where the answer finds something
       --until <N>       Only events up to this sequence count: decimal, at most
-                        18446744073709551615, or 'complete' for the one up to
-                        which no segment is missing: 0 if a processor is idle
+                        18446744073709551615, or 'complete' for complete_to,
+                        up to which answers are final: 0 if a processor is idle
       --symbols <FILE>  Names for addresses: CSV of start,end,module,name
       --workers <N>     Use up to N threads: 1 to 8 [default: 1]
       --json            One JSON object a line, for other programs
-      --complete        Refuse segments of which one is missing (C8)
+      --complete        Refuse segments with a gap (C8). Without a gap the last
+                        segments of a processor may still be missing
       --hex             The files hold hexadecimal digits, not bytes
-      --partial         A file may end within a segment, which is left out
+      --partial         Behind its whole segments a file may have bytes that
+                        begin as a segment does; they are left out
       --notes           Notes, and the file and the words of a fault, also where
                         standard error is no terminal
   -h, --help            Print help
+
+With gaps=0 the last segments of a processor may still be missing. Answers are
+final up to complete_to, which --until complete asks for.
 
 Example:
   hleak summary cpu0.hls cpu1.hls
@@ -109,14 +116,16 @@ Options:
       --top <N>         At most N rows: decimal, 1 to 4294967295
       --exit-code       End with status 1 where the answer finds something
       --until <N>       Only events up to this sequence count: decimal, at most
-                        18446744073709551615, or 'complete' for the one up to
-                        which no segment is missing: 0 if a processor is idle
+                        18446744073709551615, or 'complete' for complete_to,
+                        up to which answers are final: 0 if a processor is idle
       --symbols <FILE>  Names for addresses: CSV of start,end,module,name
       --workers <N>     Use up to N threads: 1 to 8 [default: 1]
       --json            One JSON object a line, for other programs
-      --complete        Refuse segments of which one is missing (C8)
+      --complete        Refuse segments with a gap (C8). Without a gap the last
+                        segments of a processor may still be missing
       --hex             The files hold hexadecimal digits, not bytes
-      --partial         A file may end within a segment, which is left out
+      --partial         Behind its whole segments a file may have bytes that
+                        begin as a segment does; they are left out
       --notes           Notes, and the file and the words of a fault, also where
                         standard error is no terminal
   -h, --help            Print help
@@ -142,14 +151,16 @@ Options:
       --top <N>         At most N rows: decimal, 1 to 4294967295
       --exit-code       End with status 1 where the answer finds something
       --until <N>       Only events up to this sequence count: decimal, at most
-                        18446744073709551615, or 'complete' for the one up to
-                        which no segment is missing: 0 if a processor is idle
+                        18446744073709551615, or 'complete' for complete_to,
+                        up to which answers are final: 0 if a processor is idle
       --symbols <FILE>  Names for addresses: CSV of start,end,module,name
       --workers <N>     Use up to N threads: 1 to 8 [default: 1]
       --json            One JSON object a line, for other programs
-      --complete        Refuse segments of which one is missing (C8)
+      --complete        Refuse segments with a gap (C8). Without a gap the last
+                        segments of a processor may still be missing
       --hex             The files hold hexadecimal digits, not bytes
-      --partial         A file may end within a segment, which is left out
+      --partial         Behind its whole segments a file may have bytes that
+                        begin as a segment does; they are left out
       --notes           Notes, and the file and the words of a fault, also where
                         standard error is no terminal
   -h, --help            Print help
@@ -171,14 +182,16 @@ Options:
                         or without 0x
       --exit-code       End with status 1 where the answer finds something
       --until <N>       Only events up to this sequence count: decimal, at most
-                        18446744073709551615, or 'complete' for the one up to
-                        which no segment is missing: 0 if a processor is idle
+                        18446744073709551615, or 'complete' for complete_to,
+                        up to which answers are final: 0 if a processor is idle
       --symbols <FILE>  Names for addresses: CSV of start,end,module,name
       --workers <N>     Use up to N threads: 1 to 8 [default: 1]
       --json            One JSON object a line, for other programs
-      --complete        Refuse segments of which one is missing (C8)
+      --complete        Refuse segments with a gap (C8). Without a gap the last
+                        segments of a processor may still be missing
       --hex             The files hold hexadecimal digits, not bytes
-      --partial         A file may end within a segment, which is left out
+      --partial         Behind its whole segments a file may have bytes that
+                        begin as a segment does; they are left out
       --notes           Notes, and the file and the words of a fault, also where
                         standard error is no terminal
   -h, --help            Print help
@@ -200,14 +213,16 @@ Options:
       --top <N>         At most N rows: decimal, 1 to 4294967295
       --exit-code       End with status 1 where the answer finds something
       --until <N>       Only events up to this sequence count: decimal, at most
-                        18446744073709551615, or 'complete' for the one up to
-                        which no segment is missing: 0 if a processor is idle
+                        18446744073709551615, or 'complete' for complete_to,
+                        up to which answers are final: 0 if a processor is idle
       --symbols <FILE>  Names for addresses: CSV of start,end,module,name
       --workers <N>     Use up to N threads: 1 to 8 [default: 1]
       --json            One JSON object a line, for other programs
-      --complete        Refuse segments of which one is missing (C8)
+      --complete        Refuse segments with a gap (C8). Without a gap the last
+                        segments of a processor may still be missing
       --hex             The files hold hexadecimal digits, not bytes
-      --partial         A file may end within a segment, which is left out
+      --partial         Behind its whole segments a file may have bytes that
+                        begin as a segment does; they are left out
       --notes           Notes, and the file and the words of a fault, also where
                         standard error is no terminal
   -h, --help            Print help
@@ -236,14 +251,16 @@ Options:
       --exit-code       End with status 1 where the answer finds something
       --folded          Folded stacks, for flame graph programs
       --until <N>       Only events up to this sequence count: decimal, at most
-                        18446744073709551615, or 'complete' for the one up to
-                        which no segment is missing: 0 if a processor is idle
+                        18446744073709551615, or 'complete' for complete_to,
+                        up to which answers are final: 0 if a processor is idle
       --symbols <FILE>  Names for addresses: CSV of start,end,module,name
       --workers <N>     Use up to N threads: 1 to 8 [default: 1]
       --json            One JSON object a line, for other programs
-      --complete        Refuse segments of which one is missing (C8)
+      --complete        Refuse segments with a gap (C8). Without a gap the last
+                        segments of a processor may still be missing
       --hex             The files hold hexadecimal digits, not bytes
-      --partial         A file may end within a segment, which is left out
+      --partial         Behind its whole segments a file may have bytes that
+                        begin as a segment does; they are left out
       --notes           Notes, and the file and the words of a fault, also where
                         standard error is no terminal
   -h, --help            Print help
@@ -267,14 +284,16 @@ Options:
                         hexadecimal digits, as 0x4c6b7938
       --top <N>         At most N rows: decimal, 1 to 4294967295
       --until <N>       Only events up to this sequence count: decimal, at most
-                        18446744073709551615, or 'complete' for the one up to
-                        which no segment is missing: 0 if a processor is idle
+                        18446744073709551615, or 'complete' for complete_to,
+                        up to which answers are final: 0 if a processor is idle
       --symbols <FILE>  Names for addresses: CSV of start,end,module,name
       --workers <N>     Use up to N threads: 1 to 8 [default: 1]
       --json            One JSON object a line, for other programs
-      --complete        Refuse segments of which one is missing (C8)
+      --complete        Refuse segments with a gap (C8). Without a gap the last
+                        segments of a processor may still be missing
       --hex             The files hold hexadecimal digits, not bytes
-      --partial         A file may end within a segment, which is left out
+      --partial         Behind its whole segments a file may have bytes that
+                        begin as a segment does; they are left out
       --notes           Notes, and the file and the words of a fault, also where
                         standard error is no terminal
   -h, --help            Print help
@@ -297,14 +316,16 @@ Options:
                         0x, at most 0xffffffff; its low two bits are ignored
       --top <N>         At most N rows: decimal, 1 to 4294967295
       --until <N>       Only events up to this sequence count: decimal, at most
-                        18446744073709551615, or 'complete' for the one up to
-                        which no segment is missing: 0 if a processor is idle
+                        18446744073709551615, or 'complete' for complete_to,
+                        up to which answers are final: 0 if a processor is idle
       --symbols <FILE>  Names for addresses: CSV of start,end,module,name
       --workers <N>     Use up to N threads: 1 to 8 [default: 1]
       --json            One JSON object a line, for other programs
-      --complete        Refuse segments of which one is missing (C8)
+      --complete        Refuse segments with a gap (C8). Without a gap the last
+                        segments of a processor may still be missing
       --hex             The files hold hexadecimal digits, not bytes
-      --partial         A file may end within a segment, which is left out
+      --partial         Behind its whole segments a file may have bytes that
+                        begin as a segment does; they are left out
       --notes           Notes, and the file and the words of a fault, also where
                         standard error is no terminal
   -h, --help            Print help
@@ -325,14 +346,16 @@ Options:
       --process <N>     The process: decimal, at most 4294967295
       --points <N>      At most N moments: decimal, 2 to 1000 [default: 20]
       --until <N>       Only events up to this sequence count: decimal, at most
-                        18446744073709551615, or 'complete' for the one up to
-                        which no segment is missing: 0 if a processor is idle
+                        18446744073709551615, or 'complete' for complete_to,
+                        up to which answers are final: 0 if a processor is idle
       --symbols <FILE>  Names for addresses: CSV of start,end,module,name
       --workers <N>     Use up to N threads: 1 to 8 [default: 1]
       --json            One JSON object a line, for other programs
-      --complete        Refuse segments of which one is missing (C8)
+      --complete        Refuse segments with a gap (C8). Without a gap the last
+                        segments of a processor may still be missing
       --hex             The files hold hexadecimal digits, not bytes
-      --partial         A file may end within a segment, which is left out
+      --partial         Behind its whole segments a file may have bytes that
+                        begin as a segment does; they are left out
       --notes           Notes, and the file and the words of a fault, also where
                         standard error is no terminal
   -h, --help            Print help
@@ -354,9 +377,11 @@ Options:
       --workers <N>     Use up to N threads: 1 to 8 [default: 1]
       --fold            Keep what the events come to, not the events: trace,
                         growth and --until are not answered then
-      --complete        Refuse segments of which one is missing (C8)
+      --complete        Refuse segments with a gap (C8). Without a gap the last
+                        segments of a processor may still be missing
       --hex             The files hold hexadecimal digits, not bytes
-      --partial         A file may end within a segment, which is left out
+      --partial         Behind its whole segments a file may have bytes that
+                        begin as a segment does; they are left out
       --notes           Notes, and the file and the words of a fault, also where
                         standard error is no terminal
   -h, --help            Print help
@@ -364,8 +389,9 @@ Options:
 Each line of standard input is a question with its options, as
 'leaks --process 4 --top 5'. An argument with blanks stands in double quotes.
 The answer is written with an empty line after it. 'read FILE ..' reads more
-segments, and replies how many. A line that is neither gets the empty line
-alone, and status 2 at the end. 'quit' ends.
+segments, and replies how many; answers are final up to its complete_to. A line
+that is neither gets the empty line alone, and status 2 at the end. One without
+an argument (blanks, \"\") gets no reply. 'quit' ends.
 
 Example:
   hleak ask --symbols names.csv cpu0.hls cpu1.hls
@@ -377,7 +403,7 @@ What a fault means, and what to do
 Usage: hleak explain [OPTIONS] <CODE>
 
 Arguments:
-  <CODE>  The code of a fault, as S10, or with its numbers, as 'C8(0, 2)'
+  <CODE>  The code of a fault, as S10 or 'C8(0, 2)', or its whole line
 
 Options:
       --notes  Notes, and the file and the words of a fault, also where
@@ -398,7 +424,8 @@ Arguments:
 
 Options:
       --hex      The files hold hexadecimal digits, not bytes
-      --partial  A file may end within a segment, which is left out
+      --partial  Behind its whole segments a file may have bytes that
+                 begin as a segment does; they are left out
       --notes    Notes, and the file and the words of a fault, also where
                  standard error is no terminal
   -h, --help     Print help
@@ -449,14 +476,18 @@ Options:
   -h, --help     Print help
   -V, --version  Print version
 
+Other lines:
+  read FILE ..  Read more segments; a name that begins with '-' follows '--'
+  quit          End the dialogue, as exit and q do
+
 Options of every question:
       --until <N>  Only events up to this sequence count: decimal, at most
-                   18446744073709551615, or 'complete' for the one up to
-                   which no segment is missing: 0 if a processor is idle
+                   18446744073709551615, or 'complete' for complete_to,
+                   up to which answers are final: 0 if a processor is idle
       --json       One JSON object a line, for other programs
 
-'COMMAND --help' lists the options of a question. 'read FILE ..' reads more
-segments. An argument with blanks stands in double quotes. 'quit' ends.
+'COMMAND --help' lists the options of a question. An argument with blanks stands
+in double quotes.
 
 With --fold no line asks for 'trace', 'growth' or '--until'.
 ";
@@ -478,15 +509,15 @@ Options:
       --top <N>       At most N rows: decimal, 1 to 4294967295
       --folded        Folded stacks, for flame graph programs
       --until <N>     Only events up to this sequence count: decimal, at most
-                      18446744073709551615, or 'complete' for the one up to
-                      which no segment is missing: 0 if a processor is idle
+                      18446744073709551615, or 'complete' for complete_to,
+                      up to which answers are final: 0 if a processor is idle
       --json          One JSON object a line, for other programs
   -h, --help          Print help
 ";
 
 const CODE: &str = "\
 error: invalid value 'S18' for '<CODE>'
-  [expected: S1 to S17, H1 to H3, C1 to C9, Y1 to Y7, E1 or E2]
+  [expected: S1 to S17, H1 to H3, C1 to C10, Y1 to Y7, E1 or E2]
 
 For more information, try 'hleak explain --help'.
 ";
@@ -542,13 +573,43 @@ Usage: <COMMAND> [OPTIONS]
 For more information, try '--help'.
 ";
 
+const DIALOGUE_SHORT: &str = "\
+error: unrecognized subcommand 'sum'
+
+  tip: a question is written in full: 'summary'
+
+Usage: <COMMAND> [OPTIONS]
+
+For more information, try '--help'.
+";
+
+const DIALOGUE_WORD: &str = "\
+error: unrecognized subcommand 'quti'
+
+  tip: a line is a question, 'read FILE ..' or 'quit': 'help' lists questions
+
+Usage: <COMMAND> [OPTIONS]
+
+For more information, try '--help'.
+";
+
+const DIALOGUE_FILE: &str = "\
+error: unrecognized subcommand 'a.hls'
+
+  tip: did you mean 'read a.hls'?
+
+Usage: <COMMAND> [OPTIONS]
+
+For more information, try '--help'.
+";
+
 const DIALOGUE_NOTES: &str = "\
 error: a line is a question with its own options
 
   tip: files, --symbols, --workers, --fold, --complete, --hex, --partial and
   --notes stand after 'hleak ask'; --exit-code is for a run of its own
 
-For more information, try 'hleak ask --help'.
+For more information, try 'help'.
 ";
 
 const DIALOGUE_OTHER: &str = "\
@@ -556,7 +617,7 @@ error: a line is a question, 'read FILE ..' or 'quit'
 
   tip: ask, explain, dump and encode are commands of their own
 
-For more information, try 'hleak ask --help'.
+For more information, try 'help'.
 ";
 
 const HEXADECIMAL: &str = "\
@@ -575,6 +636,55 @@ error: invalid value 'ffffa000`00001000' for '--object <HEX>'
   tip: write ffffa00000001000
 
 For more information, try 'hleak tags --help'.
+";
+
+const CAPITAL: &str = "\
+error: invalid value '0X44' for '--handle <HEX>'
+  [expected: 1 to 16 hexadecimal digits, with or without 0x, at most 0xffffffff]
+
+  tip: write 0x44
+
+For more information, try 'hleak trace --help'.
+";
+
+const NO_COMMAND: &str = "\
+error: unrecognized subcommand 'a.hls'
+
+  tip: did you mean 'hleak summary a.hls'?
+
+Usage: hleak <COMMAND>
+
+For more information, try '--help'.
+";
+
+const OPTION_FIRST: &str = "\
+error: unexpected argument '--hex' found
+
+  tip: options stand behind a command, as in 'leaks --process 4'
+
+Usage: hleak --help <COMMAND>
+
+For more information, try '--help'.
+";
+
+const VERSION_BEHIND: &str = "\
+error: unexpected argument '-V' found
+
+  tip: --version stands alone, without a command
+
+Usage: hleak summary [OPTIONS] [FILES]...
+
+For more information, try '--help'.
+";
+
+const NO_QUOTES: &str = "\
+error: unexpected argument 'case:' found
+
+  tip: a line with blanks stands in quotes
+
+Usage: hleak explain [OPTIONS] <CODE>
+
+For more information, try '--help'.
 ";
 
 const MISSPELT_COMMAND: &str = "\
@@ -627,6 +737,8 @@ For more information, try '--help'.
 const OTHER_OPTION: &str = "\
 error: unexpected argument '--since' found
 
+  tip: --since is an option of diff, leaks
+
 Usage: hleak bad --process <N> [FILES]...
 
 For more information, try '--help'.
@@ -646,6 +758,8 @@ For more information, try '--help'.
 const FOLDED_DIALOGUE: &str = "\
 error: unexpected argument '--folded' found
 
+  tip: --folded is an option of leaks
+
 Usage: hleak ask --fold <FILES>...
 
 For more information, try '--help'.
@@ -653,6 +767,8 @@ For more information, try '--help'.
 
 const FOLDING_QUESTION: &str = "\
 error: unexpected argument '--fold' found
+
+  tip: --fold is an option of ask
 
 Usage: hleak leaks --process <N> --folded [FILES]...
 
@@ -672,6 +788,8 @@ For more information, try '--help'.
 
 const DIALOGUE_FOLD: &str = "\
 error: unexpected argument '--fold' found
+
+  tip: --fold is an option of ask
 
 Usage: leaks --process <N> --folded
 
@@ -719,6 +837,11 @@ const USAGE: &[(&str, &str)] = &[
     ("ask|--folded|a.hls", FOLDED_DIALOGUE),
     ("leaks|--process|4|--fold", FOLDING_QUESTION),
     ("ask|--fol|a.hls", MISSPELT_FOLD),
+    ("trace|--process|4|--handle|0X44", CAPITAL),
+    ("a.hls", NO_COMMAND),
+    ("--hex|a.hls", OPTION_FIRST),
+    ("summary|-V", VERSION_BEHIND),
+    ("explain|hleak:|case:|C1", NO_QUOTES),
 ];
 
 /// Lines of a dialogue that ask for help, and what they are answered.
@@ -737,6 +860,10 @@ const DIALOGUE_USAGE: &[(&str, &str)] = &[
     ("leak|--process|4", DIALOGUE_COMMAND),
     ("leaks|--process|4|--notes", DIALOGUE_NOTES),
     ("explain|S10", DIALOGUE_OTHER),
+    ("ask", DIALOGUE_OTHER),
+    ("sum", DIALOGUE_SHORT),
+    ("quti", DIALOGUE_WORD),
+    ("a.hls", DIALOGUE_FILE),
     ("leaks|--process|4|--fold", DIALOGUE_FOLD),
 ];
 

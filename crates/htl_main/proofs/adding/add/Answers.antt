@@ -3,7 +3,8 @@ use Rattle.std.proofs.Common.{◌≡◌, ◌∙◌, ◌++◌, ◌∷◌, [], ap,
 use Rattle.std.proofs.lemmas.Grind.{common_steps}
 use Rattle.std.proofs.lemmas.List.{length-map}
 use Rattle.std.proofs.lemmas.Result.{err_from_is_err_and}
-use Rattle.htl_main.proofs.AddingLaws.{added_cause, as_many, no_fewer, no_write_after, none_stops, reads_after, stops_cause}
+use Rattle.htl_main.specs.CutInputs.{decoding}
+use Rattle.htl_main.proofs.AddingLaws.{added_cause, as_many, may_be_partial, no_fewer, no_write_after, none_stops, reads_after, stops_cause}
 use Rattle.htl_main.proofs.ReadingLaws.{unread}
 use Rattle.htl_main.proofs.adding.add.Goals as goal
 
@@ -37,9 +38,11 @@ returns-in_err-whole-clause-err g c =
     let decodes = c.in_ok-decoded.ensures.ok texts all in
     rw (p.1, p.2) (λ earlier job decoded as_of. (
       added_cause setting texts earlier lefts ends job c.in_ok-decoded.decoded.segments.items c.args.loaded.now.case.segments
-          c.in_err-whole.field-0.0.fault c.in_ok-check_workers.ensures.ok decodes decoded c.in_err-whole.ensures.before.some
+          c.in_ok-decoded.decoded.cuts.items c.in_err-whole.field-0.0.fault c.in_ok-check_workers.ensures.ok decodes
+          (c.in_ok-decoded.ensures.cuts texts all) decoded c.in_err-whole.ensures.before.some
           (length-map new g.R.Source.remaining ∙ sym long) (length-map new g.R.Source.has_ended ∙ sym long) as_of c.in_err-whole.ensures.err,
-      c.in_err-whole.ensures.between setting.form texts earlier long decodes (c.in_ok-decoded.ensures.spans texts all) decoded,
+      c.in_err-whole.ensures.between setting.form texts earlier long decodes (c.in_ok-decoded.ensures.spans texts all)
+          (may_be_partial setting.form earlier c.args.loaded.now.case.segments decoded),
     ))
 
 pub returns-in_err-whole-clause-reading : goal.returns-in_err-whole-clause-reading
@@ -47,13 +50,15 @@ returns-in_err-whole-clause-reading g c =
     let p = err_from_is_err_and c.from_residual-in_err-whole.result c.from_residual-in_err-whole.ensures.1 in
     rw (p.1, p.2) (reads_after c.args.setting.form.hex
     g.R.Source.has_failed g.R.Source.has_ended g.R.Source.good_reads g.R.Source.remaining c.args.inputs.now c.read_all.new.sources
-    c.in_ok-decoded.decoded (c.in_ok-decoded.decoded.segments.items ++ c.args.loaded.now.case.segments) c.args.setting
+    c.in_ok-decoded.decoded (decoding (c.in_ok-decoded.decoded.segments.items ++ c.args.loaded.now.case.segments)
+    c.in_ok-decoded.decoded.cuts.items) c.args.setting
     c.in_err-whole.field-0.0.fault c.in_ok-decoded.ensures.reading c.in_err-whole.ensures.err)
 
 pub returns-in_err-whole-clause-no_write : goal.returns-in_err-whole-clause-no_write
 returns-in_err-whole-clause-no_write g c =
     let p = err_from_is_err_and c.from_residual-in_err-whole.result c.from_residual-in_err-whole.ensures.1 in
-    rw (p.1, p.2) (no_write_after (c.in_ok-decoded.decoded.segments.items ++ c.args.loaded.now.case.segments) c.args.setting
+    rw (p.1, p.2) (no_write_after (decoding (c.in_ok-decoded.decoded.segments.items ++ c.args.loaded.now.case.segments)
+    c.in_ok-decoded.decoded.cuts.items) c.args.setting
     c.in_err-whole.field-0.0.fault c.in_err-whole.ensures.err)
 
 pub overflow_sub-new : goal.overflow_sub-new
@@ -71,9 +76,11 @@ returns-clause-ok g c = λ texts all.
       segments = c.in_ok-decoded.decoded.segments.items;
       decoded = c.in_ok-decoded.ensures.ok texts all;
       case = whole.case;
+      cuts = c.in_ok-decoded.decoded.cuts.items;
+      cut_ends = c.in_ok-decoded.ensures.cuts texts all;
       whole = whole.whole;
       counted = grind (arith, common_steps);
       new = omega (arith, fewer, ap length c.segments-2.ensures.value, ap length c.segments.ensures.value);
       coverage = c.in_ok-whole.ensures.coverage;
-      cut = c.in_ok-decoded.ensures.cut texts all;
+      cut = c.in_ok-whole.ensures.cut c.args.setting.form.hex texts (c.in_ok-decoded.ensures.cuts texts all);
     }

@@ -42,7 +42,7 @@ returns-in_err-added-clause-err g c =
     λ before texts was all. rw (p.1, p.2.0) (not_added c.args.setting before texts
     (map g.R.Source.remaining c.take_all-taken.new.inputs) (map g.R.Source.has_ended c.take_all-taken.new.inputs)
     c.in_ok-check_workers.ensures.ok c.args.folded.now.analyst c.take_all-taken.new.folded.analyst
-    c.in_ok-taken.taken.segments c.in_ok-taken.taken.cut
+    c.in_ok-taken.taken.segments c.in_ok-taken.taken.cuts.items
     (rw (c.in_ok-far.was, c.in_ok-taken.was) at c.take_all-taken.ensures.ok before texts was all)
     c.in_err-added.field-0.0 c.in_err-added.ensures.err)
 
@@ -51,14 +51,14 @@ returns-in_err-added-clause-reading g c =
     let p = err_from_is_err_and c.from_residual-in_err-added.result c.from_residual-in_err-added.ensures.1 in
     rw (p.1, p.2.0) (inl (read_to_gap c.args.setting.form.hex g.R.Source.has_failed g.R.Source.has_ended g.R.Source.good_reads g.R.Source.remaining
     c.args.inputs.now c.take_all-taken.new.inputs c.in_ok-taken.taken (rw c.in_ok-taken.was at c.take_all-taken.ensures.reading)
-    c.args.setting.complete c.take_all-taken.new.folded.analyst c.in_err-added.field-0.0 c.in_err-added.ensures.err))
+    c.args.setting.complete c.in_ok-taken.taken.cuts.items c.take_all-taken.new.folded.analyst c.in_err-added.field-0.0 c.in_err-added.ensures.err))
 
 pub returns-clause-ok : goal.returns-clause-ok
 returns-clause-ok g c =
     λ before texts was all. is_folded c.args.setting before texts
     (map g.R.Source.remaining c.take_all-taken.new.inputs) (map g.R.Source.has_ended c.take_all-taken.new.inputs)
     c.in_ok-check_workers.ensures.ok c.args.folded.now.analyst c.take_all-taken.new.folded.analyst
-    c.in_ok-taken.taken.segments c.in_ok-taken.taken.cut
+    c.in_ok-taken.taken.segments c.in_ok-taken.taken.cuts.items
     (rw (c.in_ok-far.was, c.in_ok-taken.was) at c.take_all-taken.ensures.ok before texts was all)
     c.in_ok-added.added was (rw c.number-before.ensures at c.in_ok-added.ensures.ok)
 

@@ -45,7 +45,7 @@ returns-in_err-added-clause-err g c =
     (AreFolded c.take_all-taken.new.folded.analyst) c.in_err-added.field-0.0 (not_added c.args.setting [] texts
     (map g.R.Source.remaining c.take_all-taken.new.inputs) (map g.R.Source.has_ended c.take_all-taken.new.inputs)
     c.in_ok-check_workers.ensures.ok None c.take_all-taken.new.folded.analyst
-    c.in_ok-taken.taken.segments c.in_ok-taken.taken.cut
+    c.in_ok-taken.taken.segments c.in_ok-taken.taken.cuts.items
     (rw (c.in_ok-far.was, c.in_ok-taken.was) at c.take_all-taken.ensures.ok [] texts nothing_folded all)
     c.in_err-added.field-0.0 c.in_err-added.ensures.err))
 
@@ -54,7 +54,7 @@ returns-in_err-added-clause-reading g c =
     let p = err_from_is_err_and c.from_residual-in_err-added.result c.from_residual-in_err-added.ensures.1 in
     rw (p.1, p.2.0) (read_to_gap c.args.setting.form.hex g.R.Source.has_failed g.R.Source.has_ended g.R.Source.good_reads g.R.Source.remaining
     c.args.inputs.now c.take_all-taken.new.inputs c.in_ok-taken.taken (rw c.in_ok-taken.was at c.take_all-taken.ensures.reading)
-    c.args.setting.complete c.take_all-taken.new.folded.analyst c.in_err-added.field-0.0 c.in_err-added.ensures.err)
+    c.args.setting.complete c.in_ok-taken.taken.cuts.items c.take_all-taken.new.folded.analyst c.in_err-added.field-0.0 c.in_err-added.ensures.err)
 
 pub returns-in_err-folded-clause-err : goal.returns-in_err-folded-clause-err
 returns-in_err-folded-clause-err g c =
@@ -64,7 +64,7 @@ returns-in_err-folded-clause-err g c =
     (AreFolded c.take_all-taken.new.folded.analyst) c.in_ok-added.added c.in_err-folded.field-0.0 (is_folded c.args.setting [] texts
     (map g.R.Source.remaining c.take_all-taken.new.inputs) (map g.R.Source.has_ended c.take_all-taken.new.inputs)
     c.in_ok-check_workers.ensures.ok None c.take_all-taken.new.folded.analyst
-    c.in_ok-taken.taken.segments c.in_ok-taken.taken.cut
+    c.in_ok-taken.taken.segments c.in_ok-taken.taken.cuts.items
     (rw (c.in_ok-far.was, c.in_ok-taken.was) at c.take_all-taken.ensures.ok [] texts nothing_folded all)
     c.in_ok-added.added nothing_folded c.in_ok-added.ensures.ok) c.in_err-folded.ensures.err)
 
@@ -80,6 +80,6 @@ returns-clause-ok g c =
     λ texts all. is_folded c.args.setting [] texts
     (map g.R.Source.remaining c.take_all-taken.new.inputs) (map g.R.Source.has_ended c.take_all-taken.new.inputs)
     c.in_ok-check_workers.ensures.ok None c.take_all-taken.new.folded.analyst
-    c.in_ok-taken.taken.segments c.in_ok-taken.taken.cut
+    c.in_ok-taken.taken.segments c.in_ok-taken.taken.cuts.items
     (rw (c.in_ok-far.was, c.in_ok-taken.was) at c.take_all-taken.ensures.ok [] texts nothing_folded all)
     c.in_ok-added.added nothing_folded c.in_ok-added.ensures.ok

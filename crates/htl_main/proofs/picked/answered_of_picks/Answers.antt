@@ -1,7 +1,15 @@
--- The lines, the coverage, the subject and the finding that are answered of picks are those of one answer over the case.
-use Rattle.std.proofs.Common.{◌≡◌, Option, None, Some, IfNone, inr, refl}
+-- The lines, the coverage, and what is told beside them are those of one answer over the case.
+use Rattle.std.proofs.Common.{◌≡◌, ◌∙◌, ℕ, Bool, Option, None, Some, IfNone, inr, refl, ap}
 use Rattle.std.proofs.lemmas.Result.{err_from_is_err_and}
 use Rattle.std.specs.Option.{option_copied}
+use Rattle.htl_main.specs.CutInputs.{decoding}
+use Rattle.std.specs.List.{list_any}
+use Rattle.htl_event.specs.Moments.{counted_events}
+use Rattle.htl_command.specs.declared.question.Job.{Job}
+use Rattle.htl_segment.specs.Traces.{Trace, all_events}
+use Rattle.htl_main.specs.Moments.{IsNamedMoment}
+use Rattle.htl_main.specs.Subjects.{HasAbsence, absence_by, is_about}
+use Rattle.htl_main.specs.declared.completed.Absence.{Absence}
 use Rattle.htl_main.proofs.Missing.{memory_cause, missing_cause, symbols_cause}
 use Rattle.htl_main.proofs.PickedAnswers.{picked_as_of}
 use Rattle.htl_main.proofs.picked.answered_of_picks.Goals as goal
@@ -10,10 +18,17 @@ none_left : {X P : Type 0} (found : Option X) → IfNone found P → ((x : X) �
 none_left None of_none other = of_none
 none_left (Some x) of_none other = absurd (other x refl)
 
+-- why nothing can be found is told by whether an event that counts is of the subject
+absence_of : (T : Trace) (job : Job) (until : Option ℕ) (found : Bool) (absence : Option Absence) → IsNamedMoment T job.until until
+    → found ≡ list_any (is_about job.question) (counted_events until (all_events T.segments))
+    → absence ≡ absence_by found job.question until (all_events T.segments) → HasAbsence T job absence
+absence_of T job until found absence named is by =
+    (until, named, by ∙ ap (λ (b : Bool). absence_by b job.question until (all_events T.segments)) is)
+
 pub returns-in_err-missed-clause-err : goal.returns-in_err-missed-clause-err
 returns-in_err-missed-clause-err g c =
     let p = err_from_is_err_and c.from_residual.result c.from_residual.ensures.1 in
-    rw (p.1, p.2) (λ segments is. memory_cause segments (option_copied c.args.symbols) c.args.job.now is.trace is.case_of)
+    rw (p.1, p.2) (λ segments is. memory_cause (decoding segments c.args.cuts.now) (option_copied c.args.symbols) c.args.job.now is.trace is.case_of)
 
 pub returns-in_err-check_gaps-clause-err : goal.returns-in_err-check_gaps-clause-err
 returns-in_err-check_gaps-clause-err g c =
@@ -22,7 +37,7 @@ returns-in_err-check_gaps-clause-err g c =
     rw (p.1, p.2) (λ segments is.
     let missed = c.in_ok-missed.ensures c.args.interest segments is in
     let gap = missing.1 is.trace missed in
-    missing_cause segments (option_copied c.args.symbols) c.args.job.now is.trace c.in_err-check_gaps.field-0.0 is.case_of missing.0
+    missing_cause (decoding segments c.args.cuts.now) (option_copied c.args.symbols) c.args.job.now is.trace c.in_err-check_gaps.field-0.0 is.case_of missing.0
     gap.0 gap.1)
 
 pub returns-in_err-symbols-clause-err : goal.returns-in_err-symbols-clause-err
@@ -30,13 +45,13 @@ returns-in_err-symbols-clause-err g c =
     let p = err_from_is_err_and c.from_residual-in_err-symbols.result c.from_residual-in_err-symbols.ensures.1 in
     rw (p.1, p.2) (λ segments is.
     let missed = c.in_ok-missed.ensures c.args.interest segments is in
-    symbols_cause segments (option_copied c.args.symbols) c.args.job.now is.trace c.in_err-symbols.field-0.0 is.case_of
+    symbols_cause (decoding segments c.args.cuts.now) (option_copied c.args.symbols) c.args.job.now is.trace c.in_err-symbols.field-0.0 is.case_of
     (λ complete. c.in_ok-check_gaps.ensures.ok complete is.trace missed) c.in_err-symbols.ensures.err)
 
-pub returns-in_err-check_subject-clause-err : goal.returns-in_err-check_subject-clause-err
-returns-in_err-check_subject-clause-err g c =
-    let p = err_from_is_err_and c.from_residual-in_err-check_subject.result c.from_residual-in_err-check_subject.ensures.1 in
-    let refused = c.in_err-check_subject.ensures.err in
+pub returns-in_err-check_absence-clause-err : goal.returns-in_err-check_absence-clause-err
+returns-in_err-check_absence-clause-err g c =
+    let p = err_from_is_err_and c.from_residual-in_err-check_absence.result c.from_residual-in_err-check_absence.ensures.1 in
+    let refused = c.in_err-check_absence.ensures.err in
     rw (p.1, p.2, refused.0) (λ segments is.
     let missed = c.in_ok-missed.ensures c.args.interest segments is in
     let named = c.moment-until.ensures is.trace (c.coverage-coverage.ensures is.trace missed) in
@@ -46,13 +61,16 @@ returns-in_err-check_subject-clause-err g c =
       (is.case_of, λ complete. c.in_ok-check_gaps.ensures.ok complete is.trace missed),
       c.in_ok-symbols.symbols,
       c.in_ok-symbols.ensures.ok,
-      rw (← refused.2) (c.in-Some.ensures.some c.moment-until.result segments kept named),
+      refused.2.0,
+      rw (← refused.2.1) (absence_of is.trace c.args.job.now c.moment-until.result c.in-Some.has_subject c.absence_by-absence.result named
+          (c.in-Some.ensures.some c.moment-until.result segments kept named)
+          (c.absence_by-absence.ensures (all_events is.trace.segments) (c.span.ensures is.trace is.case_of.is_case.trace kept.picked.outlines))),
     ))
 
 pub returns-in_err-answer-clause-err : goal.returns-in_err-answer-clause-err
 returns-in_err-answer-clause-err g c =
     let p = err_from_is_err_and c.from_residual-in_err-answer.result c.from_residual-in_err-answer.ensures.1 in
-    rw (p.1, p.2) (λ segments is. memory_cause segments (option_copied c.args.symbols) c.args.job.now is.trace is.case_of)
+    rw (p.1, p.2) (λ segments is. memory_cause (decoding segments c.args.cuts.now) (option_copied c.args.symbols) c.args.job.now is.trace is.case_of)
 
 pub returns-in_err-lines-clause-err : goal.returns-in_err-lines-clause-err
 returns-in_err-lines-clause-err g c =
@@ -74,7 +92,9 @@ returns-clause-ok g c = λ segments is.
       taken = (is.case_of, λ complete. c.in_ok-check_gaps.ensures.ok complete T missed);
       table = c.in_ok-symbols.symbols;
       named = c.in_ok-symbols.ensures.ok;
-      about = λ coded. rw (← c.in_ok-check_subject.ensures.ok coded) (c.in-Some.ensures.some until segments kept named);
+      about = λ coded. rw (← c.in_ok-check_absence.ensures.ok coded) (absence_of T c.args.job.now until c.in-Some.has_subject
+          c.absence_by-absence.result named (c.in-Some.ensures.some until segments kept named)
+          (c.absence_by-absence.ensures (all_events T.segments) (c.span.ensures T is.case_of.is_case.trace kept.picked.outlines)));
       is = (
         until,
         named,
@@ -93,17 +113,25 @@ returns-clause-reports g c = λ segments is.
     let kept = picked_as_of segments T is.case_of (c.keep_until.ensures.until c.args.interest T is.picked) in
     record {
       coverage = (T, is.case_of, c.coverage-coverage.ensures T missed);
-      cut_are = refl;
-      subject = (T, is.case_of, c.in-Some.ensures.some until segments kept named);
-      finding = (
+      cut_are = c.cut_inputs.ensures;
+      absence = (
         T,
         is.case_of,
+        absence_of T c.args.job.now until c.in-Some.has_subject c.absence_by-absence.result named
+            (c.in-Some.ensures.some until segments kept named)
+            (c.absence_by-absence.ensures (all_events T.segments) (c.span.ensures T is.case_of.is_case.trace kept.picked.outlines)),
+      );
+      remarks = (
+        T,
+        is.case_of,
+        c.in_ok-symbols.symbols,
+        c.in_ok-symbols.ensures.ok,
         (
           until,
           named,
           c.in_ok-answer.answer,
           c.in_ok-answer.ensures c.args.interest segments c.requires kept missed,
-          c.has_finding.ensures,
+          c.remarks_on.ensures,
         ),
       );
     }

@@ -8,26 +8,26 @@ returns-clause-ok g c = λ segments are.
     let for = picked_for c.args.interest c.args.all.picks segments _ c.in-Some.ensures.some are in
     record {
       lines = c.in-Some-answered.lines.items;
-      are = (rw (c.in-Some-answered.is) at c.in_ok-answered.ensures.ok) segments for;
-      written = rw (← c.deref.ensures.value) (c.in_ok-write_lines.ensures.ok);
+      are = rw (← c.deref.ensures.value) ((rw (c.in-Some-answered.is) at c.in_ok-answered.ensures.ok) segments for);
+      written = rw (← c.deref-2.ensures.value) (c.in_ok-write_lines.ensures.ok);
     }
 
 pub returns-clause-reports : goal.returns-clause-reports
 returns-clause-reports g c = λ segments are.
     let for = picked_for c.args.interest c.args.all.picks segments _ c.in-Some.ensures.some are in
-    (rw (c.in-Some-answered.is) at c.in_ok-answered.ensures.reports) segments for
+    rw (← c.deref.ensures.value) ((rw (c.in-Some-answered.is) at c.in_ok-answered.ensures.reports) segments for)
 
 pub returns-in_err-write_lines-clause-write : goal.returns-in_err-write_lines-clause-write
 returns-in_err-write_lines-clause-write g c = λ segments are told.
     let for = picked_for c.args.interest c.args.all.picks segments _ c.in-Some.ensures.some are in
     record {
       lines = c.in-Some-answered.lines.items;
-      are = (rw (c.in-Some-answered.is) at c.in_ok-answered.ensures.ok) segments for;
-      written = let reported = c.in_err-write_lines.ensures.err in rw (← c.deref.ensures.value) (reported.2);
+      are = rw (← c.deref.ensures.value) ((rw (c.in-Some-answered.is) at c.in_ok-answered.ensures.ok) segments for);
+      written = let reported = c.in_err-write_lines.ensures.err in rw (← c.deref-2.ensures.value) (reported.2);
     }
 
 pub returns-in_err-answered-clause-cause : goal.returns-in_err-answered-clause-cause
 returns-in_err-answered-clause-cause g c = λ segments are.
     let p = err_from_is_err_and c.from_residual.result c.from_residual.ensures.1 in
     let for = picked_for c.args.interest c.args.all.picks segments _ c.in-Some.ensures.some are in
-    rw (p.1, p.2) (λ told. c.in_err-answered.ensures.err segments for)
+    rw (p.1, p.2, ← c.deref.ensures.value) (λ told. c.in_err-answered.ensures.err segments for)

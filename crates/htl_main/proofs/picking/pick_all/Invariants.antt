@@ -1,7 +1,6 @@
 -- The sources so far were read to their ends, and what is asked about of them was picked.
 use Rattle.std.proofs.Common.{◌≡◌, ℕ, List, Some, map, take, false}
-use Rattle.htl_main.specs.CutInputs.{AreCut}
-use Rattle.htl_main.specs.Ends.{OthersFit}
+use Rattle.htl_main.specs.CutInputs.{AreCutEnds}
 use Rattle.htl_main.specs.Picking.{ArePicksOfAll}
 use Rattle.htl_main.proofs.ReadingLaws.{ReadBefore}
 use Rattle.htl_main.proofs.picking.pick_all.Given as goal
@@ -12,7 +11,6 @@ invariant-loop-place g l = record {
       l.initial.sources l.sources l.place;
   picked : (texts : List (List ℕ)) → map g.R.Source.remaining l.initial.sources ≡ map Some texts
       → ArePicksOfAll l.fn.form l.fn.interest (take l.place texts) l.picks;
-  cut : (texts : List (List ℕ)) → map g.R.Source.remaining l.initial.sources ≡ map Some texts
-      → AreCut l.fn.form.hex (take l.place texts) l.cut;
-  few : OthersFit l.cut l.place;
+  cuts : (texts : List (List ℕ)) → map g.R.Source.remaining l.initial.sources ≡ map Some texts
+      → AreCutEnds l.fn.form.hex (take l.place texts) l.cuts.items;
 }

@@ -1,7 +1,7 @@
--- Where a gap is below the moment, the first key that is missing is reported.
+-- Where the case isn't complete up to the moment, what is missing is reported.
 use Rattle.std.proofs.Common.{◌≡◌, rules, true}
 use Rattle.htl_main.specs.Moments.{is_above}
-use Rattle.htl_main.proofs.MomentLaws.{still_missing}
+use Rattle.htl_main.proofs.MomentLaws.{complete_until, ends_answer, still_missing}
 use Rattle.htl_main.proofs.printing.check_gaps.Goals as goal
 
 pub returns-in-Some-clause-err : goal.returns-in-Some-clause-err
@@ -11,7 +11,13 @@ returns-in-Some-clause-err c =
     let above : is_above c.args.until missed.complete_to ≡ true = search (rules, c.if-not-is_above.false, c.is_above.ensures) in (
       complete,
       λ T is. (
-        still_missing T missed c.args.until c.in-Some.processor c.in-Some.number is above (c.in-Some.ensures.some T is),
+        still_missing T missed c.args.cuts.now c.args.until c.in-Some.fault is above (c.in-Some.ensures.some T is),
         c.in-Some.ensures.some T is,
       ),
     )
+
+pub returns-in-Some-clause-after : goal.returns-in-Some-clause-after
+returns-in-Some-clause-after c = ends_answer c.in-Some.fault c.in-Some.ensures.names
+
+pub returns-in-None-clause-ok : goal.returns-in-None-clause-ok
+returns-in-None-clause-ok c = λ complete T is. complete_until T c.args.cuts.now c.args.until (c.in-None.ensures.none T is)

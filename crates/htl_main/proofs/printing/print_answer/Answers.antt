@@ -4,7 +4,7 @@ use Rattle.htl_main.proofs.printing.print_answer.Goals as goal
 pub returns-clause-ok : goal.returns-clause-ok
 returns-clause-ok g c = record {
   lines = c.in_ok-text.text.lines.items;
-  about = λ coded. rw (← c.in_ok-check_subject.ensures.ok coded) (c.has_subject-has_subject.ensures c.requires.known);
+  about = λ coded. rw (← c.in_ok-check_absence.ensures.ok coded) (c.absence_of-absence.ensures c.requires.known);
   is = c.in_ok-text.ensures.lines c.requires.known;
   written = rw (← c.deref.ensures.value) (c.in_ok-write_lines.ensures.ok);
 }
@@ -14,7 +14,7 @@ returns-in_err-write_lines-clause-write g c = λ told.
     let reported = c.in_err-write_lines.ensures.err in (
       record {
         lines = c.in_ok-text.text.lines.items;
-        about = λ coded. rw (← c.in_ok-check_subject.ensures.ok coded) (c.has_subject-has_subject.ensures c.requires.known);
+        about = λ coded. rw (← c.in_ok-check_absence.ensures.ok coded) (c.absence_of-absence.ensures c.requires.known);
         is = c.in_ok-text.ensures.lines c.requires.known;
         written = rw (← c.deref.ensures.value) (reported.2);
       },

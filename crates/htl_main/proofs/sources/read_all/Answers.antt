@@ -5,8 +5,8 @@ use Rattle.std.proofs.lemmas.Result.{err_from_is_err_and}
 use Rattle.htl_main.specs.Ends.{IsInput}
 use Rattle.htl_main.specs.Sources.{IsReportedOfSource}
 use Rattle.htl_main.specs.declared.fault.RunFault.TheVariants.{Memory}
-use Rattle.htl_main.proofs.CutLaws.{cut_next, fits_next, none_cut, none_fits}
-use Rattle.htl_main.proofs.InputLaws.{asked_for, decode_next}
+use Rattle.htl_main.proofs.CutLaws.{ends_next, no_ends}
+use Rattle.htl_main.proofs.InputLaws.{asked_of, decode_next}
 use Rattle.htl_main.proofs.ReadingLaws.{all_read, none_before, one_before, read_to, refused_after}
 use Rattle.htl_main.proofs.SourceLaws.{at_known, false_now, knows_now, reported_at}
 use Rattle.htl_main.proofs.sources.read_all.Goals as goal
@@ -17,8 +17,7 @@ loop-place-init g c = record {
       c.args.sources.now c.requires.fresh;
   decoded = λ inputs all. c.new-decoded.ensures.segments;
   spans = λ inputs all. c.new-decoded.ensures.spans c.args.form inputs;
-  cut = λ inputs all. rw (c.new-decoded.ensures.cut) (none_cut c.args.form.hex inputs);
-  few = rw (c.new-decoded.ensures.cut) (none_fits 0);
+  cuts = λ inputs all. rw (c.new-decoded.ensures.cuts) (no_ends c.args.form.hex inputs);
 }
 
 pub loop-place-preserved : goal.loop-place-preserved
@@ -35,24 +34,23 @@ loop-place-preserved g c =
       decoded = λ texts all.
           let knows = knows_now g.R.Source.remaining c.args.sources.now c.loop-place.sources texts place source
           (inv.before.left place (omega arith)) here all in
-          let is = at_known texts place (g.R.Source.remaining source) (λ bytes. IsInput c.args.form bytes more.segments.items more.is_cut)
+          let is = at_known texts place (g.R.Source.remaining source) (λ bytes. IsInput c.args.form bytes more.segments.items more.end)
           knows c.in_ok-more.ensures.ok in
           rw (c.in_ok-add.ensures.segments) (decode_next c.args.form texts place knows.input c.loop-place.decoded.segments.items
           more.segments.items knows.here (inv.decoded texts all) is.decoded);
       spans = λ texts all.
           let knows = knows_now g.R.Source.remaining c.args.sources.now c.loop-place.sources texts place source
           (inv.before.left place (omega arith)) here all in
-          let is = at_known texts place (g.R.Source.remaining source) (λ bytes. IsInput c.args.form bytes more.segments.items more.is_cut)
+          let is = at_known texts place (g.R.Source.remaining source) (λ bytes. IsInput c.args.form bytes more.segments.items more.end)
           knows c.in_ok-more.ensures.ok in
           c.in_ok-add.ensures.spans c.args.form texts knows.input knows.here is.decoded (inv.spans texts all);
-      cut = λ texts all.
+      cuts = λ texts all.
           let knows = knows_now g.R.Source.remaining c.args.sources.now c.loop-place.sources texts place source
           (inv.before.left place (omega arith)) here all in
-          let is = at_known texts place (g.R.Source.remaining source) (λ bytes. IsInput c.args.form bytes more.segments.items more.is_cut)
+          let is = at_known texts place (g.R.Source.remaining source) (λ bytes. IsInput c.args.form bytes more.segments.items more.end)
           knows c.in_ok-more.ensures.ok in
-          rw (c.in_ok-add.ensures.cut) (cut_next c.args.form.hex texts place knows.input more.is_cut c.loop-place.decoded.cut knows.here
-          (inv.cut texts all) is.cut);
-      few = rw (c.in_ok-add.ensures.cut) (fits_next more.is_cut place c.loop-place.decoded.cut inv.few);
+          rw (c.in_ok-add.ensures.cuts) (ends_next c.args.form.hex texts place knows.input more.end c.loop-place.decoded.cuts.items knows.here
+          (inv.cuts texts all) is.ends);
     }
 
 pub returns-in_err-more-clause-err : goal.returns-in_err-more-clause-err
@@ -87,7 +85,6 @@ returns-in_err-add-clause-err g c =
     let within : place < length c.loop-place.sources = omega arith in
     let source = get_or c.loop-place.sources place c.index-sources-place.result in
     let here = slice_get-get_or c.loop-place.sources place c.index-sources-place.result within in
-    let some : 0 < length more.segments.items = c.in_err-add.ensures.full in
     λ texts all.
     let knows = knows_now g.R.Source.remaining c.args.sources.now c.loop-place.sources texts place source
     (inv.before.left place (omega arith)) here all in
@@ -98,8 +95,8 @@ returns-in_err-add-clause-err g c =
       segments = c.loop-place.decoded.segments.items;
       before = inv.decoded texts all;
       reported = reported_at g.R.Source.has_ended g.R.Source.remaining c.loop-place.sources place c.read_input.new.source within c.args.form
-          knows.input Memory (inl (asked_for c.args.form knows.input more.segments.items (at_known texts place (g.R.Source.remaining source)
-          (λ bytes. IsInput c.args.form bytes more.segments.items more.is_cut) knows c.in_ok-more.ensures.ok).decoded some));
+          knows.input Memory (inl (asked_of c.args.form knows.input more.segments.items more.end (at_known texts place (g.R.Source.remaining source)
+          (λ bytes. IsInput c.args.form bytes more.segments.items more.end) knows c.in_ok-more.ensures.ok) c.in_err-add.ensures.full));
     }
 
 pub returns-in_err-more-clause-reading : goal.returns-in_err-more-clause-reading

@@ -1,7 +1,6 @@
 -- The segments are those of the sources so far, which were read to their ends.
 use Rattle.std.proofs.Common.{◌≡◌, ℕ, List, Some, map, take}
-use Rattle.htl_main.specs.CutInputs.{AreCut}
-use Rattle.htl_main.specs.Ends.{OthersFit}
+use Rattle.htl_main.specs.CutInputs.{AreCutEnds}
 use Rattle.htl_main.specs.Inputs.{DecodeAll}
 use Rattle.htl_main.specs.Spans.{AreSpans}
 use Rattle.htl_main.proofs.ReadingLaws.{ReadBefore}
@@ -15,7 +14,6 @@ invariant-loop-place g l = record {
       → DecodeAll l.form (take l.place inputs) l.decoded.segments.items;
   spans : (inputs : List (List ℕ)) → map g.R.Source.remaining l.initial.sources ≡ map Some inputs
       → AreSpans l.form inputs l.decoded.segments.items l.decoded.spans.items;
-  cut : (inputs : List (List ℕ)) → map g.R.Source.remaining l.initial.sources ≡ map Some inputs
-      → AreCut l.form.hex (take l.place inputs) l.decoded.cut;
-  few : OthersFit l.decoded.cut l.place;
+  cuts : (inputs : List (List ℕ)) → map g.R.Source.remaining l.initial.sources ≡ map Some inputs
+      → AreCutEnds l.form.hex (take l.place inputs) l.decoded.cuts.items;
 }

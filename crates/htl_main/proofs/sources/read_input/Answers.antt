@@ -1,7 +1,19 @@
 -- `read_input` reads a source of bytes, and reports its fault, as a run does of one source.
+use Rattle.htl_main.proofs.DigitsLaws.{digits_read, digits_reported}
 use Rattle.htl_main.proofs.EndLaws.{accepted_source, refused_source}
 use Rattle.htl_main.proofs.OneSource.{accepted_read, decoded_ill, reported_bytes_of}
 use Rattle.htl_main.proofs.sources.read_input.Goals as goal
+
+pub returns-in-Err-clause-err : goal.returns-in-Err-clause-err
+returns-in-Err-clause-err g c =
+    rw (c.from_digits.ensures) (digits_reported g.R.Source.has_failed g.R.Source.has_ended g.R.Source.good_reads g.R.Source.remaining
+    c.args.source.now c.read_digits.new.source c.args.form c.args.place (g.R.Source.remaining c.args.source.now) c.in-Err.fault
+    c.if-form.true c.in-Err.ensures)
+
+pub returns-in-Err-clause-reading : goal.returns-in-Err-clause-reading
+returns-in-Err-clause-reading g c =
+    rw (c.from_digits.ensures) (digits_read g.R.Source.has_failed g.R.Source.has_ended g.R.Source.good_reads g.R.Source.remaining
+    c.args.source.now c.read_digits.new.source c.args.form c.args.place c.in-Err.fault c.if-form.true c.in-Err.ensures)
 
 pub returns-in-Ok-read_bundle-clause-ok : goal.returns-in-Ok-read_bundle-clause-ok
 returns-in-Ok-read_bundle-clause-ok g c =

@@ -4,7 +4,7 @@ use Rattle.std.specs.Io.KnownBytes.{Appends}
 use Rattle.htl_device.specs.Devices.{AppendsPrefix}
 use Rattle.std.proofs.lemmas.Result.{err_from_is_err_and}
 use Rattle.std.specs.Option.{option_copied}
-use Rattle.htl_main.proofs.AfterLoading.{over_no_input, over_no_read, prints, runs_coverage, runs_finding, runs_subject}
+use Rattle.htl_main.proofs.AfterLoading.{over_no_input, over_no_read, prints, runs_coverage, runs_remarks, runs_absence}
 use Rattle.htl_main.proofs.AfterLoading.{sources_end}
 use Rattle.htl_main.proofs.ReadingLaws.{ends_too, ill, read_then, well}
 use Rattle.htl_main.proofs.streaming.run_from.Goals as goal
@@ -87,21 +87,21 @@ returns-clause-coverage g c =
     λ texts all. rw (c.in_ok-completed.ensures.coverage) (runs_coverage job.setting texts symbols loaded.case loaded.symbols job
     (c.in_ok-loaded.ensures.ok texts all) loaded.coverage c.in_ok-loaded.ensures.coverage)
 
-pub returns-clause-subject : goal.returns-clause-subject
-returns-clause-subject g c =
+pub returns-clause-absence : goal.returns-clause-absence
+returns-clause-absence g c =
     let job = c.args.job.now in
     let symbols = option_copied c.args.symbols in
     let loaded = c.in_ok-loaded.loaded in
-    λ texts all. runs_subject job.setting texts symbols loaded.case loaded.symbols job (c.in_ok-loaded.ensures.ok texts all)
-    c.in_ok-completed.completed.has_subject c.in_ok-completed.ensures.subject
+    λ texts all. runs_absence job.setting texts symbols loaded.case loaded.symbols job (c.in_ok-loaded.ensures.ok texts all)
+    c.in_ok-completed.completed.absence c.in_ok-completed.ensures.absence
 
-pub returns-clause-finding : goal.returns-clause-finding
-returns-clause-finding g c =
+pub returns-clause-remarks : goal.returns-clause-remarks
+returns-clause-remarks g c =
     let job = c.args.job.now in
     let symbols = option_copied c.args.symbols in
     let loaded = c.in_ok-loaded.loaded in
-    λ texts all. runs_finding job.setting texts symbols loaded.case loaded.symbols job (c.in_ok-loaded.ensures.ok texts all)
-    c.in_ok-completed.completed.has_finding c.in_ok-completed.ensures.finding
+    λ texts all. runs_remarks job.setting texts symbols loaded.case loaded.symbols job (c.in_ok-loaded.ensures.ok texts all)
+    c.in_ok-completed.completed.remarks c.in_ok-completed.ensures.remarks
 
 pub returns-clause-reading : goal.returns-clause-reading
 returns-clause-reading g c =

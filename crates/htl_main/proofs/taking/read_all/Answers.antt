@@ -1,13 +1,14 @@
 -- `read_all` reads its sources one after another, and the folder takes their segments, or the first that is refused is reported.
-use Rattle.std.proofs.Common.{◌<◌, ◌++◌, [], length, get_or, arith, refl}
+use Rattle.std.proofs.Common.{◌<◌, ◌++◌, [], length, get_or, arith, refl, inl}
 use Rattle.std.proofs.lemmas.Option.{slice_get-get_or}
 use Rattle.std.proofs.lemmas.Result.{err_from_is_err_and}
 use Rattle.htl_main.specs.Sources.{IsReportedOfSource}
-use Rattle.htl_main.proofs.CutLaws.{cut_next, fits_next, none_cut, none_fits}
+use Rattle.htl_main.specs.declared.fault.RunFault.TheVariants.{Memory}
+use Rattle.htl_main.proofs.CutLaws.{ends_next, no_ends}
 use Rattle.htl_main.specs.Folders.{folds_of}
 use Rattle.htl_main.proofs.FoldInputs.{TookInput, TookOwn, given_before, took_both, took_none}
 use Rattle.htl_main.proofs.InputLaws.{decode_next}
-use Rattle.htl_main.proofs.ReadingLaws.{all_read, none_before, one_before, read_to}
+use Rattle.htl_main.proofs.ReadingLaws.{all_read, none_before, one_before, read_to, refused_after}
 use Rattle.htl_main.proofs.SourceLaws.{at_known, knows_now, reported_at, value_there}
 use Rattle.htl_main.proofs.taking.read_all.Goals as goal
 
@@ -16,14 +17,13 @@ loop-place-init g c = record {
   before = none_before c.args.setting.form.hex g.R.Source.has_failed g.R.Source.has_ended g.R.Source.good_reads g.R.Source.remaining
       c.args.sources.now c.requires.fresh;
   took = λ inputs all. ([], refl, took_none folds_of c.args.folder.now);
-  cut = λ inputs all. none_cut c.args.setting.form.hex inputs;
-  few = none_fits 0;
+  cuts = λ inputs all. rw (c.new-cuts.ensures.items) (no_ends c.args.setting.form.hex inputs);
 }
 
 pub loop-place-preserved : goal.loop-place-preserved
 loop-place-preserved g c =
     let inv = c.loop-place.invariant in
-    let is_cut = c.in_ok-is_cut.is_cut in
+    let end = c.in_ok-end.end in
     let place = c.loop-place.place in
     let within : place < length c.loop-place.sources = omega arith in
     let source = get_or c.loop-place.sources place c.index-sources-place.result in
@@ -31,29 +31,28 @@ loop-place-preserved g c =
     record {
       before = one_before c.args.setting.form.hex g.R.Source.has_failed g.R.Source.has_ended g.R.Source.good_reads g.R.Source.remaining
           c.args.sources.now c.loop-place.sources place source c.read_input.new.source inv.before within here _
-          c.in_ok-is_cut.ensures.reading;
+          c.in_ok-end.ensures.reading;
       took = λ texts all.
           let knows = knows_now g.R.Source.remaining c.args.sources.now c.loop-place.sources texts place source
           (inv.before.left place (omega arith)) here all in
           let own = at_known texts place (g.R.Source.remaining source)
-          (λ text. TookInput folds_of c.loop-place.folder c.read_input.new.folder c.args.setting.form text is_cut) knows c.in_ok-is_cut.ensures.ok in
+          (λ text. TookInput folds_of c.loop-place.folder c.read_input.new.folder c.args.setting.form text end) knows c.in_ok-end.ensures.ok in
           let earlier = inv.took texts all in (
             earlier.0 ++ own.0,
             decode_next c.args.setting.form texts place knows.input earlier.0 own.0 knows.here earlier.1 own.1.decoded,
             took_both folds_of c.args.folder.now c.loop-place.folder c.read_input.new.folder earlier.0 own.0 earlier.2 own.2,
           );
-      cut = λ texts all.
+      cuts = λ texts all.
           let knows = knows_now g.R.Source.remaining c.args.sources.now c.loop-place.sources texts place source
           (inv.before.left place (omega arith)) here all in
           let own = at_known texts place (g.R.Source.remaining source)
-          (λ text. TookInput folds_of c.loop-place.folder c.read_input.new.folder c.args.setting.form text is_cut) knows c.in_ok-is_cut.ensures.ok in
-          rw (c.with_input-cut.ensures) (cut_next c.args.setting.form.hex texts place knows.input is_cut c.loop-place.cut knows.here
-          (inv.cut texts all) own.1.cut);
-      few = rw (c.with_input-cut.ensures) (fits_next is_cut place c.loop-place.cut inv.few);
+          (λ text. TookInput folds_of c.loop-place.folder c.read_input.new.folder c.args.setting.form text end) knows c.in_ok-end.ensures.ok in
+          rw (c.in_ok-add_end.ensures.added) (ends_next c.args.setting.form.hex texts place knows.input end c.loop-place.cuts.items knows.here
+          (inv.cuts texts all) own.1.ends);
     }
 
-pub returns-in_err-is_cut-clause-err : goal.returns-in_err-is_cut-clause-err
-returns-in_err-is_cut-clause-err g c =
+pub returns-in_err-end-clause-err : goal.returns-in_err-end-clause-err
+returns-in_err-end-clause-err g c =
     let p = err_from_is_err_and c.from_residual.result c.from_residual.ensures.1 in
     let inv = c.loop-place.invariant in
     let place = c.loop-place.place in
@@ -73,11 +72,57 @@ returns-in_err-is_cut-clause-err g c =
       before = earlier.1;
       reported = reported_at g.R.Source.has_ended g.R.Source.remaining c.loop-place.sources place new within c.args.setting.form knows.input _
           (at_known texts place (g.R.Source.remaining source) (λ bytes. IsReportedOfSource c.args.setting.form (g.R.Source.remaining new)
-          (g.R.Source.has_ended new) place bytes c.in_err-is_cut.field-0.0) knows c.in_err-is_cut.ensures.err);
+          (g.R.Source.has_ended new) place bytes c.in_err-end.field-0.0) knows c.in_err-end.ensures.err);
     }
 
-pub returns-in_err-is_cut-clause-kept : goal.returns-in_err-is_cut-clause-kept
-returns-in_err-is_cut-clause-kept g c =
+pub returns-in_err-add_end-clause-err : goal.returns-in_err-add_end-clause-err
+returns-in_err-add_end-clause-err g c =
+    let p = err_from_is_err_and c.from_residual-in_err-add_end.result c.from_residual-in_err-add_end.ensures.1 in
+    let inv = c.loop-place.invariant in
+    let end = c.in_ok-end.end in
+    let place = c.loop-place.place in
+    let within : place < length c.loop-place.sources = omega arith in
+    let source = get_or c.loop-place.sources place c.index-sources-place.result in
+    let here = slice_get-get_or c.loop-place.sources place c.index-sources-place.result within in
+    λ texts all.
+    let knows = knows_now g.R.Source.remaining c.args.sources.now c.loop-place.sources texts place source
+    (inv.before.left place (omega arith)) here all in
+    let own = at_known texts place (g.R.Source.remaining source)
+    (λ text. TookInput folds_of c.loop-place.folder c.read_input.new.folder c.args.setting.form text end) knows c.in_ok-end.ensures.ok in
+    let earlier = inv.took texts all in
+    rw (p.1, p.2) record {
+      place = place;
+      input = knows.input;
+      here = knows.here;
+      segments = earlier.0;
+      before = earlier.1;
+      reported = reported_at g.R.Source.has_ended g.R.Source.remaining c.loop-place.sources place c.read_input.new.source within
+          c.args.setting.form knows.input Memory (inl (own.1.asks c.in_err-add_end.ensures.full));
+    }
+
+pub returns-in_err-add_end-clause-kept : goal.returns-in_err-add_end-clause-kept
+returns-in_err-add_end-clause-kept g c =
+    let p = err_from_is_err_and c.from_residual-in_err-add_end.result c.from_residual-in_err-add_end.ensures.1 in
+    λ texts all. rw (p.1, p.2) (λ other. absurd (other refl))
+
+pub returns-in_err-add_end-clause-of_input : goal.returns-in_err-add_end-clause-of_input
+returns-in_err-add_end-clause-of_input g c =
+    let p = err_from_is_err_and c.from_residual-in_err-add_end.result c.from_residual-in_err-add_end.ensures.1 in
+    rw (p.1, p.2) tt
+
+pub returns-in_err-add_end-clause-reading : goal.returns-in_err-add_end-clause-reading
+returns-in_err-add_end-clause-reading g c =
+    let p = err_from_is_err_and c.from_residual-in_err-add_end.result c.from_residual-in_err-add_end.ensures.1 in
+    let place = c.loop-place.place in
+    let within : place < length c.loop-place.sources = omega arith in
+    let source = get_or c.loop-place.sources place c.index-sources-place.result in
+    let here = slice_get-get_or c.loop-place.sources place c.index-sources-place.result within in
+    rw (p.1, p.2) (refused_after c.args.setting.form.hex g.R.Source.has_failed g.R.Source.has_ended g.R.Source.good_reads g.R.Source.remaining
+    c.args.sources.now c.loop-place.sources place source c.read_input.new.source c.loop-place.invariant.before within here _
+    c.in_ok-end.ensures.reading)
+
+pub returns-in_err-end-clause-kept : goal.returns-in_err-end-clause-kept
+returns-in_err-end-clause-kept g c =
     let p = err_from_is_err_and c.from_residual.result c.from_residual.ensures.1 in
     let inv = c.loop-place.invariant in
     let place = c.loop-place.place in
@@ -85,15 +130,15 @@ returns-in_err-is_cut-clause-kept g c =
     let source = get_or c.loop-place.sources place c.index-sources-place.result in
     let here = slice_get-get_or c.loop-place.sources place c.index-sources-place.result within in
     let new = c.read_input.new.source in
-    let fault = c.in_err-is_cut.field-0.0 in
+    let fault = c.in_err-end.field-0.0 in
     λ texts all.
     let knows = knows_now g.R.Source.remaining c.args.sources.now c.loop-place.sources texts place source
     (inv.before.left place (omega arith)) here all in
     let earlier = inv.took texts all in
     let told = at_known texts place (g.R.Source.remaining source) (λ bytes. IsReportedOfSource c.args.setting.form (g.R.Source.remaining new)
-    (g.R.Source.has_ended new) place bytes fault) knows c.in_err-is_cut.ensures.err in
+    (g.R.Source.has_ended new) place bytes fault) knows c.in_err-end.ensures.err in
     let kept = at_known texts place (g.R.Source.remaining source) (λ bytes. TookOwn folds_of c.loop-place.folder c.read_input.new.folder
-    c.args.setting.form (g.R.Source.remaining new) bytes fault) knows c.in_err-is_cut.ensures.kept in
+    c.args.setting.form (g.R.Source.remaining new) bytes fault) knows c.in_err-end.ensures.kept in
     rw (p.1, p.2) (λ other.
     let own = kept other in (
       earlier.0 ++ own.0,
@@ -103,8 +148,8 @@ returns-in_err-is_cut-clause-kept g c =
       took_both folds_of c.args.folder.now c.loop-place.folder c.read_input.new.folder earlier.0 own.0 earlier.2 own.2,
     ))
 
-pub returns-in_err-is_cut-clause-reading : goal.returns-in_err-is_cut-clause-reading
-returns-in_err-is_cut-clause-reading g c =
+pub returns-in_err-end-clause-reading : goal.returns-in_err-end-clause-reading
+returns-in_err-end-clause-reading g c =
     let p = err_from_is_err_and c.from_residual.result c.from_residual.ensures.1 in
     let place = c.loop-place.place in
     let within : place < length c.loop-place.sources = omega arith in
@@ -112,7 +157,7 @@ returns-in_err-is_cut-clause-reading g c =
     let here = slice_get-get_or c.loop-place.sources place c.index-sources-place.result within in
     rw (p.1, p.2) (read_to c.args.setting.form.hex g.R.Source.has_failed g.R.Source.has_ended g.R.Source.good_reads g.R.Source.remaining
     c.args.sources.now c.loop-place.sources place source c.read_input.new.source c.loop-place.invariant.before within here
-    c.in_err-is_cut.field-0.0 c.in_err-is_cut.ensures.reading)
+    c.in_err-end.field-0.0 c.in_err-end.ensures.reading)
 
 pub returns-clause-reading : goal.returns-clause-reading
 returns-clause-reading g c =

@@ -2,8 +2,7 @@
 use Rattle.std.proofs.Common.{◌≡◌, ℕ, List, Some, map, take}
 use Rattle.htl_segment.specs.Content.{Content}
 use Rattle.htl_segment.specs.Keepers.{Took}
-use Rattle.htl_main.specs.CutInputs.{AreCut}
-use Rattle.htl_main.specs.Ends.{OthersFit}
+use Rattle.htl_main.specs.CutInputs.{AreCutEnds}
 use Rattle.htl_main.specs.Inputs.{DecodeAll}
 use Rattle.htl_main.specs.Folders.{folds_of}
 use Rattle.htl_main.proofs.ReadingLaws.{ReadBefore}
@@ -15,7 +14,6 @@ invariant-loop-place g l = record {
       l.initial.sources l.sources l.place;
   took : (inputs : List (List ℕ)) → map g.R.Source.remaining l.initial.sources ≡ map Some inputs
       → (given : List Content) × DecodeAll l.setting.form (take l.place inputs) given × Took folds_of l.initial.folder l.folder given;
-  cut : (inputs : List (List ℕ)) → map g.R.Source.remaining l.initial.sources ≡ map Some inputs
-      → AreCut l.setting.form.hex (take l.place inputs) l.cut;
-  few : OthersFit l.cut l.place;
+  cuts : (inputs : List (List ℕ)) → map g.R.Source.remaining l.initial.sources ≡ map Some inputs
+      → AreCutEnds l.setting.form.hex (take l.place inputs) l.cuts.items;
 }

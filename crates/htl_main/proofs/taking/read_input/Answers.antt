@@ -1,5 +1,6 @@
 -- A folder takes the segments of a source, which is read as one of the run, or its fault is reported.
 use Rattle.htl_main.specs.Folders.{folds_of}
+use Rattle.htl_main.proofs.DigitsLaws.{digits_read, digits_reported}
 use Rattle.htl_main.proofs.FoldInputs.{fault_kept, known_kept, known_ok, source_err, source_kept, source_ok, unread_kept}
 use Rattle.htl_main.proofs.OneSource.{accepted_read, decoded_ill, reported_bytes_of}
 use Rattle.htl_main.proofs.taking.read_input.Goals as goal
@@ -7,16 +8,27 @@ use Rattle.htl_main.proofs.taking.read_input.Goals as goal
 pub returns-in-Ok-clause-ok : goal.returns-in-Ok-clause-ok
 returns-in-Ok-clause-ok g c =
     known_ok folds_of c.args.folder.now c.take_text.new.folder c.args.setting.form c.args.place (g.R.Source.remaining c.args.source.now)
-    c.in-Ok.text.items c.take_text.result c.in-Ok.ensures.ok (rw (← c.deref.ensures.value) (c.take_text.ensures.ok))
+    c.in-Ok.text.items c.take_text.result c.in-Ok.ensures.ok.0 (rw (← c.deref.ensures.value) (c.take_text.ensures.ok))
 
 pub returns-in-Ok-clause-kept : goal.returns-in-Ok-clause-kept
 returns-in-Ok-clause-kept g c =
     known_kept folds_of c.args.folder.now c.take_text.new.folder c.args.setting.form c.args.place (g.R.Source.remaining c.args.source.now) _
-    c.in-Ok.text.items c.take_text.result c.if-setting.true c.in-Ok.ensures.ok (rw (← c.deref.ensures.value) (c.take_text.ensures.kept))
+    c.in-Ok.text.items c.take_text.result c.if-setting.true c.in-Ok.ensures.ok.0 (rw (← c.deref.ensures.value) (c.take_text.ensures.kept))
+
+pub returns-in-Err-clause-err : goal.returns-in-Err-clause-err
+returns-in-Err-clause-err g c =
+    rw (c.from_digits.ensures) (digits_reported g.R.Source.has_failed g.R.Source.has_ended g.R.Source.good_reads g.R.Source.remaining
+    c.args.source.now c.read_digits.new.source c.args.setting.form c.args.place (g.R.Source.remaining c.args.source.now) c.in-Err.fault
+    c.if-setting.true c.in-Err.ensures)
+
+pub returns-in-Err-clause-reading : goal.returns-in-Err-clause-reading
+returns-in-Err-clause-reading g c =
+    rw (c.from_digits.ensures) (digits_read g.R.Source.has_failed g.R.Source.has_ended g.R.Source.good_reads g.R.Source.remaining
+    c.args.source.now c.read_digits.new.source c.args.setting.form c.args.place c.in-Err.fault c.if-setting.true c.in-Err.ensures)
 
 pub returns-in-Err-clause-kept : goal.returns-in-Err-clause-kept
 returns-in-Err-clause-kept g c =
-    rw (c.from_read.ensures) (unread_kept folds_of c.args.folder.now c.args.setting.form c.args.place (g.R.Source.remaining c.args.source.now) _
+    rw (c.from_digits.ensures) (unread_kept folds_of c.args.folder.now c.args.setting.form c.args.place (g.R.Source.remaining c.args.source.now) _
     c.in-Err.fault c.if-setting.true)
 
 pub returns-in-Ok-take_source-clause-ok : goal.returns-in-Ok-take_source-clause-ok

@@ -72,7 +72,7 @@ returns-clause-ok g c =
     let folds = since first old c.read_all-read.new.folder own.0 none (c.new-folder.ensures.same ∙ is) own.2 in
     all_taken first now.analyst now.segments own.0 before was c.fold_by-far.result
     (subst (λ (u : Option CaseFault). Folds first now.analyst u now.segments own.0) c.in_default.is (c.fold_by-far.ensures.kept first own.0 folds))
-    c.args.setting.form texts c.in-Ok.cut own.1 (c.fold_by-far.ensures.far first own.0 folds was.far) (c.in-Ok.ensures.cut texts all)
+    c.args.setting.form texts c.in-Ok.cuts.items own.1 (c.fold_by-far.ensures.far first own.0 folds was.far) (c.in-Ok.ensures.cuts texts all)
 
 pub returns-clause-memory : goal.returns-clause-memory
 returns-clause-memory g c =

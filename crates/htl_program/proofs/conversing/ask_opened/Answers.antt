@@ -1,5 +1,6 @@
 -- Each line's reply is that of a run over what was read by then, and the inputs are read as by a run.
-use Rattle.std.proofs.Common.{◌≡◌, drop, length, rules, Some}
+use Rattle.std.proofs.Common.{◌≡◌, ◌∙◌, Bor, ℕ, Option, None, drop, length, map, refl, rules, Some, string_bytes}
+use Rattle.std.specs.Prelude.{is_some}
 use Rattle.std.proofs.lemmas.Result.{err_from_is_err_and}
 use Rattle.std.specs.Option.{option_copied}
 use Rattle.htl_lemmas.proofs.Lists.{take_front}
@@ -9,8 +10,13 @@ use Rattle.htl_program.specs.Asking.{Opening, answers_over}
 use Rattle.htl_program.specs.Loads.{answers_from, is_state}
 use Rattle.htl_program.specs.Opened.{known, ways}
 use Rattle.htl_program.proofs.Begun.{converses_begun, ended_by, stops_begun}
-use Rattle.htl_program.proofs.KeptLaws.{Holds, holds_subject, holds_text, reading_more}
+use Rattle.htl_program.proofs.KeptLaws.{Holds, holds_absence, holds_outcome, reading_more}
 use Rattle.htl_program.proofs.conversing.ask_opened.Goals as goal
+
+-- a copied option is one where there is one
+some_copied : {X : Type 0} (of : Option (Bor X)) → is_some of ≡ is_some (option_copied of)
+some_copied None = refl
+some_copied (Some x) = refl
 
 pub returns-in_err-kept-clause-reading : goal.returns-in_err-kept-clause-reading
 returns-in_err-kept-clause-reading g c =
@@ -50,8 +56,9 @@ returns-in_err-conversed-clause-stops g c =
     let fault = c.in_err-conversed.field-0.0 in
     let left = g.Q.Source.remaining c.converse_lines.new.questions in
     let failed = g.Q.Source.has_failed c.converse_lines.new.questions in
-    let one = answers_from world read setting (is_state begun.kept) in
+    let one = answers_from world read setting (is_state begun.kept) c.is_some.result in
     let other = answers_over world read setting c.args.files.now.dialogue.now.folds symbols in
+    let same_table : c.is_some.result ≡ is_some symbols = c.is_some.ensures ∙ some_copied c.args.symbols in
     λ texts lines stopped all asked is.
     let are = c.in_ok-kept.ensures.ok texts (rw c.deref_mut.ensures.value all) in (
       are.read,
@@ -60,10 +67,11 @@ returns-in_err-conversed-clause-stops g c =
       rw (ended_by c.from_residual-in_err-conversed.result p.0 fault stopped p.1 p.2 is)
           (stops_begun other (g.H.Host.wants_absence c.args.speaker.now) (Some are.read) lines
           (g.O.Sink.contents c.args.out.now) (g.O.Sink.contents c.converse_lines.new.out) g.H.Host.told c.args.speaker.now
-          c.begins.new.self c.converse_lines.new.host opening c.begins.ensures.told left failed fault
-          (stops_too one other c.in_ok-kept.ensures.form (Holds setting symbols)
-          (λ before known job text holds has. holds_text setting symbols before known job text holds has)
-          (λ before known job found holds has. holds_subject setting symbols before known job found holds has)
+          c.begins.new.self c.converse_lines.new.host (map string_bytes c.args.files.now.dialogue.now.files.items) opening
+          (rw c.deref.ensures.value at c.begins.ensures.told) left failed fault
+          (stops_too one other c.in_ok-kept.ensures.form same_table (Holds setting symbols)
+          (λ before known job outcome holds has. holds_outcome setting symbols before known job outcome holds has)
+          (λ before known job absence holds has. holds_absence setting symbols before known job absence holds has)
           (λ before known names after ended holds reads. reading_more world read setting symbols names before known after ended holds reads)
           (g.H.Host.wants_absence c.args.speaker.now) begun.kept (Some are.read) lines left failed _ fault
           (record { covered = c.in_ok-kept.ensures.coverage; are = are.kept })
@@ -79,8 +87,9 @@ returns-clause-replies g c =
     let begun = c.in_ok-kept.field-0 in
     let opening : Opening = record { coverage = begun.coverage; cut = begun.cut } in
     let conversed = c.in_ok-conversed.conversed in
-    let one = answers_from world read setting (is_state begun.kept) in
+    let one = answers_from world read setting (is_state begun.kept) c.is_some.result in
     let other = answers_over world read setting c.args.files.now.dialogue.now.folds symbols in
+    let same_table : c.is_some.result ≡ is_some symbols = c.is_some.ensures ∙ some_copied c.args.symbols in
     λ texts lines all asked.
     let are = c.in_ok-kept.ensures.ok texts (rw c.deref_mut.ensures.value all) in (
       are.read,
@@ -88,10 +97,11 @@ returns-clause-replies g c =
       are.opens,
       converses_begun other (g.H.Host.wants_absence c.args.speaker.now) (Some are.read) lines
           (g.O.Sink.contents c.args.out.now) (g.O.Sink.contents c.converse_lines.new.out) g.H.Host.told c.args.speaker.now
-          c.begins.new.self c.converse_lines.new.host opening c.begins.ensures.told conversed
-          (converses_too one other c.in_ok-kept.ensures.form (Holds setting symbols)
-          (λ before known job text holds has. holds_text setting symbols before known job text holds has)
-          (λ before known job found holds has. holds_subject setting symbols before known job found holds has)
+          c.begins.new.self c.converse_lines.new.host (map string_bytes c.args.files.now.dialogue.now.files.items) opening
+          (rw c.deref.ensures.value at c.begins.ensures.told) conversed
+          (converses_too one other c.in_ok-kept.ensures.form same_table (Holds setting symbols)
+          (λ before known job outcome holds has. holds_outcome setting symbols before known job outcome holds has)
+          (λ before known job absence holds has. holds_absence setting symbols before known job absence holds has)
           (λ before known names after ended holds reads. reading_more world read setting symbols names before known after ended holds reads)
           (g.H.Host.wants_absence c.args.speaker.now) begun.kept (Some are.read) lines _ conversed
           (record { covered = c.in_ok-kept.ensures.coverage; are = are.kept })

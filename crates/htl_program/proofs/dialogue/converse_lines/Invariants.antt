@@ -16,6 +16,7 @@ invariant-loop-line g l = record {
   so_far : (text : List ℕ) → g.Q.Source.remaining l.initial.questions ≡ Some text
       → Progress (answers_from (known g.W.World.holds g.W.World.is_absent g.W.World.standard l.fn.files.world.now)
       (ways g.W.Input.Source.remaining g.W.Input.Source.has_ended g.W.Input.Source.has_failed g.W.Input.Source.good_reads) l.fn.files.dialogue.now.setting
-      (is_state l.initial.kept)) (g.H.Host.wants_absence l.initial.host) g.H.Host.told l.initial.kept text (g.O.Sink.contents l.initial.out) l.initial.host
+      (is_state l.initial.kept) l.fn.has_table) (g.H.Host.wants_absence l.initial.host)
+      g.H.Host.told l.initial.kept text (g.O.Sink.contents l.initial.out) l.initial.host
       (prepend_known l.held (g.Q.Source.remaining l.questions)) l.kept (g.O.Sink.contents l.out) l.host l.conversed l._line;
 }

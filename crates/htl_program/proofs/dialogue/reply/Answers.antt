@@ -22,22 +22,22 @@ returns-in-Nothing-clause-ok g c =
         early = [];
         late = [];
         replied = (refl, refl, refl);
-        absence = refl;
+        told_late = refl;
         written = Appends-nil (g.O.Sink.contents c.args.out.now);
         all = refl;
-        wrong = c.fine-in-Nothing.ensures.wrong;
-        first = c.fine-in-Nothing.ensures.first;
+        wrong = c.fine.ensures.wrong;
+        first = c.fine.ensures.first;
       })
       | inr is ↦ rw is (record {
         reply = [];
         early = [];
         late = [];
         replied = (refl, refl, refl);
-        absence = refl;
+        told_late = refl;
         written = Appends-nil (g.O.Sink.contents c.args.out.now);
         all = refl;
-        wrong = c.fine-in-Nothing.ensures.wrong;
-        first = c.fine-in-Nothing.ensures.first;
+        wrong = c.fine.ensures.wrong;
+        first = c.fine.ensures.first;
       })
     ]
 
@@ -48,7 +48,7 @@ returns-in_ok-write-in-Wrong-clause-ok g c =
       early = refuses c.in-Wrong.fault ∷ [];
       late = [];
       replied = (refl, refl, (c.in-Wrong.fault, refl, refl));
-      absence = refl;
+      told_late = refl;
       written = c.in_ok-write-in-Wrong.ensures.ok;
       all = c.refuses.ensures.told;
       wrong = refl;
@@ -71,39 +71,6 @@ returns-in_err-write-in-Wrong-clause-err g c =
       },
     )
 
-pub returns-in_ok-write-in-Asks-clause-ok : goal.returns-in_ok-write-in-Asks-clause-ok
-returns-in_ok-write-in-Asks-clause-ok g c =
-    let text = c.in_ok-text-in-Asks.text.items in
-    let noted = c.note_absence.ensures.told in
-    rw (c.in-Asks.is) (record {
-      reply = text ++ 10 ∷ [];
-      early = [];
-      late = noted.absence;
-      replied = (refl {a = c.args.kept.now}, (text, c.in_ok-text-in-Asks.ensures, refl), refl);
-      absence = noted.is;
-      written = rw (c.deref.ensures.value, c.in_ok-push-in-Asks.ensures.items) at c.in_ok-write-in-Asks.ensures.ok;
-      all = noted.heard;
-      wrong = c.fine.ensures.wrong;
-      first = c.fine.ensures.first;
-    })
-
-pub returns-in_err-write-in-Asks-clause-err : goal.returns-in_err-write-in-Asks-clause-err
-returns-in_err-write-in-Asks-clause-err g c =
-    let p = err_from_is_err_and c.from_residual-in_err-write-in-Asks.result c.from_residual-in_err-write-in-Asks.ensures.1 in
-    let failed = rw (c.deref.ensures.value, c.in_ok-push-in-Asks.ensures.items) at c.in_err-write-in-Asks.ensures.err in
-    let text = c.in_ok-text-in-Asks.text.items in
-    rw (p.1, p.2, failed.0, c.in-Asks.is) (
-      failed.1,
-      record {
-        after = c.args.kept.now;
-        reply = text ++ 10 ∷ [];
-        early = [];
-        replied = (refl {a = c.args.kept.now}, (text, c.in_ok-text-in-Asks.ensures, refl), refl);
-        written = failed.2;
-        all = refl {a = c.args.host.now};
-      },
-    )
-
 pub returns-in_ok-write-in-Reads-clause-ok : goal.returns-in_ok-write-in-Reads-clause-ok
 returns-in_ok-write-in-Reads-clause-ok g c =
     let ended = c.in_ok-ended-in-Reads.ended in
@@ -112,10 +79,10 @@ returns-in_ok-write-in-Reads-clause-ok g c =
       reply = reading_reply ended;
       early = reads files ended ∷ [];
       late = [];
-      replied = (ended, rw (c.deref-in-Reads.ensures.value) at c.in_ok-ended-in-Reads.ensures, refl, refl);
-      absence = refl;
+      replied = (ended, rw (c.deref.ensures.value) at c.in_ok-ended-in-Reads.ensures, refl, refl);
+      told_late = refl;
       written = rw (c.as_bytes.ensures.value, c.in_ok-text-in-Reads.ensures) at c.in_ok-write-in-Reads.ensures.ok;
-      all = rw (c.deref-in-Reads-2.ensures.value) at c.reads.ensures.told;
+      all = rw (c.deref-in-Reads.ensures.value) at c.reads.ensures.told;
       wrong = refl;
       first = c.fault_of.ensures ∙ fault_is_first files ended;
     })
@@ -132,8 +99,8 @@ returns-in_err-write-in-Reads-clause-err g c =
         after = c.read.new.kept;
         reply = reading_reply ended;
         early = reads files ended ∷ [];
-        replied = (ended, rw (c.deref-in-Reads.ensures.value) at c.in_ok-ended-in-Reads.ensures, refl, refl);
+        replied = (ended, rw (c.deref.ensures.value) at c.in_ok-ended-in-Reads.ensures, refl, refl);
         written = failed.2;
-        all = rw (c.deref-in-Reads-2.ensures.value) at c.reads.ensures.told;
+        all = rw (c.deref-in-Reads.ensures.value) at c.reads.ensures.told;
       },
     )

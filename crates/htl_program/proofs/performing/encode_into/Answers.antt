@@ -10,5 +10,8 @@ returns g c = record {
   status_is = c.status_of_conversion.ensures;
   after_run = g.P.Person.heard c.ends.new.self;
   hears_run = run_told _ _ _ c.args.line.now.command c.begins.ensures c.ends.ensures;
-  said = rw c.says_words-in_words.ensures at c.say_encoding.ensures;
+  said =
+      let words = rw c.says_words-in_words.ensures at c.say_encoding.ensures in
+      let quiet = rw c.is_quiet-is_quiet.ensures at words in
+      rw c.is_watching-is_watched.ensures at quiet;
 }

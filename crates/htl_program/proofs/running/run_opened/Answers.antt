@@ -13,7 +13,7 @@ returns g c =
       ends = λ texts all. run_ends c.args.job.now texts (option_copied c.args.symbols) (map g.R.Source.remaining c.run_from.new.inputs)
           (map g.R.Source.has_ended c.run_from.new.inputs) (g.O.Sink.contents c.args.out.now) (g.O.Sink.contents c.run_from.new.out)
           c.run_from.result (c.run_from.ensures.ok texts all) (c.run_from.ensures.coverage texts all) (c.run_from.ensures.cut texts all)
-          (c.run_from.ensures.subject texts all) (c.run_from.ensures.finding texts all) (c.run_from.ensures.cause texts all)
+          (c.run_from.ensures.absence texts all) (c.run_from.ensures.remarks texts all) (c.run_from.ensures.cause texts all)
           (c.run_from.ensures.write texts all) (c.run_from.ensures.between texts all);
       reading = c.run_from.ensures.reading;
       untouched = c.run_from.ensures.untouched;

@@ -20,4 +20,6 @@ returns c = λ segments offset_is is_rest.
       offset_is = offset_is;
       fault_is = first_fault-rest c.args.rest.now is_rest ∙ ap Some (sym c.cut_off.ensures);
       early = rw (c.cut_off.ensures) early;
+      begun = c.begins_header.ensures;
+      named = c.name_in.ensures;
     }

@@ -1,0 +1,66 @@
+"""What is known before a page is made: the files of its options, and the answers that several of its sections need."""
+import collections
+
+from stacklists import known_of, leaks_of
+
+from .opens import names_of
+from .rows import Lines
+from .sites import tester_of
+
+
+class Files:
+    """What stands in the files of the options."""
+
+    def __init__(self, given):
+        self.known = known_of(given.known, False) if given.known else set()
+        self.before = leaks_of(given.before, False) if given.before else None
+        self.names = names_of(given.names) if given.names else {}
+
+
+class Material:
+    """The stacks that leave handles open, how many handles they had at moments, and of the first processes curves and handles. Sections
+    add what they find to the findings."""
+
+    def __init__(self, trace, given, files):
+        self.trace, self.given, self.files = trace, given, files
+        self.is_system = tester_of(given.system)
+        self.sites = trace.sites()
+        self.leaking = self.sites.greatest(files.known)
+        self.lines = Lines([site.names for site in self.leaking], self.is_system)
+        self.whole = sum(site.count for site in self.leaking)
+        self.found = trace.found
+        shown = self.found[: given.top]
+        self.growth = {row["process"]: trace.growth(row) for row in shown}
+        self.handles = {row["process"]: trace.handles(row) for row in shown}
+        points = next(iter(self.growth.values()), [(0, 0)])
+        self.first, self.last = points[0][0], points[-1][0]
+        moments = trace.moments(self.first, self.last) if self.leaking else []
+        self.moments = [(moment, trace.sites_at(moment)) for moment in moments]
+        self.findings = []
+
+    def points_of(self, site):
+        """How many handles a site had as of each moment, and has now."""
+        return [*((moment, sites.count_of(site.names)) for moment, sites in self.moments), (self.last, site.count)]
+
+    def middle(self):
+        """The moment in the middle, and the sites as of it."""
+        return self.moments[len(self.moments) // 2]
+
+    def growth_of(self, site):
+        """How many more handles a site has than in the middle."""
+        return site.count - self.middle()[1].count_of(site.names) if self.moments else 0
+
+    def known(self):
+        """The sites that the list of known ones has."""
+        return [site for site in self.sites.greatest() if site.names in self.files.known]
+
+    def before(self):
+        """How many handles each stack had in the older answer, without known ones."""
+        return collections.Counter({names: count for names, count in self.files.before.items() if names not in self.files.known})
+
+    def as_of(self):
+        """As of when handles count, and since when, in words."""
+        until, since = self.trace.until, self.trace.since
+        moment = "at the end" if until is None else f"as of sequence {until:,}"
+        after = "the last snapshot of their process" if since == "snapshot" else f"sequence {since or 0:,}"
+        return moment if since is None else f"{moment}, of those opened after {after}"

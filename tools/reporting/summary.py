@@ -1,0 +1,80 @@
+"""What leaks at all: a sentence, what was found, the numbers of the summary, and which moments are certain."""
+from .pages import counted, element, facts, joined, left_out, share_of
+
+MOST_GAPS, MOST_FINDINGS = 100, 3
+
+
+def lead_of(material):
+    """What leaks, in a sentence."""
+    trace = material.trace
+    handles = counted(sum(site.count for site in material.sites.greatest()), "handle is", "handles are")
+    used = f"handles that weren't open were used {counted(sum(row['bad'] for row in trace.processes), 'time')}"
+    unbalanced = counted(trace.head["unbalanced"], "object has", "objects have")
+    if material.given.process:
+        return f"{handles} open {material.as_of()}, and {used}."
+    return f"{handles} open {material.as_of()}, {used}, and {unbalanced} an unbalanced tag."
+
+
+def add_leaks(material):
+    """The stacks with most open handles are findings: the first, and others that have a tenth of all."""
+    not_known = " that are not known" if material.known() else ""
+    for site in material.leaking[:MOST_FINDINGS]:
+        if site is material.leaking[0] or 10 * site.count >= material.whole:
+            of_all = f"{share_of(site.count, material.whole)} of {material.whole:,}{not_known}"
+            where = counted(len(site.keys), "process", "processes")
+            growth = material.growth_of(site)
+            since = f": {growth:+,} since sequence {material.middle()[0]:,}" if growth else ""
+            told = f" left {counted(site.count, 'handle')} open, {of_all}, in {where}{since}."
+            material.findings.append(joined(material.lines.call(site.names), told))
+
+
+def is_certain(trace):
+    """Whether the page is about a moment up to which nothing is missing."""
+    return trace.until is not None and trace.until <= trace.head["complete_to"]
+
+
+def add_gaps(material):
+    if material.trace.gaps and not is_certain(material.trace):
+        why = element("strong", "Segments are missing"), ": a handle that seems to be open may have been closed in one. "
+        material.findings.append(joined(*why, element("a", "What is certain", href="#certain"), " says more."))
+
+
+def findings_of(material):
+    if not material.findings:
+        handles = "Each open handle is of a known stack" if material.known() else f"No handle is open {material.as_of()}"
+        objects = "" if material.given.process else ", and the tags of all objects balance"
+        return element("p", f"{handles}, none was used that wasn't open{objects}.")
+    return element("ul", *(element("li", finding) for finding in material.findings), class_="findings")
+
+
+def numbers_of(material):
+    head, processes = material.trace.head, material.trace.processes
+    handles, bad = (sum(row[of] for row in processes) for of in ("outstanding", "bad"))
+    numbers = [("open handles", handles), ("bad references", bad), ("unbalanced objects", head["unbalanced"]), ("gaps", head["gaps"])]
+    numbers += [(name, head[name]) for name in ("processes", "objects", "events", "segments", "processors")]
+    return facts(*((name, f"{number:,}") for name, number in numbers))
+
+
+def missing_of(gap):
+    if "to" not in gap:
+        return "all segments"
+    return f"segment {gap['from']:,}" if gap["from"] == gap["to"] else f"segments {gap['from']:,} to {gap['to']:,}"
+
+
+def certain_of(material):
+    """Up to where nothing is missing, and which segments are."""
+    trace, gaps = material.trace, material.trace.gaps
+    whole = f"{trace.head['complete_to']:,}"
+    if not trace.head["complete_to"]:
+        told = "No moment is certain: of some processor no event is here before what is missing or may be missing. It may have been idle."
+    elif is_certain(trace):
+        told = f"This page is about sequence {trace.until:,}. All events up to sequence {whole} are here, so what it says is certain."
+    else:
+        told = f"All events up to sequence {whole} are here: what was so then is certain, and --until complete shows it."
+    if not gaps:
+        last = "Of each processor no segment is missing before its last one that is here. Whether later ones are missing can't be seen."
+        return joined(element("p", told), element("p", last))
+    rows = [element("li", f"of processor {gap['processor']} {missing_of(gap)}") for gap in gaps[:MOST_GAPS]]
+    closed = "A handle that seems to be open may have been closed in one of them."
+    why = "Segments are missing. " + (f"Their events come after sequence {whole}." if is_certain(trace) else closed)
+    return joined(element("p", why, class_="warning"), element("ul", *rows), left_out(len(gaps), rows, "gap"), element("p", told))

@@ -40,8 +40,8 @@ class Here(Converting):
 
     def convert(self, text, *words):
         """The status, the text or None, and the lines on standard error."""
-        with open(self.path("log0"), "w", encoding="utf-8") as file:
-            file.write(text)
+        with open(self.path("log0"), "wb") as file:
+            file.write(text if isinstance(text, bytes) else text.encode())
         said, before = io.StringIO(), os.getcwd()
         os.chdir(self.folder.name)
         with contextlib.redirect_stderr(said):

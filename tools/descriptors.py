@@ -1,9 +1,12 @@
 """What the tools share that read logs of Linux's calls: which descriptors each process has open, as events of handles."""
 import argparse
+import codecs
 import collections
 import contextlib
 import heapq
+import io
 import itertools
+import re
 import shutil
 import tempfile
 
@@ -12,6 +15,7 @@ from logs import Fault
 
 GREATEST_DESCRIPTOR, GREATEST_PROCESS = (1 << 29) - 2, 0xFFFFFFFF
 STANDARD = range(3)
+MOST_DIGITS, OCTAL = 24, re.compile(r"-?0[0-7]+$")
 MOST_OLDER = 1024  # descriptors that a program has from before the log, at the most that is believed
 IN_MEMORY = 1 << 24  # bytes that are kept in memory before they go to a temporary file
 
@@ -94,6 +98,13 @@ NO_STACK = Stack("", 0)
 Open = collections.namedtuple("Open", "at_exec stack name")
 
 
+def value(text):
+    """A number of a log, as C writes it. One with too many digits is above all that a call has."""
+    if len(text) > MOST_DIGITS:
+        return 1 << 64
+    return int(text, 16 if "x" in text else 8 if OCTAL.match(text) else 10)
+
+
 class Call:
     """A call: its line, its moment in microseconds (or 0), its thread, the thread's process where the log has it, and once it has ended what it does and its stack."""
 
@@ -161,9 +172,9 @@ class Table:
 class Segments:
     """The text form of events, which is written segment by segment."""
 
-    def __init__(self, file):
-        self.file = file
-        self.number, self.events, self.most = 0, [], 0
+    def __init__(self, file, given):
+        self.file, self.trace = file, given.trace_id
+        self.number, self.events, self.most = logs.first_number(given), [], 0
 
     def add(self, line, stack):
         self.events.append(f"{line}\n{stack.text}")
@@ -175,9 +186,9 @@ class Segments:
         """Writes what isn't written yet."""
         if self.events:
             version = 2 if self.most > logs.MOST_FRAMES_OF_VERSION_1 else 1
-            self.file.write(f"segment version={version} trace=0x{1:016x} processors=1 processor=0 number={self.number}\n")
+            self.file.write(f"segment version={version} trace=0x{self.trace:016x} processors=1 processor=0 number={self.number}\n")
             self.file.writelines(self.events)
-        self.number, self.events, self.most = self.number + 1, [], 0
+            self.number, self.events, self.most = self.number + 1, [], 0
 
 
 class Notes:
@@ -217,6 +228,11 @@ class Descriptors:
             Ended: self.end,
             Bad: self.bad,
         }
+
+    def sees(self, moment):
+        """Sequences count from the first moment of a log, or with --number by the log's clock: those of a further log are above then."""
+        if self.given.number is None:
+            self.first_moment = self.first_moment or moment
 
     def take(self, call):
         """Does what a call does. A close of what isn't open yet isn't done where an open may end before it does: then it is false."""
@@ -421,19 +437,28 @@ def copy(spool, path):
             shutil.copyfileobj(spool, file, 1 << 20)
 
 
+def text_of(path):
+    """The lines of a log. What PowerShell writes is UTF-16."""
+    file = open(path, "rb")
+    is_wide = file.peek(2)[:2] in (codecs.BOM_UTF16_LE, codecs.BOM_UTF16_BE)
+    return io.TextIOWrapper(file, "utf-16" if is_wide else "utf-8-sig", errors="replace", newline="\n")
+
+
 def spool():
     return tempfile.SpooledTemporaryFile(IN_MEMORY, "w+", encoding="utf-8", newline="")
 
 
 def convert(given, read, text, names):
     """Reads a log, writes the text of its segments and the names, and gives the names of addresses and the notes."""
-    segments, frames = Segments(text), Frames()
+    segments, frames = Segments(text, given), Frames()
     names.write("sequence,name\n")
     descriptors = Descriptors(given, segments, names)
     read(given.log, frames, descriptors)
     segments.finish()
     if not descriptors.counts:
         raise Fault(None, f"{given.log}: no call in it opens or closes a descriptor")
+    if given.number is not None:
+        descriptors.notes.add("further", logs.further(segments.number))
     return frames.names, descriptors.notes
 
 

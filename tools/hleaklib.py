@@ -5,6 +5,8 @@ import subprocess
 import sys
 
 BAD_INPUT, UNREADABLE = 3, 5  # the statuses of hleak for them
+PIPE_BYTES = 1 << 16  # that a pipe holds
+MOST_DIGITS = 20  # of a sequence
 
 
 class Fault(Exception):
@@ -17,6 +19,10 @@ def name_of(frame, with_offset=True):
         return frame["address"]
     offset = f"+0x{frame['offset']:x}" if frame["offset"] and (with_offset or not frame["name"]) else ""
     return f"{frame['module']}!{frame['name']}{offset}"
+
+
+def is_sequence(text):
+    return text.isascii() and text.isdigit() and len(text) <= MOST_DIGITS
 
 
 def lines_of(path):
@@ -59,8 +65,7 @@ class Dialogue:
     """`hleak ask` over files, which it reads once."""
 
     def __init__(self, program, words):
-        pipes = {"stdin": subprocess.PIPE, "stdout": subprocess.PIPE, "encoding": "utf-8"}
-        self.hleak = subprocess.Popen([program, "ask", *words], **pipes)
+        self.hleak = subprocess.Popen([program, "ask", *words], stdin=subprocess.PIPE, stdout=subprocess.PIPE, bufsize=PIPE_BYTES)
 
     def __enter__(self):
         return self
@@ -72,11 +77,12 @@ class Dialogue:
         self.hleak.wait()
 
     def lines(self, question):
-        """The lines of an answer in JSON, one by one. All have to be taken before the next question."""
+        """The lines of an answer in JSON, one by one, as bytes. All have to be taken before the next question."""
         with contextlib.suppress(BrokenPipeError):
-            print(question, "--json", file=self.hleak.stdin, flush=True)
+            self.hleak.stdin.write(f"{question} --json\n".encode())
+            self.hleak.stdin.flush()
         for line in self.hleak.stdout:
-            if line == "\n":  # ends the answer
+            if line == b"\n":  # ends the answer
                 return
             yield line
         raise Ended(self.hleak.wait())

@@ -146,10 +146,15 @@ def first_number(given):
     return given.number or 0
 
 
+def further(number):
+    """Says which number a further log of the trace begins with."""
+    return f"a further log of this trace goes on with --number {number}"
+
+
 def notes_of_trace(given, runs):
-    """Says which number a further log of the trace begins with, where several seem to be wanted."""
+    """The same where several logs seem to be wanted."""
     if given.number is not None:
-        yield f"a further log of this trace goes on with --number {given.number + len(runs)}"
+        yield further(given.number + len(runs))
 
 
 def arguments_of_log(about):

@@ -35,20 +35,20 @@ class Material:
         points = next(iter(self.growth.values()), [(0, 0)])
         self.first, self.last = points[0][0], points[-1][0]
         moments = trace.moments(self.first, self.last) if self.leaking else []
-        self.moments = [(moment, trace.sites_at(moment)) for moment in moments]
+        self.moments = [(moment, trace.counts_at(moment)) for moment in moments]
         self.findings = []
 
     def points_of(self, site):
         """How many handles a site had as of each moment, and has now."""
-        return [*((moment, sites.count_of(site.names)) for moment, sites in self.moments), (self.last, site.count)]
+        return [*((moment, counts[site.names]) for moment, counts in self.moments), (self.last, site.count)]
 
     def middle(self):
-        """The moment in the middle, and the sites as of it."""
+        """The moment in the middle, and how many handles the stacks had as of it."""
         return self.moments[len(self.moments) // 2]
 
     def growth_of(self, site):
         """How many more handles a site has than in the middle."""
-        return site.count - self.middle()[1].count_of(site.names) if self.moments else 0
+        return site.count - self.middle()[1][site.names] if self.moments else 0
 
     def known(self):
         """The sites that the list of known ones has."""

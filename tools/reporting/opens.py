@@ -1,7 +1,7 @@
 """A table of what opens were of: CSV of a first line `sequence,name`, and then a line for each open."""
 import csv
 
-from hleaklib import Fault, lines_of
+from hleaklib import Fault, is_sequence, lines_of
 
 HEADER = ["sequence", "name"]
 
@@ -23,7 +23,7 @@ def names_of(path):
 
 def checked(row, names, place):
     """The fields of a row, of which the first is a sequence that no row before has."""
-    if len(row) != 2 or not (row[0].isascii() and row[0].isdigit()):
+    if len(row) != 2 or not is_sequence(row[0]):
         raise Fault(place, "not a sequence in decimal and a name")
     if int(row[0]) in names:
         raise Fault(place, f"the sequence {int(row[0])} stands twice")

@@ -67,7 +67,7 @@ def bad_of(material, row, room, bad):
 
     def stack(site):
         handles = site.keys.most_common(MOST_LISTED)
-        items = [element("li", element("b", handle), f" {counted(times, 'time')}") for handle, times in handles]
+        items = [element("li", element("b", handle.decode()), f" {counted(times, 'time')}") for handle, times in handles]
         numbers = f"{site.count:,}", counted(len(site.keys), "handle")
         return stack_of(numbers, lines.of(site.names), calls_of_site(site), listed("Handles", items, len(site.keys)))
 

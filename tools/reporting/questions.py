@@ -1,4 +1,7 @@
 """What a report asks about a trace: the questions, and what of their answers it takes."""
+import collections
+import re
+
 from hleaklib import Fault
 
 from .sites import Rows, Sites
@@ -7,6 +10,10 @@ MOST_PROCESSES = 1000  # whose stacks are asked for, those with most open handle
 MOST_QUESTIONS = 48  # on how many handles stacks had at moments, while each process is asked by itself
 MOST_HANDLES = 1000  # of a process that are looked at one by one
 POINTS = 100  # of the curve of a process
+
+# Rows before their stacks, of the answers that have most rows.
+LEAK = re.compile(rb'{"handles":(\d+)$')
+BAD = re.compile(rb'{"event":"BAD REF","handle":"(0x[0-9a-f]+)","times":(\d+)$')
 
 
 class Trace:
@@ -60,7 +67,7 @@ class Trace:
             return []
         after = "" if since is None else f" --since {since}"
         _, lines = self.lines(f"leaks --process {process['process']}{after}{self.as_of(until)}")
-        return [(row["stack"], row["handles"]) for row in map(self.rows, lines)]
+        return [(stack, int(LEAK.match(head)[1])) for head, stack in map(self.rows.parted, lines)]
 
     def sites_of(self, process):
         """The stacks of a process with open handles. If these are looked at one by one and are not too many, they tell the stacks too."""
@@ -86,13 +93,13 @@ class Trace:
             sites.add_all(self.sites_of(process))
         return sites
 
-    def sites_at(self, moment):
-        """The same as of a moment, of the processes that have open handles in the end."""
-        sites = Sites()
+    def counts_at(self, moment):
+        """How many handles the stacks with each names had as of a moment, in the processes that have open handles in the end."""
+        counts = collections.Counter()
         for process in self.asked():
             for stack, handles in self.leaks(process, moment):
-                sites.add(stack, process["process"], handles)
-        return sites
+                counts[stack.names] = counts.get(stack.names, 0) + handles
+        return counts
 
     def growth(self, process):
         """How many handles of a process were open as of each of many moments, from the first sequence on."""
@@ -120,8 +127,9 @@ class Trace:
         """The stacks that used handles which weren't open, and how often they used each."""
         sites = Sites()
         _, lines = self.lines(f"bad --process {process['process']}{self.as_of(self.until)}")
-        for row in map(self.rows, lines):
-            sites.add(row["stack"], row["handle"], row["times"])
+        for head, stack in map(self.rows.parted, lines):
+            handle, times = BAD.match(head).groups()
+            sites.add(stack, handle, int(times))
         return sites
 
     def tags(self, number):

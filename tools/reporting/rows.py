@@ -1,5 +1,6 @@
 """Stacks as a page shows them: a line that opens by a click, and within it the calls, the handles and what these are of."""
 import collections
+import json
 
 from hleaklib import name_of
 
@@ -62,8 +63,8 @@ def calls_of_site(site):
     """The calls of a site. Where its stacks differ in how far within their functions the calls are, each stands within."""
     if not site.names:
         return calls_of(())
-    stacks = site.stacks.most_common()
-    lists = [element("ol", *map(frame_of, stack.frames)) for stack, _ in stacks[:MOST_STACKS]]
+    stacks = site.texts().most_common()
+    lists = [element("ol", *map(frame_of, json.loads(text))) for text, _ in stacks[:MOST_STACKS]]
     if len(stacks) == 1:
         return lists[0]
     head = element("summary", f"{counted(len(stacks), 'stack')} with these names, by their addresses")

@@ -1,12 +1,17 @@
 """Stacks by the names of their calls: those of many rows of answers, added up, and the call that tells each from the others."""
 import collections
 import functools
+import itertools
 import json
+import re
 import sys
 
 from hleaklib import name_of
 
-MOST_STACKS = 20_000  # that are kept to be found again
+MOST_STACKS, MOST_FRAMES = 20_000, 500_000  # that are kept to be found again
+
+# How the JSON of a stack begins, and what stands before each next frame. Within a string the quotes would be escaped.
+FIRST, NEXT = b'[{"address":"', b'},{"address":"'
 
 # Modules whose calls say little about who leaks: of Windows, in its kernel and in its programs, and of Linux.
 SYSTEM = (
@@ -15,6 +20,8 @@ SYSTEM = (
 )
 
 
+# How the debugger calls a module of a name that another one has too, as the ntdll of 32-bit programs: ntdll_77dc0000.
+BASE = re.compile(r"_[0-9a-f]{8,16}$")
 # What the line of a stack shows of its calls: at most one each.
 Line = collections.namedtuple("Line", "before telling caller")
 
@@ -22,39 +29,52 @@ Line = collections.namedtuple("Line", "before telling caller")
 class Stack:
     """A stack as an answer in JSON has it, and the names of its calls, without how far within its function each call is."""
 
-    def __init__(self, text):
-        self.text = text
-        self.names = tuple(sys.intern(name_of(frame, False)) for frame in self.frames)
+    __slots__ = ("text", "names")
 
-    @property
-    def frames(self):
-        return json.loads(self.text)
+    def __init__(self, text, names):
+        self.text, self.names = text, names
 
-    def __eq__(self, other):
-        return self.text == other.text
 
-    def __hash__(self):
-        return hash(self.text)
+class Names(dict):
+    """The name of each frame by its JSON behind FIRST. Most frames are in many stacks, and each is read once."""
+
+    def __missing__(self, text):
+        name = self[text] = sys.intern(name_of(json.loads(FIRST[1:] + text + b"}"), False))
+        return name
+
+    def of(self, text):
+        """The names of the calls of a stack."""
+        frames = text[len(FIRST) : -2].split(NEXT) if text != b"[]" else ()
+        return tuple(map(self.__getitem__, frames))
 
 
 class Rows:
     """Reads rows of answers in JSON. A stack that comes again, as most do, is not read again."""
 
     def __init__(self):
-        self.stacks = {}
+        self.stacks, self.names = {}, Names()
 
     def __call__(self, line):
-        head, behind, text = line.partition(',"stack":')  # (the last field; within a string its quotes are escaped)
-        if not behind:
+        """The fields of a row."""
+        if b',"stack":' not in line:
             return json.loads(line)
-        row = json.loads(head + "}")
-        row["stack"] = self.stacks.get(text) or self.read(text)
+        head, stack = self.parted(line)
+        row = json.loads(head + b"}")
+        row["stack"] = stack
         return row
+
+    def parted(self, line):
+        """The JSON of a row before its stack, and the stack. (It is the last field, and within a string its quotes would be escaped.)"""
+        head, _, text = line.partition(b',"stack":')
+        return head, self.stacks.get(text) or self.read(text)
 
     def read(self, text):
         if len(self.stacks) >= MOST_STACKS:
             self.stacks.clear()
-        stack = self.stacks[text] = Stack(text.rstrip()[:-1])
+        if len(self.names) >= MOST_FRAMES:
+            self.names.clear()
+        own = text.rstrip()[:-1]
+        stack = self.stacks[text] = Stack(own, self.names.of(own))
         return stack
 
 
@@ -69,12 +89,19 @@ class Site:
     def count(self):
         return sum(self.keys.values())
 
+    def texts(self):
+        """How often each stack comes, by its JSON."""
+        texts = collections.Counter()
+        for stack, count in self.stacks.items():
+            texts[stack.text] += count
+        return texts
+
 
 class Sites:
     """The sites of a list, by their names."""
 
     def __init__(self):
-        self.sites = {}
+        self.sites, self.site_of = {}, {}
 
     def site(self, names):
         if names not in self.sites:
@@ -82,9 +109,12 @@ class Sites:
         return self.sites[names]
 
     def add(self, stack, key, count):
-        site = self.site(stack.names)
-        site.stacks[stack] += count
-        site.keys[key] += count
+        site = self.site_of.get(stack)
+        if site is None:
+            site = self.site_of[stack] = self.site(stack.names)
+        stacks, keys = site.stacks, site.keys
+        stacks[stack] = stacks.get(stack, 0) + count  # (a += would ask the counter for what it hasn't, which takes longer)
+        keys[key] = keys.get(key, 0) + count
 
     def add_all(self, others):
         """Adds the sites of another list."""
@@ -92,9 +122,6 @@ class Sites:
             site = self.site(other.names)
             site.stacks.update(other.stacks)
             site.keys.update(other.keys)
-
-    def count_of(self, names):
-        return self.sites[names].count if names in self.sites else 0
 
     def greatest(self, but=frozenset()):
         """All but those of some names, the greatest counts first, and then by their names."""
@@ -104,7 +131,13 @@ class Sites:
 def tester_of(modules):
     """Tells whether a call is of one of these modules, of which the letters may be of either case."""
     system = {module.strip().lower() for module in modules.split(",")}
-    return functools.lru_cache(None)(lambda name: "!" in name and name.partition("!")[0].lower() in system)
+
+    @functools.lru_cache(None)
+    def is_system(name):
+        module, mark, _ = name.partition("!")
+        return bool(mark) and (module.lower() in system or BASE.sub("", module.lower()) in system)
+
+    return is_system
 
 
 def depths_of(paths):
@@ -136,8 +169,8 @@ def told_apart(stacks, is_system):
 
 def path_of(names, shared, is_system):
     """The calls that a line shows: neither the system's nor those that all stacks have, but where there are no others."""
-    own = tuple(name for name in names if not is_system(name)) or names
-    return tuple(name for name in own if name not in shared) or own
+    own = tuple(itertools.filterfalse(is_system, names)) or names
+    return tuple(itertools.filterfalse(shared.__contains__, own)) or own
 
 
 def line_of(path, at, other):

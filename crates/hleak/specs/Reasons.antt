@@ -17,7 +17,7 @@ reason_of_kind kinds.NotFound = NotThere
 reason_of_kind kinds.NotADirectory = NotThere
 reason_of_kind kinds.PermissionDenied = NotAllowed
 reason_of_kind kinds.IsADirectory = Folder
-reason_of_kind other = Unknown
+reason_of_kind kind = Unknown
 
 abbrev pub reason_of : Error → Reason
 reason_of error = if is_too_many (raw_os_error error) then TooManyOpen else reason_of_kind (error_kind error)

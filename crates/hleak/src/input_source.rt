@@ -1,11 +1,13 @@
 //! The inputs of the program as sources, of which several workers may read parts.
 
-ghost use Rattle.std.specs.Prelude.{◌≡◌, false, is_some};
+ghost use Rattle.std.specs.Prelude.{◌≡◌, is_some};
+ghost use Rattle.htl_device.specs.States.{fresh};
 ghost use Rattle.hleak.specs.Inputs.{unread_file};
 
 use crate::input::{Device, Input};
 use htl_device::{Failed, Parted, Reading, Source};
 use std::fs::File;
+use std::io::Read;
 
 /// An input of the program as a source.
 #[derive(Drop)]
@@ -17,8 +19,8 @@ impl<'a> InputSource<'a> {
     /// The input as a source that was not read yet.
     pub fn new(input: Input<'a, Device>) -> InputSource<'a>
         ensures input { result.reading.reader ≡ input.entry }
-        ensures fresh { ⟦<InputSource<'a> as Source>⟧.has_failed result ≡ false }
-        ensures inside { ⟦<InputSource<'a> as Source>⟧.has_ended result ≡ false }
+        ensures state { ⟦<InputSource<'a> as Source>⟧.state result
+            ≡ fresh (⟦<Input<'a, Device> as Read>⟧.remaining input.entry) }
     {
         InputSource {
             reading: Reading::new(input),
@@ -27,13 +29,7 @@ impl<'a> InputSource<'a> {
 }
 
 impl<'a> Source for InputSource<'a> {
-    ghost remaining = { λ s. ⟦<Reading<Input<'a, Device>> as Source>⟧.remaining s.reading };
-
-    ghost has_failed = { λ s. ⟦<Reading<Input<'a, Device>> as Source>⟧.has_failed s.reading };
-
-    ghost good_reads = { λ s. ⟦<Reading<Input<'a, Device>> as Source>⟧.good_reads s.reading };
-
-    ghost has_ended = { λ s. ⟦<Reading<Input<'a, Device>> as Source>⟧.has_ended s.reading };
+    ghost state = { λ s. ⟦<Reading<Input<'a, Device>> as Source>⟧.state s.reading };
 
     fn ended(&self) -> bool {
         self.reading.ended()

@@ -57,11 +57,12 @@ impl<'p> Machine<'p> {
 impl<'p> World for Machine<'p> {
     type Input = InputSource<'p>;
 
-    ghost holds = { λ _ _. None };
-
-    ghost is_absent = { λ _ _. false };
-
-    ghost standard = { λ _. None };
+    // Nothing is known of it.
+    ghost known = { λ _. record {
+      holds = λ _. None;
+      is_absent = λ _. false;
+      standard = None;
+    } };
 
     fn open(&self, name: &str) -> Result<InputSource<'p>, OpenFault> {
         self.await_writer(name);

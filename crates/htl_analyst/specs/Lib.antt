@@ -6,6 +6,7 @@ pub mod Same
 pub mod Refusals
 pub mod Steps
 pub mod Moments
+pub mod Calls
 pub mod Compactions
 pub mod TakenEvents
 pub mod TakenAll

@@ -1,5 +1,5 @@
 //! Laws of analysts that are right about one trace. Each function's contract is the law; none does
-//! anything when it runs. `take_twice` shows what a caller knows by the clauses of `take` alone.
+//! anything when it runs. `take_twice` shows what a caller knows by the contract of `take` alone.
 
 ghost use Rattle.std.specs.Prelude.{◌≡◌, ◌≤◌, ◌+◌};
 ghost use Rattle.htl_analyst.specs.Keys.{number_taken};

@@ -11,36 +11,16 @@ use htl_taken::Taken;
 use std::alloc::Allocator;
 
 impl<A: Allocator + Clone> Analyst<A> {
-    ghost use Rattle.std.specs.Prelude.{◌≡◌, ◌↔◌, ◌⊎◌, ◌<◌, ℕ, IfOk, IfErr, OnOk, OnErr};
-    ghost use Rattle.htl_segment.specs.Traces.{Trace};
+    ghost use Rattle.std.specs.Prelude.{◌≡◌, ◌<◌, IfOk, IfErr};
     ghost use Rattle.htl_taken.specs.Numbers.{front_at};
     ghost use Rattle.htl_analyst.specs.States.{folded_at};
-    ghost use Rattle.htl_analyst.specs.Keys.{HasTaken};
-    ghost use Rattle.htl_analyst.specs.Right.{IsRight};
-    ghost use Rattle.htl_analyst.specs.Refusals.{MergeRefused, MergeAccepted};
-    ghost use Rattle.htl_analyst.specs.Moments.{NeverFalls};
-    ghost use Rattle.htl_analyst.specs.Steps.{IsMerge};
+    ghost use Rattle.htl_analyst.specs.Calls.{Merges, without_return};
     ghost use Rattle.htl_analyst.specs.StepParts.{AreGreaterOf};
 
     /// Takes in all that the other analyst has taken. What that one has folded further is copied,
     /// and the segments that it holds are shared. All allocations come before the first change.
     pub fn merge(&mut self, other: &Analyst<A>) -> Result<(), MergeFault>
-        ensures merged { OnOk result (IsMerge self.old other.now self.new) }
-        ensures keys { OnOk result ((p n : ℕ) → HasTaken self.new p n
-            ↔ (HasTaken self.old p n ⊎ HasTaken other.now p n)) }
-
-        ensures accepted { OnOk result (MergeAccepted self.old other.now) }
-        ensures refused { IfErr result (λ fault. MergeRefused self.old other.now fault) }
-        ensures err { OnErr result (self.new ≡ self.old) }
-
-        // States that are right about one trace.
-        ensures right { OnOk result ((T : Trace) → IsRight self.old T → IsRight other.now T
-            → IsRight self.new T) }
-        ensures lawful { IfErr result (λ fault. (T : Trace)
-            → IsRight self.old T → IsRight other.now T
-            → fault ≡ MergeFault.NoMemory) }
-        ensures never_falls { OnOk result ((T : Trace) → IsRight self.old T → IsRight other.now T
-            → NeverFalls self.old self.new) }
+        ensures { Merges self.old other.now self.new result }
     {
         let (taken, mut incoming) = self.union_of(other)?;
         let mut theirs = self.greater_of(other)?;
@@ -60,21 +40,8 @@ impl<A: Allocator + Clone> Analyst<A> {
     /// Takes in all that the other analyst has taken, as `merge` does. What that one has folded is
     /// moved. A refusal hands the other back.
     pub fn absorb(&mut self, other: Analyst<A>) -> Result<(), (MergeFault, Analyst<A>)>
-        ensures merged { OnOk result (IsMerge self.old other self.new) }
-        ensures keys { OnOk result ((p n : ℕ) → HasTaken self.new p n
-            ↔ (HasTaken self.old p n ⊎ HasTaken other p n)) }
-
-        ensures accepted { OnOk result (MergeAccepted self.old other) }
-        ensures refused { IfErr result (λ e. MergeRefused self.old other e.0) }
-        ensures err { IfErr result (λ e. (self.new ≡ self.old) × (e.1 ≡ other)) }
-
-        // States that are right about one trace.
-        ensures right { OnOk result ((T : Trace) → IsRight self.old T → IsRight other T
-            → IsRight self.new T) }
-        ensures lawful { IfErr result (λ e. (T : Trace) → IsRight self.old T → IsRight other T
-            → e.0 ≡ MergeFault.NoMemory) }
-        ensures never_falls { OnOk result ((T : Trace) → IsRight self.old T → IsRight other T
-            → NeverFalls self.old self.new) }
+        ensures merges { Merges self.old other self.new (without_return result) }
+        ensures back { IfErr result (λ e. e.1 ≡ other) }
     {
         match self.union_of(&other) {
             Err(fault) => Err((fault, other)),

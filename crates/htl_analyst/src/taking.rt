@@ -8,43 +8,24 @@ use htl_segment::Segment;
 use std::alloc::Allocator;
 
 impl<A: Allocator> Analyst<A> {
-    ghost use Rattle.std.specs.Prelude.{◌≡◌, ◌≢◌, ◌↔◌, ◌⊎◌, ◌<◌, ◌+◌, ℕ, IfOk, IfErr};
+    ghost use Rattle.std.specs.Prelude.{◌≡◌, ◌≢◌, ◌↔◌, ◌<◌, ℕ, IfOk, IfErr};
     ghost use Rattle.std.specs.Prelude.{IfSome, IfNone, OnOk, Contains};
     ghost use Rattle.htl_segment.specs.Content.{Content, Fits};
-    ghost use Rattle.htl_segment.specs.Traces.{Trace};
     ghost use Rattle.htl_taken.specs.Numbers.{front_at, loose_at};
     ghost use Rattle.htl_analyst.specs.States.{held_at};
-    ghost use Rattle.htl_analyst.specs.Keys.{HasTaken, number_taken};
-    ghost use Rattle.htl_analyst.specs.Right.{IsState, IsRight};
+    ghost use Rattle.htl_analyst.specs.Keys.{HasTaken};
+    ghost use Rattle.htl_analyst.specs.Right.{IsState};
     ghost use Rattle.htl_analyst.specs.Refusals.{TakeRefused, TakeAccepted, IsOfState};
-    ghost use Rattle.htl_analyst.specs.Steps.{with_segment, taken_as};
-    ghost use Rattle.htl_analyst.specs.Moments.{NeverFalls};
+    ghost use Rattle.htl_analyst.specs.Steps.{with_segment};
+    ghost use Rattle.htl_analyst.specs.Calls.{Takes, without_return};
 
     /// Takes a segment. A segment whose key was taken is a repeat. A new one is held, whatever its
     /// number. A refusal hands the segment back. Memory is asked for only where the segment is new.
     pub fn take(&mut self, segment: Segment) -> Result<Took, (TakeFault, Segment)>
-        ensures keys { OnOk result ((p n : ℕ) → HasTaken self.new p n
-            ↔ (HasTaken self.old p n ⊎ ((p ≡ segment.processor) × (n ≡ segment.number)))) }
-        ensures new { IfOk result (λ took. (took ≡ Took.New)
-            ↔ (HasTaken self.old segment.processor segment.number → ⊥)) }
-        ensures state { IfOk result (λ took. self.new ≡ taken_as took self.old segment) }
-        ensures one_more { IfOk result (λ took. took ≡ Took.New
-            → number_taken self.new ≡ number_taken self.old + 1) }
+        ensures takes { Takes self.old segment self.new (without_return result) }
+        ensures back { IfErr result (λ e. e.1 ≡ segment) }
         // What every analyst's state is, so that callers have it too.
         ensures is_state { IsState self.new }
-
-        ensures accepted { OnOk result (TakeAccepted self.old segment) }
-        ensures refused { IfErr result (λ e. TakeRefused self.old segment e.0) }
-        ensures err { IfErr result (λ e. (e.1 ≡ segment) × (self.new ≡ self.old)) }
-
-        // A segment of a trace that the state is right about.
-        ensures right { OnOk result ((T : Trace) → IsRight self.old T → Contains T.segments segment
-            → IsRight self.new T) }
-        ensures lawful { IfErr result (λ e. (T : Trace) → IsRight self.old T
-            → Contains T.segments segment → e.0 ≡ TakeFault.NoMemory) }
-        ensures never_falls { OnOk result ((T : Trace) → IsRight self.old T
-            → Contains T.segments segment
-            → NeverFalls self.old self.new) }
     {
         match self.check_take(&segment) {
             Err(fault) => Err((fault, segment)),

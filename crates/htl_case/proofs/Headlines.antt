@@ -9,7 +9,7 @@ use Rattle.htl_segment.specs.Content.{Content}
 use Rattle.htl_segment.specs.Traces.{Trace}
 use Rattle.htl_analyst.specs.States.{State}
 use Rattle.htl_analyst.specs.Keys.{keys}
-use Rattle.htl_analyst.specs.Right.{IsRight, KeysAreIn}
+use Rattle.htl_analyst.specs.Right.{IsRight, KeysAreIn, IsBelow}
 use Rattle.htl_analyst.specs.Same.{IsSame}
 use Rattle.htl_analyst.specs.Steps.{new_state, with_segment, IsMerge}
 use Rattle.htl_analyst.specs.declared.fault.Took.TheVariants.{New, Repeat}
@@ -49,6 +49,12 @@ equal T S a b ra rb ca cb =
     (leaves_standing T ra.trace ra.history a ra.leaves ca) (leaves_standing T rb.trace rb.history b rb.leaves cb)
     (within S a b (keys_are T S a ra) (keys_are T S b rb)) (within S b a (keys_are T S b rb) (keys_are T S a ra))
 
+below_both_ways : (T : Trace) (S R : ℕ → ℕ → Bool) (a b : State) (ra : IsReachedBy T S a) (rb : IsReachedBy T R b)
+    → IsCompacted ra.history → IsCompacted rb.history → IsBelow T a b → IsBelow T b a → IsSame a b
+below_both_ways T S R a b ra rb ca cb up down =
+    laws.equal_once_compacted T a b ra.trace
+    (leaves_standing T ra.trace ra.history a ra.leaves ca) (leaves_standing T rb.trace rb.history b rb.leaves cb) up.keys down.keys
+
 united : (T : Trace) (S R : ℕ → ℕ → Bool) (a b c : State) → IsReachedBy T S a → IsReachedBy T R b → IsMerge a b c
     → (p n : ℕ) → keys c p n ≡ (S p n || R p n)
 united T S R a b c ra rb merge p n =
@@ -71,6 +77,7 @@ the_headline = record {
       let least = laws.least T a b c (is_right T S a ra) (is_right T R b rb) merge in (least.left, least.right);
   least = λ T S R a b c d ra rb merge.
       (laws.least T a b c (is_right T S a ra) (is_right T R b rb) merge).least d;
+  below_both_ways = below_both_ways;
 }
 
 -- ---- any segments can be taken

@@ -40,6 +40,9 @@ pub record Headline : Type 0 where
       → IsBelow T a c × IsBelow T b c
   pub least : (T : Trace) (S R : ℕ → ℕ → Bool) (a b c d : State) → IsReachedBy T S a → IsReachedBy T R b → IsMerge a b c
       → IsBelow T a d → IsBelow T b d → IsBelow T c d
+  -- 6. Compacted analysts each of which is below the other are equal.
+  pub below_both_ways : (T : Trace) (S R : ℕ → ℕ → Bool) (a b : State) (ra : IsReachedBy T S a) (rb : IsReachedBy T R b)
+      → IsCompacted ra.history → IsCompacted rb.history → IsBelow T a b → IsBelow T b a → IsSame a b
 
 -- ---- that there are such analysts
 

@@ -1,4 +1,5 @@
 -- What public contracts cite.
+pub mod States
 pub mod Devices
 pub mod Failures
 

@@ -1,7 +1,8 @@
 //! Sources that several workers may read at once.
 
-ghost use Rattle.std.specs.Prelude.{◌≡◌, ◌≤◌, ◌⊎◌, Bool, IfSome, OnSome, false, length, true};
+ghost use Rattle.std.specs.Prelude.{◌≡◌, ◌⊎◌, Bool, IfSome, OnSome, false, length, true};
 ghost use Rattle.htl_device.specs.Devices.{tail_of};
+ghost use Rattle.htl_device.specs.States.{IsOpen, IsSkipped};
 
 use crate::{Reading, Source};
 use std::io::{Empty, Read};
@@ -18,24 +19,20 @@ pub trait Parted: Source {
     /// The number of bytes that are left, if it can be read from several places.
     fn len(&self) -> Option<u64>
         ensures parted { OnSome result (is_parted self.now ≡ true) }
-        ensures len { IfSome result (λ len. IfSome (Self.remaining self.now)
+        ensures len { IfSome result (λ len. IfSome (Self.state self.now).remaining
             (λ bytes. length bytes ≡ len)) };
 
     /// Another reader, of the bytes that are left from an offset on.
     fn tail(&self, offset: u64) -> Option<Self::Tail>
         ensures { IfSome result (λ tail.
-            Self.Tail.remaining tail ≡ tail_of offset (Self.remaining self.now)) };
+            Self.Tail.remaining tail ≡ tail_of offset (Self.state self.now).remaining) };
 
     /// Skips the next bytes, which were read by other readers. A source that can't be read from
     /// several places skips none.
     fn skip(&mut self, len: u64)
         requires parted { (len ≡ 0) ⊎ (is_parted self.old ≡ true) }
-        requires fresh { Self.has_failed self.old ≡ false }
-        requires inside { Self.has_ended self.old ≡ false }
-        ensures bytes { Self.remaining self.new ≡ tail_of len (Self.remaining self.old) }
-        ensures fresh { Self.has_failed self.new ≡ false }
-        ensures inside { Self.has_ended self.new ≡ false }
-        ensures counts { Self.good_reads self.new ≤ Self.good_reads self.old };
+        requires ready { IsOpen (Self.state self.old) }
+        ensures { IsSkipped len (Self.state self.old) (Self.state self.new) };
 }
 
 /// A reader of std is read from one place.

@@ -1,11 +1,11 @@
 //! Sinks of bytes.
 
-ghost use Rattle.std.specs.Prelude.{◌≡◌, ◌≢◌, ◌≤◌, ℕ, Bool, List, Option, None, Some, false, length};
+ghost use Rattle.std.specs.Prelude.{◌≡◌, ◌≢◌, ◌≤◌, Some, false, length};
 ghost use Rattle.std.specs.Prelude.{is_some, IfErr, IfOk, true};
 ghost use Rattle.std.specs.Io.KnownBytes.{WriteAppends};
 ghost use Rattle.std.specs.IoError.{error_kind};
-ghost use Rattle.htl_device.specs.Devices.{write_fails};
 ghost use Rattle.htl_device.specs.Failures.{is_broken_pipe};
+ghost use Rattle.htl_device.specs.States.{IsWritten, SinkState};
 
 use crate::Failed;
 use std::io;
@@ -13,18 +13,13 @@ use std::io::{ErrorKind, Write};
 
 /// A sink of bytes, which are written one after the other.
 pub trait Sink {
-    // The bytes that the sink holds, where they are known.
-    ghost contents: { Self → Option (List ℕ) } = { λ _. None };
-
-    // Whether a write has failed, or was given bytes and took none. It stays so.
-    ghost has_failed: { Self → Bool };
+    // What is known of the sink.
+    ghost state: { Self → SinkState };
 
     /// Takes some of the bytes from their front, and gives their number. No write follows a failed one.
     fn write(&mut self, bytes: &[u8]) -> Result<usize, Failed>
-        requires { has_failed self.old ≡ false }
-        ensures bound { IfOk result (λ n. n ≤ length bytes.now) }
-        ensures bytes { WriteAppends (contents self.old) (contents self.new) result bytes.now }
-        ensures fails { has_failed self.new ≡ write_fails result bytes.now };
+        requires { (state self.old).failed ≡ false }
+        ensures { IsWritten (state self.old) (state self.new) bytes.now result };
 }
 
 /// A writer of std as a sink. A write that a signal interrupts is no failure: it is tried again.
@@ -38,8 +33,8 @@ pub struct Writing<W> {
 impl<W: Write> Writing<W> {
     /// A sink that has not failed, and has the bytes that the writer has.
     pub fn new(writer: W) -> Writing<W>
-        ensures fresh { ⟦<Writing<W> as Sink>⟧.has_failed result ≡ false }
-        ensures bytes { ⟦<Writing<W> as Sink>⟧.contents result ≡ W.contents writer }
+        ensures { ⟦<Writing<W> as Sink>⟧.state result
+            ≡ record { failed = false; contents = W.contents writer } }
     {
         Writing {
             writer,
@@ -50,23 +45,19 @@ impl<W: Write> Writing<W> {
     /// Whether a write failed because nobody reads the pipe any more.
     pub fn is_pipe_broken(&self) -> bool
         ensures is { result ≡ is_broken_pipe self.now.failure }
-        ensures failed { result ≡ true → ⟦<Writing<W> as Sink>⟧.has_failed self.now ≡ true }
+        ensures failed { result ≡ true → (⟦<Writing<W> as Sink>⟧.state self.now).failed ≡ true }
     {
         matches!(self.failure, Some(ErrorKind::BrokenPipe))
     }
 }
 
 impl<W: Write> Sink for Writing<W> {
-    ghost contents = { λ s. W.contents s.writer };
-
-    ghost has_failed = { λ s. is_some s.failure };
+    ghost state = { λ s. record { failed = is_some s.failure; contents = W.contents s.writer } };
 
     fn write(&mut self, bytes: &[u8]) -> Result<usize, Failed>
         requires { is_some self.old.failure ≡ false }
-        ensures bound { IfOk result (λ n. n ≤ length bytes.now) }
-        ensures bytes { WriteAppends (W.contents self.old.writer) (W.contents self.new.writer) result
-            bytes.now }
-        ensures fails { is_some self.new.failure ≡ write_fails result bytes.now }
+        ensures state { IsWritten (⟦<Writing<W> as Sink>⟧.state self.old)
+            (⟦<Writing<W> as Sink>⟧.state self.new) bytes.now result }
         ensures retried { self.new.failure ≢ Some ErrorKind.Interrupted }
     {
         match write_uninterrupted(&mut self.writer, bytes) {

@@ -1,9 +1,10 @@
 //! Whole texts, read or written by as many calls as it takes.
 
 ghost use Rattle.std.specs.Prelude.{◌≡◌, ◌<◌, ◌≤◌, ◌+◌, ℕ, List, Option, false, length};
-ghost use Rattle.std.specs.Prelude.{is_err, IfOk, OnOk, OnErr};
-ghost use Rattle.std.specs.Io.KnownBytes.{Appends, Consumes};
-ghost use Rattle.htl_device.specs.Devices.{AppendsPrefix, ReadsWhole};
+ghost use Rattle.std.specs.Prelude.{IfOk};
+ghost use Rattle.std.specs.Io.KnownBytes.{Consumes};
+ghost use Rattle.htl_device.specs.Devices.{ReadsWhole, WritesWhole};
+ghost use Rattle.htl_device.specs.States.{IsOpen};
 
 use crate::source::{MAX_READ_LEN, MIN_READ_LEN};
 use crate::{Failed, Sink, Source};
@@ -11,10 +12,8 @@ use std::alloc::{AllocError, Global};
 
 /// Writes the whole text, or some first part of it if the sink fails.
 pub fn write_whole<W: Sink>(out: &mut W, text: &[u8]) -> Result<(), Failed>
-    requires { W.has_failed out.old ≡ false }
-    ensures ok { OnOk result (Appends (W.contents out.old) (W.contents out.new) text.now) }
-    ensures err { OnErr result (AppendsPrefix (W.contents out.old) (W.contents out.new) text.now) }
-    ensures failed { W.has_failed out.new ≡ is_err result }
+    requires { (W.state out.old).failed ≡ false }
+    ensures { WritesWhole (W.state out.old) (W.state out.new) text.now result }
 {
     let mut sent = 0;
     while sent < text.len() {
@@ -54,21 +53,19 @@ pub const MAX_READS: u64 = 4_294_967_296;
 /// may still find the end, and a source that gives bytes at each of them has failed. Memory is asked
 /// for once some bytes came, and no more once the end was found.
 pub fn read_whole<R: Source>(alloc: Global, source: &mut R) -> Result<Vec<u8>, ReadFault>
-    requires fresh { R.has_failed source.old ≡ false }
-    requires inside { R.has_ended source.old ≡ false }
-    ensures { ReadsWhole MAX_READS R.has_failed R.has_ended R.good_reads R.remaining
-        (R.remaining source.old) source.old source.new result }
+    requires { IsOpen (R.state source.old) }
+    ensures { ReadsWhole MAX_READS (R.state source.old).remaining (R.state source.old)
+        (R.state source.new) result }
 {
     read_within(alloc, source, MAX_READS)
 }
 
 /// All bytes of a source. At most `most` reads may give bytes.
 fn read_within<R: Source>(alloc: Global, source: &mut R, most: u64) -> Result<Vec<u8>, ReadFault>
-    requires fresh { R.has_failed source.old ≡ false }
-    requires inside { R.has_ended source.old ≡ false }
+    requires ready { IsOpen (R.state source.old) }
     requires some { 0 < most }
-    ensures { ReadsWhole most R.has_failed R.has_ended R.good_reads R.remaining
-        (R.remaining source.old) source.old source.new result }
+    ensures { ReadsWhole most (R.state source.old).remaining (R.state source.old)
+        (R.state source.new) result }
 {
     let mut first = [0u8; MIN_READ_LEN];
     let Ok(count) = source.read(&mut first) else {
@@ -96,16 +93,15 @@ fn read_on<R: Source>(
     mut bytes: Vec<u8>,
     most: u64,
 ) -> Result<Vec<u8>, ReadFault>
-    requires fresh { R.has_failed source.old ≡ false }
-    requires inside { R.has_ended source.old ≡ false }
+    requires ready { IsOpen (R.state source.old) }
     requires whole { length buffer.old ≡ MAX_READ_LEN }
     requires begun { 0 < length bytes.items }
     requires some { 0 < most }
-    requires counted { 1 ≤ R.good_reads source.old }
-    ensures read { (given : Option (List ℕ)) → Consumes given (R.remaining source.old) bytes.items
-        → ReadsWhole most R.has_failed R.has_ended R.good_reads R.remaining
-        given source.old source.new result }
-    ensures bounded { R.good_reads source.new + 1 ≤ R.good_reads source.old + most }
+    requires counted { 1 ≤ (R.state source.old).good_reads }
+    ensures read { (given : Option (List ℕ))
+        → Consumes given (R.state source.old).remaining bytes.items
+        → ReadsWhole most given (R.state source.old) (R.state source.new) result }
+    ensures bounded { (R.state source.new).good_reads + 1 ≤ (R.state source.old).good_reads + most }
 {
     for _read in 1..most {
         let Ok(count) = source.read(buffer) else {

@@ -3,6 +3,7 @@
 ghost use Rattle.std.specs.Prelude.{◌≡◌, ◌≤◌, ◌⊎◌, [], false, true, length, position, Err};
 ghost use Rattle.std.specs.Prelude.{IfErr, IfOk, IfSome, OnOk};
 ghost use Rattle.std.specs.Io.KnownBytes.{prepend_known};
+ghost use Rattle.htl_device.specs.States.{IsOpen};
 ghost use Rattle.htl_dialogue.specs.Lines.{is_feed};
 ghost use Rattle.htl_dialogue.specs.Reading.{IsBegun, IsNext};
 
@@ -34,6 +35,7 @@ impl Model for ReadAhead {
 impl ReadAhead {
     ghost use Rattle.std.specs.Prelude.{◌≡◌, ◌<◌, [], false, IfOk, OnErr, is_err, length};
     ghost use Rattle.std.specs.Io.KnownBytes.{Consumes, IsAtEnd, Keeps};
+    ghost use Rattle.htl_device.specs.States.{IsOpen};
     ghost use Rattle.htl_dialogue.specs.Reading.{Moves};
 
     /// No bytes, and room for those of a read.
@@ -71,15 +73,14 @@ impl ReadAhead {
     /// Reads more bytes if none are held, and returns how many came.
     fn refill<R: Source>(&mut self, source: &mut R) -> Result<usize, Failed>
         requires empty { self.old ≡ [] }
-        requires fresh { R.has_failed source.old ≡ false }
-        requires inside { R.has_ended source.old ≡ false }
+        requires ready { IsOpen (R.state source.old) }
         ensures ok { IfOk result (λ count. (count ≡ length self.new)
-            × Consumes (R.remaining source.old) (R.remaining source.new) self.new
-            × (count ≡ 0 → IsAtEnd (R.remaining source.new))) }
+            × Consumes (R.state source.old).remaining (R.state source.new).remaining self.new
+            × (count ≡ 0 → IsAtEnd (R.state source.new).remaining)) }
         ensures err { OnErr result ((self.new ≡ [])
-            × Keeps (R.remaining source.old) (R.remaining source.new)) }
-        ensures fails { R.has_failed source.new ≡ is_err result }
-        ensures inside { IfOk result (λ count. 0 < count → R.has_ended source.new ≡ false) }
+            × Keeps (R.state source.old).remaining (R.state source.new).remaining) }
+        ensures fails { (R.state source.new).failed ≡ is_err result }
+        ensures inside { IfOk result (λ count. 0 < count → (R.state source.new).ended ≡ false) }
     {
         self.taken = 0;
         self.read = 0;
@@ -111,19 +112,18 @@ pub fn next_line<R: Source>(
     source: &mut R,
     held: &mut ReadAhead,
 ) -> Result<NextLine, ReadFault>
-    requires fresh { R.has_failed source.old ≡ false }
-    requires inside { R.has_ended source.old ≡ false }
-    ensures ok { IfOk result (IsNext (prepend_known held.old (R.remaining source.old))
-        (prepend_known held.new (R.remaining source.new))) }
-    ensures fine { OnOk result (R.has_failed source.new ≡ false) }
+    requires ready { IsOpen (R.state source.old) }
+    ensures ok { IfOk result (IsNext (prepend_known held.old (R.state source.old).remaining)
+        (prepend_known held.new (R.state source.new).remaining)) }
+    ensures fine { OnOk result ((R.state source.new).failed ≡ false) }
     ensures inside { IfOk result (λ next.
-        next.is_last ≡ false → R.has_ended source.new ≡ false) }
-    ensures reported { R.has_failed source.new ≡ true → result ≡ Err ReadFault.Failed }
-    ensures begun { IfErr result (λ _. IsBegun (prepend_known held.old (R.remaining source.old))
-        (prepend_known held.new (R.remaining source.new))) }
-    ensures all { R.has_failed source.new ≡ true → held.new ≡ [] }
-    ensures failed { result ≡ Err ReadFault.Failed → (R.has_failed source.new ≡ true)
-        ⊎ IfSome (prepend_known held.old (R.remaining source.old)) (λ text.
+        next.is_last ≡ false → (R.state source.new).ended ≡ false) }
+    ensures reported { (R.state source.new).failed ≡ true → result ≡ Err ReadFault.Failed }
+    ensures begun { IfErr result (λ _. IsBegun (prepend_known held.old (R.state source.old).remaining)
+        (prepend_known held.new (R.state source.new).remaining)) }
+    ensures all { (R.state source.new).failed ≡ true → held.new ≡ [] }
+    ensures failed { result ≡ Err ReadFault.Failed → ((R.state source.new).failed ≡ true)
+        ⊎ IfSome (prepend_known held.old (R.state source.old).remaining) (λ text.
         MAX_READS ≤ length text) }
 {
     let mut line = Line::Whole(Vec::new(alloc));

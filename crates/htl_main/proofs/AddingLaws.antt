@@ -5,6 +5,7 @@ use Rattle.std.specs.Prelude.{Contains, slice_get}
 use Rattle.std.proofs.lemmas.List.{length-map, take-append-le, take_all}
 use Rattle.std.proofs.lemmas.List.Elements.{Contains-append_right}
 use Rattle.std.proofs.lemmas.Option.{slice_get_within}
+use Rattle.htl_device.specs.States.{SourceState, remaining}
 use Rattle.htl_event.proofs.Members.{at_member, Contains-cases, Contains-here, Contains-nil, Contains-there}
 use Rattle.htl_segment.specs.Content.{Content}
 use Rattle.htl_segment.specs.Rising.{IsKeyBefore}
@@ -231,19 +232,16 @@ no_write_after given setting fault (inr cause) is =
     not_write given None (job_of setting) fault (cause (job_of setting) refl refl) is
 
 -- they are read as by a run that ends well
-pub reads_after : {R S T : Type 0} (is_text : Bool) (has_failed has_ended : R → Bool) (good_reads : R → ℕ)
-    (remaining : R → Option (List ℕ)) (old new : List R) (value : S) (given : Decoding) (setting : Setting) (fault : RunFault)
-    → AreRead is_text has_failed has_ended good_reads remaining old new (well value) → EndsAfter given setting fault
-    → AreRead is_text has_failed has_ended good_reads remaining old new (ill {S = T} fault)
-reads_after is_text has_failed has_ended good_reads remaining old new value given setting fault read (inl memory) =
-    rw memory (read_then is_text has_failed has_ended good_reads remaining old new value (ill Memory) read (λ at told. cc told)
-    (λ place before. before))
-reads_after is_text has_failed has_ended good_reads remaining old new value given setting fault read (inr cause) =
-    reads_then is_text has_failed has_ended good_reads remaining old new value given None (job_of setting) fault read
+pub reads_after : {S T : Type 0} (is_text : Bool) (old new : List SourceState) (value : S) (given : Decoding) (setting : Setting)
+    (fault : RunFault) → AreRead is_text old new (well value) → EndsAfter given setting fault → AreRead is_text old new (ill {S = T} fault)
+reads_after is_text old new value given setting fault read (inl memory) =
+    rw memory (read_then is_text old new value (ill Memory) read (λ at told. cc told) (λ place before. before))
+reads_after is_text old new value given setting fault read (inr cause) =
+    reads_then is_text old new value given None (job_of setting) fault read
     (cause (job_of setting) refl refl)
 
 -- as many sources as texts were read
-pub as_many : {R : Type 0} (remaining : R → Option (List ℕ)) (old new : List R) (texts : List (List ℕ))
+pub as_many : (old new : List SourceState) (texts : List (List ℕ))
     → map remaining old ≡ map (λ (x : List ℕ). Some x) texts → length new ≡ length old → length texts ≡ length new
-as_many remaining old new texts all same =
+as_many old new texts all same =
     sym (length-map texts (λ (x : List ℕ). Some x)) ∙ sym (ap length all) ∙ length-map old remaining ∙ sym same

@@ -1,25 +1,42 @@
 -- What is answered over what was loaded is what a run prints, and what a run reports beside it holds of the inputs.
-use Rattle.std.proofs.Common.{◌≡◌, ◌≢◌, ℕ, Bool, true, List, Option, None, inr, refl}
+use Rattle.std.proofs.Common.{Vec, Global, ◌≡◌, ◌≢◌, ℕ, Bool, true, List, Option, None, inr, refl}
 use Rattle.std.specs.Prelude.{Ok}
+use Rattle.htl_device.specs.Devices.{AppendsPrefix}
+use Rattle.htl_segment.specs.Content.{Content}
 use Rattle.htl_segment.specs.Traces.{Trace}
 use Rattle.htl_symbols.specs.Ranges.{Range}
+use Rattle.htl_command.specs.declared.question.InputForm.{InputForm}
 use Rattle.htl_command.specs.declared.question.Job.{Job}
 use Rattle.htl_command.specs.declared.question.Setting.{Setting}
 use Rattle.htl_main.specs.Causes.{IsCause}
 use Rattle.htl_main.specs.Coverages.{Covers, IsCoverage}
-use Rattle.htl_main.specs.CutInputs.{Decoding, IsDecoding}
+use Rattle.htl_main.specs.CutInputs.{AreCut, AreCutEnds, Decoding, IsDecoding, decoding}
+use Rattle.htl_main.specs.Inputs.{DecodeAll}
 use Rattle.htl_main.specs.Loading.{AreLoaded, AreLoadedOf, in_setting}
+use Rattle.htl_main.specs.Origins.{IsBetween}
 use Rattle.htl_main.specs.Printed.{IsText, Printed, WorkersFit}
-use Rattle.htl_main.specs.Printing.{EndsOver, PrintsOver}
+use Rattle.htl_main.specs.Picked.{Reports}
+use Rattle.htl_main.specs.Printing.{EndsOver, PrintsOver, ReportsOver}
+use Rattle.htl_main.specs.Runs.{IsRefusedRun}
 use Rattle.htl_main.specs.Sources.{EndsBefore, IsSourcesCause}
 use Rattle.htl_main.specs.Remarks.{RemarksOver, ReportsRemarks}
 use Rattle.htl_main.specs.Subjects.{HasAbsence, ReportsAbsence}
 use Rattle.htl_main.specs.declared.completed.Absence.{Absence}
+use Rattle.htl_main.specs.declared.completed.Completed.{Completed}
 use Rattle.htl_main.specs.declared.coverage.Coverage.{Coverage}
+use Rattle.htl_main.specs.declared.cut_inputs.CutEnd.{CutEnd}
+use Rattle.htl_main.specs.declared.origin.Between.TheVariants.{Nothing}
 use Rattle.htl_main.specs.declared.fault.RunFault.{RunFault}
 use Rattle.htl_main.specs.declared.fault.RunFault.TheVariants.{Memory, NoSubject, Read, Write}
+use Rattle.htl_main.specs.declared.loading.Loaded.{Loaded}
 use Rattle.htl_main.specs.declared.remarks.Remarks.{Remarks}
 use Rattle.htl_main.proofs.MomentLaws.{complete_until}
+
+-- the segments of inputs and their cut ends, which were handed on, are what the inputs are decoded to
+pub decoded_as : (form : InputForm) (inputs : List (List ℕ)) (segments : List Content) (cuts kept : Vec CutEnd Global) (lent : List CutEnd)
+    → DecodeAll form inputs segments → AreCutEnds form.hex inputs cuts.items → kept ≡ cuts → lent ≡ kept.items
+    → IsDecoding form inputs (decoding segments lent)
+decoded_as form inputs segments cuts kept lent all are same lent_is = record { segments = all; cuts = rw (lent_is, same) are }
 
 -- what a run loads of its inputs, where its workers fit
 pub loaded_of : (job : Job) (inputs : List (List ℕ)) (symbols : Option (List ℕ)) (given : Decoding) (T : Trace) (table : List Range)
@@ -123,3 +140,39 @@ over_no_input T job fault place over before = over
 pub over_no_read : (T : Trace) (job : Job) (fault : RunFault) (at : ℕ) → EndsOver T job fault → fault ≢ Read at
 over_no_read T job (Read other) at over is = over
 over_no_read T job fault at over is = cc is
+
+-- and is about no two segments
+pub over_about_none : (form : InputForm) (inputs : List (List ℕ)) (T : Trace) (job : Job) (fault : RunFault) → EndsOver T job fault
+    → IsBetween form inputs fault Nothing
+over_about_none form inputs T job NoSubject over = refl
+over_about_none form inputs T job Memory over = refl
+over_about_none form inputs T job Write over = refl
+over_about_none form inputs T job fault over = absurd over
+
+-- ---- how a run ends that answers over what was loaded
+
+module _ (job : Job) (inputs : List (List ℕ)) (symbols : Option (List ℕ)) (loaded : Loaded)
+    (of : AreLoadedOf inputs symbols job.setting job.until loaded.case loaded.symbols) where
+  -- what is reported beside the answer holds of the inputs
+  pub reports_of : (completed : Completed) → IsCoverage loaded.case loaded.coverage → AreCut job.setting.form.hex inputs loaded.cut
+      → ReportsOver loaded job completed → Reports job inputs symbols completed
+  reports_of completed covered cut over = record {
+    coverage = rw (over.coverage) (runs_coverage job.setting inputs symbols loaded.case loaded.symbols job of loaded.coverage covered);
+    cut = rw (over.cut) cut;
+    absence = runs_absence job.setting inputs symbols loaded.case loaded.symbols job of completed.absence over.absence;
+    remarks = runs_remarks job.setting inputs symbols loaded.case loaded.symbols job of completed.remarks over.remarks;
+  }
+
+  -- where the answer isn't printed, the run is refused for the same, which is about no two segments
+  pub refused_over : (Cause : RunFault → Type 0) (old new : Option (List ℕ)) (fault : RunFault)
+      → ((fault ≡ Write → (lines : List ℕ) × Printed job inputs symbols (Ok lines)) → Cause fault) → EndsOver loaded.case job fault
+      → (fault ≡ Write → PrintsOver loaded.case loaded.symbols job (AppendsPrefix old new))
+      → IsRefusedRun Cause job inputs symbols old new (record { fault = fault; between = Nothing })
+  refused_over Cause old new fault cause over part =
+      let written : fault ≡ Write → (lines : List ℕ) × Printed job inputs symbols (Ok lines) × AppendsPrefix old new lines = λ told.
+      prints job.setting inputs symbols loaded.case loaded.symbols job of (AppendsPrefix old new) (part told) in
+      record {
+        cause = cause (λ told. let some = written told in (some.0, some.1));
+        between = over_about_none job.setting.form inputs loaded.case job fault over;
+        written = written;
+      }

@@ -1,6 +1,6 @@
 -- A run of picks is one of the segments of all its inputs, and it ends for the same causes.
 use Rattle.std.proofs.Common.{◌≡◌, ◌≢◌, ℕ, Bool, List, [], ◌∷◌, All, Option, Result, Ok, Err, refl}
-use Rattle.std.specs.Prelude.{IfErr, IfOk}
+use Rattle.std.specs.Prelude.{IfErr}
 use Rattle.std.specs.Io.KnownBytes.{Appends}
 use Rattle.std.proofs.lemmas.List.Elements.{All-nil, All-append}
 use Rattle.htl_device.specs.Devices.{AppendsPrefix}
@@ -17,14 +17,16 @@ use Rattle.htl_main.specs.Causes.{IsCauseAfter, Prints, PrintsPart}
 use Rattle.htl_main.specs.CutInputs.{AreCutEnds, Decoding, IsDecoding, decoding}
 use Rattle.htl_main.specs.Inputs.{DecodeAll}
 use Rattle.htl_main.specs.Picked.{NeverCase, Reports}
-use Rattle.htl_main.specs.Picking.{ArePickedFor, ArePicksOfAll, EndsPrinting, IsPickedFor, PrintsOf, ReportsOf}
+use Rattle.htl_main.specs.Picking.{ArePickedFor, ArePicksOfAll, EndsAnswer, EndsOfPicks, EndsPrinting, IsPickedFor, PrintsOf, ReportsOf}
 use Rattle.htl_main.specs.Printed.{WorkersFit}
-use Rattle.htl_main.specs.Sources.{IsSourcesCause}
+use Rattle.htl_main.specs.Reads.{NeverRead}
+use Rattle.htl_main.specs.Runs.{EndsPicking}
+use Rattle.htl_main.specs.Sources.{EndsBefore, IsSourcesCause}
 use Rattle.htl_main.specs.declared.completed.Completed.{Completed}
 use Rattle.htl_main.specs.declared.cut_inputs.CutEnd.{CutEnd}
 use Rattle.htl_main.specs.declared.picked_run.Lacking.{Lacking}
 use Rattle.htl_main.specs.declared.fault.RunFault.{RunFault}
-use Rattle.htl_main.specs.declared.fault.RunFault.TheVariants.{Case, Incomplete, NoSubject, Symbols, Memory, UnknownCut, Write}
+use Rattle.htl_main.specs.declared.fault.RunFault.TheVariants.{Case, Incomplete, NoSubject, Read, Symbols, Memory, UnknownCut, Write}
 use Rattle.htl_main.proofs.AfterDecoding.{sources_cause_of}
 
 -- ---- what was picked
@@ -64,67 +66,88 @@ picked_for interest picks segments case made are =
     record { trace = of.0; case_of = of.1; picked = of.2 }
 
 -- what is printed of decoded segments is printed of their inputs
-pub prints : (job : Job) (inputs : List (List ℕ)) (given : Decoding) (symbols old new : Option (List ℕ)) → WorkersFit job.setting.workers
+prints : (job : Job) (inputs : List (List ℕ)) (given : Decoding) (symbols old new : Option (List ℕ)) → WorkersFit job.setting.workers
     → IsDecoding job.setting.form inputs given → PrintsOf given symbols job (Appends old new) → Prints job inputs symbols old new
 prints job inputs given symbols old new fit decoded of = (of.lines, (fit, given, decoded, of.are), of.written)
 
 -- a first part of what is printed of decoded segments is one of what is printed of their inputs
-pub prints_part : (job : Job) (inputs : List (List ℕ)) (given : Decoding) (symbols old new : Option (List ℕ)) → WorkersFit job.setting.workers
+prints_part : (job : Job) (inputs : List (List ℕ)) (given : Decoding) (symbols old new : Option (List ℕ)) → WorkersFit job.setting.workers
     → IsDecoding job.setting.form inputs given → PrintsOf given symbols job (AppendsPrefix old new) → PrintsPart job inputs symbols old new
 prints_part job inputs given symbols old new fit decoded of = (of.lines, (fit, given, decoded, of.are), of.written)
 
--- what is reported of decoded segments, and which inputs are cut, is reported of the inputs
-pub reports : (job : Job) (inputs : List (List ℕ)) (segments : List Content) (symbols : Option (List ℕ)) (cuts : List CutEnd)
-    (completed : Completed)
-    → DecodeAll job.setting.form inputs segments → AreCutEnds job.setting.form.hex inputs cuts → ReportsOf segments symbols job cuts completed
-    → Reports job inputs symbols completed
-reports job inputs segments symbols cuts completed decoded are of = record {
-  coverage = (segments, decoded, of.coverage);
-  cut = of.cut_are job.setting.form.hex inputs are;
-  absence = (segments, decoded, of.absence);
-  remarks = (segments, decoded, of.remarks);
+-- what is reported of what was decoded is reported of the inputs
+reports : (job : Job) (inputs : List (List ℕ)) (given : Decoding) (symbols : Option (List ℕ)) (completed : Completed)
+    → IsDecoding job.setting.form inputs given → ReportsOf given.segments symbols job given.cuts completed → Reports job inputs symbols completed
+reports job inputs given symbols completed decoded of = record {
+  coverage = (given.segments, decoded.segments, of.coverage);
+  cut = of.cut_are job.setting.form.hex inputs decoded.cuts;
+  absence = (given.segments, decoded.segments, of.absence);
+  remarks = (given.segments, decoded.segments, of.remarks);
 }
 
 -- ---- how the run ends
 
--- where a run that is done has P, and P implies Q, it has Q
-pub if_done : {E : Type 0} (result : Result (Result Completed Lacking) E) (P Q : Completed → Type 0) → ((x : Completed) → P x → Q x)
-    → IfOk result (λ ended. IfOk ended P) → IfOk result (λ ended. IfOk ended Q)
-if_done (Ok (Ok x)) P Q more is = more x is
-if_done (Ok (Err lack)) P Q more is = tt
-if_done (Err e) P Q more is = tt
-
--- where a run that lacks something has P of it, and P implies Q, it has Q
-pub if_lacking : {E : Type 0} (result : Result (Result Completed Lacking) E) (P Q : Lacking → Type 0) → ((x : Lacking) → P x → Q x)
-    → IfOk result (λ ended. IfErr ended P) → IfOk result (λ ended. IfErr ended Q)
-if_lacking (Ok (Ok x)) P Q more is = tt
-if_lacking (Ok (Err lack)) P Q more is = more lack is
-if_lacking (Err e) P Q more is = tt
-
 -- a run of picks ends for a cause of the run over the sources
-pub ends_for : (job : Job) (inputs : List (List ℕ)) (lefts : List (Option (List ℕ))) (ends : List Bool) (symbols : Option (List ℕ))
-    (given : Decoding) (Written : List ℕ → Type 0) (result : Result (Result Completed Lacking) RunFault) → WorkersFit job.setting.workers
-    → IsDecoding job.setting.form inputs given
-    → IfErr result EndsPrinting → IfErr result (λ fault. fault ≢ Write → IsCauseAfter given symbols job fault)
-    → (result ≡ Err Write → PrintsOf given symbols job Written)
-    → IfErr result (IsSourcesCause job inputs lefts ends symbols)
-ends_for job inputs lefts ends symbols given W (Ok ended) fit decoded after cause write = tt
-ends_for job inputs lefts ends symbols given W (Err Write) fit decoded after cause write =
+ends_for : (job : Job) (inputs : List (List ℕ)) (lefts : List (Option (List ℕ))) (ends : List Bool) (symbols : Option (List ℕ))
+    (given : Decoding) (Written : List ℕ → Type 0) (fault : RunFault) → WorkersFit job.setting.workers
+    → IsDecoding job.setting.form inputs given → EndsPrinting fault → (fault ≢ Write → IsCauseAfter given symbols job fault)
+    → (fault ≡ Write → PrintsOf given symbols job Written) → IsSourcesCause job inputs lefts ends symbols fault
+ends_for job inputs lefts ends symbols given W Write fit decoded after cause write =
     let of = write refl in (of.lines, (fit, given, decoded, of.are))
-ends_for job inputs lefts ends symbols given W (Err (Incomplete processor number)) fit decoded after cause write =
+ends_for job inputs lefts ends symbols given W (Incomplete processor number) fit decoded after cause write =
     sources_cause_of job inputs lefts ends symbols given (Incomplete processor number) fit decoded (cause (λ e. cc e))
-ends_for job inputs lefts ends symbols given W (Err (UnknownCut input)) fit decoded after cause write =
+ends_for job inputs lefts ends symbols given W (UnknownCut input) fit decoded after cause write =
     sources_cause_of job inputs lefts ends symbols given (UnknownCut input) fit decoded (cause (λ e. cc e))
-ends_for job inputs lefts ends symbols given W (Err (Symbols fault)) fit decoded after cause write =
+ends_for job inputs lefts ends symbols given W (Symbols fault) fit decoded after cause write =
     sources_cause_of job inputs lefts ends symbols given (Symbols fault) fit decoded (cause (λ e. cc e))
-ends_for job inputs lefts ends symbols given W (Err NoSubject) fit decoded after cause write =
+ends_for job inputs lefts ends symbols given W NoSubject fit decoded after cause write =
     sources_cause_of job inputs lefts ends symbols given NoSubject fit decoded (cause (λ e. cc e))
-ends_for job inputs lefts ends symbols given W (Err Memory) fit decoded after cause write =
+ends_for job inputs lefts ends symbols given W Memory fit decoded after cause write =
     sources_cause_of job inputs lefts ends symbols given Memory fit decoded (cause (λ e. cc e))
-ends_for job inputs lefts ends symbols given W (Err other) fit decoded after cause write = absurd after
+ends_for job inputs lefts ends symbols given W other fit decoded after cause write = absurd after
+
+-- what comes of the picks of inputs is how the run over the sources ends
+pub ends_picking : (job : Job) (interest : Interest) (inputs : List (List ℕ)) (lefts : List (Option (List ℕ))) (ends : List Bool)
+    (symbols old new : Option (List ℕ)) (given : Decoding) (result : Result (Result Completed Lacking) RunFault)
+    → WorkersFit job.setting.workers → IsDecoding job.setting.form inputs given → EndsOfPicks interest given symbols job old new result
+    → EndsPicking (IsSourcesCause job inputs lefts ends symbols) interest job inputs symbols old new result
+ends_picking job interest inputs lefts ends symbols old new given (Ok (Ok completed)) fit decoded of =
+    (prints job inputs given symbols old new fit decoded of.0, reports job inputs given symbols completed decoded of.1)
+ends_picking job interest inputs lefts ends symbols old new given (Ok (Err lack)) fit decoded lacks = (given.segments, decoded.segments, lacks)
+ends_picking job interest inputs lefts ends symbols old new given (Err fault) fit decoded of = (
+  ends_for job inputs lefts ends symbols given (AppendsPrefix old new) fault fit decoded of.0 of.1 of.2,
+  λ told. prints_part job inputs given symbols old new fit decoded (of.2 told),
+)
+
+-- why no answer is made is no failed write
+pub answer_no_write : (fault : RunFault) → EndsAnswer fault → fault ≢ Write
+answer_no_write Write ends is = ends
+answer_no_write fault ends is = cc is
+
+pub ends_printing : (fault : RunFault) → EndsAnswer fault → EndsPrinting fault
+ends_printing Write ends = tt
+ends_printing fault ends = ends
 
 -- a run that ends while it prints ends for no fault of a case
 pub ends_without_case : {S : Type 0} (result : Result S RunFault) → IfErr result EndsPrinting → NeverCase result
 ends_without_case (Ok ended) after = tt
 ends_without_case (Err (Case fault)) after = absurd after
 ends_without_case (Err other) after = λ broken is. cc is
+
+-- or for one of a failed read
+pub ends_without_read : {S : Type 0} (result : Result S RunFault) → IfErr result EndsPrinting → NeverRead result
+ends_without_read (Ok ended) after at is = cc is
+ends_without_read (Err (Read other)) after at is = after
+ends_without_read (Err fault) after at is = cc is
+
+-- and names no input
+pub ends_without_input : {S : Type 0} (result : Result S RunFault) → IfErr result EndsPrinting
+    → IfErr result (λ fault. (place : ℕ) → EndsBefore fault place → ⊥)
+ends_without_input (Ok ended) after = tt
+ends_without_input (Err (Incomplete processor number)) after = λ place before. before
+ends_without_input (Err (UnknownCut input)) after = λ place before. before
+ends_without_input (Err (Symbols fault)) after = λ place before. before
+ends_without_input (Err NoSubject) after = λ place before. before
+ends_without_input (Err Memory) after = λ place before. before
+ends_without_input (Err Write) after = λ place before. before
+ends_without_input (Err fault) after = absurd after

@@ -1,7 +1,8 @@
 -- What is reported of a source of digits is reported as a fault of the run, which reads the source so.
-use Rattle.std.proofs.Common.{◌≡◌, ◌<◌, ℕ, Bool, true, false, List, refl, sym, ap, inr, ◌∙◌, Option, None, Some, IfSome, Result, Err}
+use Rattle.std.proofs.Common.{◌≡◌, ◌<◌, ℕ, true, List, refl, sym, ap, inr, ◌∙◌, Option, None, Some, IfSome, Result, Err}
 use Rattle.std.specs.Global.{Vec}
 use Rattle.htl_command.specs.declared.question.InputForm.{InputForm}
+use Rattle.htl_device.specs.States.{SourceState}
 use Rattle.htl_device.specs.declared.whole.TheConstants.{MAX_READS}
 use Rattle.htl_reading.specs.Digits.{ReadsDigits}
 use Rattle.htl_reading.specs.declared.digits.DigitsFault.{DigitsFault}
@@ -23,11 +24,10 @@ names_place place (Foreign at) later before = before
 names_place place Read later before = before
 names_place place NoMemory later before = absurd before
 
-module _ {R : Type 0} (has_failed has_ended : R → Bool) (good_reads : R → ℕ) (remaining : R → Option (List ℕ)) (old new : R)
-    (form : InputForm) (place : ℕ) where
+module _ (old new : SourceState) (form : InputForm) (place : ℕ) where
   pub digits_reported : (given : Option (List ℕ)) (fault : DigitsFault) → form.hex ≡ true
-      → ReadsDigits MAX_READS has_failed has_ended good_reads remaining given old new (refused fault)
-      → IfSome given (λ bytes. IsReportedOfSource form (remaining new) (has_ended new) place bytes (of_digits place fault))
+      → ReadsDigits MAX_READS given old new (refused fault)
+      → IfSome given (λ bytes. IsReportedOfSource form new.remaining new.ended place bytes (of_digits place fault))
   digits_reported None fault hex is = tt
   digits_reported (Some bytes) (Foreign at) hex is =
       (refl, (hex, ap (λ found. fault_of_digits found (digits_of bytes)) ((is.foreign at refl).first)))
@@ -35,15 +35,15 @@ module _ {R : Type 0} (has_failed has_ended : R → Bool) (good_reads : R → �
   digits_reported (Some bytes) NoMemory hex is = let kept = is.memory refl in inr (kept.0, kept.1, kept.3, rw hex (kept.2))
 
   fails_only : {S : Type 0} (fault : DigitsFault)
-      → ReadsDigits MAX_READS has_failed has_ended good_reads remaining (remaining old) old new (refused fault)
-      → FailsOnly {S = S} place (has_failed new) (good_reads new) (remaining old) MAX_READS (ill (of_digits place fault))
+      → ReadsDigits MAX_READS old.remaining old new (refused fault)
+      → FailsOnly {S = S} place new.failed new.good_reads old.remaining MAX_READS (ill (of_digits place fault))
   fails_only (Foreign byte) is = λ at same. absurd (cc same)
   fails_only Read is = λ at same. (cc same, is.failed refl)
   fails_only NoMemory is = λ at same. absurd (cc same)
 
   pub digits_read : {S : Type 0} (fault : DigitsFault) → form.hex ≡ true
-      → ReadsDigits MAX_READS has_failed has_ended good_reads remaining (remaining old) old new (refused fault)
-      → IsRead {S = S} form.hex MAX_READS has_failed has_ended good_reads remaining place old new (ill (of_digits place fault))
+      → ReadsDigits MAX_READS old.remaining old new (refused fault)
+      → IsRead {S = S} form.hex MAX_READS place old new (ill (of_digits place fault))
   digits_read fault hex is = record {
     ended = tt;
     reported = λ failed. let same : fault ≡ Read = cc (is.reported failed) in ap (λ why. ill (of_digits place why)) same;

@@ -21,13 +21,14 @@ use Rattle.htl_segment.proofs.BundleLaws.{late_stays, no_fault_stays, splits_one
 use Rattle.htl_text.specs.Texts.{segment_text}
 use Rattle.htl_main.specs.Inputs.{AsksMemory, HasBytes}
 use Rattle.htl_main.specs.Sources.{EndsBefore}
-use Rattle.htl_main.specs.Dumps.{AreWritten, Dumps, InputStops, texts_of}
+use Rattle.htl_main.specs.Dumps.{AreWritten, Dumps, InputStops, is_failed_write, texts_of}
 use Rattle.htl_main.specs.Dumping.{DumpedSoFar, DumpsInput, DumpEndsAt, FrontDumped, FrontStops, WholeStops}
 use Rattle.htl_main.specs.Ends.{IsEnd, IsEndRefused}
 use Rattle.htl_main.specs.declared.fault.RunFault.{RunFault}
 use Rattle.htl_main.specs.declared.fault.RunFault.TheVariants.{Segment, Read, Memory, Write}
 use Rattle.htl_main.proofs.EndLaws.{input_of}
 use Rattle.htl_main.proofs.InputLaws.{decode_next, late_reported}
+use Rattle.htl_main.proofs.ReadingLaws.{ill}
 use Rattle.htl_reading.specs.declared.outcome.EarlyEnd.{EarlyEnd}
 use Rattle.htl_reading.specs.Keepers.{taken}
 use Rattle.htl_reading.specs.Sources.{IsReadToFault}
@@ -446,3 +447,8 @@ dumps_next form texts place input end old mid new here so_far next = (
   decode_next form texts place input so_far.0 next.0 here so_far.1 next.1.decoded,
   appends_after old mid new so_far.0 next.0 so_far.2 next.2,
 )
+
+-- whether a failed write is what is reported doesn't depend on what a call that ends well gives
+pub same_failure : (S T : Type 0) (fault : RunFault) → is_failed_write (ill {S = S} fault) ≡ is_failed_write (ill {S = T} fault)
+same_failure S T Write = refl
+same_failure S T fault = refl

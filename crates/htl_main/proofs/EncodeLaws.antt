@@ -1,25 +1,33 @@
 -- Bytes are written in hexadecimal digits, and texts one after another encode segments, or the first that is refused is reported.
-use Rattle.std.proofs.Common.{◌≡◌, ◌+◌, ◌<◌, ℕ, true, List, [], ◌∷◌, ◌++◌, length, map, take, refl, sym, ap, ◌∙◌}
+use Rattle.std.proofs.Common.{◌≡◌, ◌≢◌, ◌+◌, ◌<◌, ℕ, Bool, true, false, List, [], ◌∷◌, ◌++◌, length, map, take, refl, sym, ap, ◌∙◌}
 use Rattle.std.proofs.Common.{arith, subst, append_assoc, append-nil, Option, Some, Result, Ok, Err}
-use Rattle.std.specs.Prelude.{slice_get, IfErr}
+use Rattle.std.specs.Prelude.{slice_get, IfErr, OnOk}
 use Rattle.std.specs.Io.KnownBytes.{Appends}
 use Rattle.std.proofs.KnownBytes.{Appends-nil, Appends-trans}
+use Rattle.std.proofs.Math.ListN.{set}
 use Rattle.std.proofs.lemmas.Grind.{flat_map-append}
 use Rattle.std.proofs.lemmas.List.{take_more}
 use Rattle.std.proofs.lemmas.Option.{slice_get_within, get_or_from_slice_get}
 use Rattle.hex.specs.Hex.{encode_lower, encode_with}
 use Rattle.htl_device.specs.Devices.{AppendsPrefix}
+use Rattle.htl_device.specs.States.{SourceState, ends, has_ended, lefts, remaining}
 use Rattle.htl_segment.specs.Content.{Content}
 use Rattle.htl_segment.specs.Encoding.{encoding}
 use Rattle.htl_segment.specs.Bundles.{bundle}
 use Rattle.htl_text.specs.Encoded.{begins, Encodes, kept}
 use Rattle.htl_text.specs.Items.{segments_items}
 use Rattle.htl_text.specs.Lines.{item_in, text_lines}
-use Rattle.htl_main.specs.Encodings.{EncodeAll}
+use Rattle.htl_main.specs.Dumps.{is_failed_write}
+use Rattle.htl_main.specs.Encodings.{EncodeAll, EncodingStops, IsReportedOfText, written_as}
+use Rattle.htl_main.specs.Reads.{NeverRead}
+use Rattle.htl_main.specs.Runs.{EndsEncoding}
+use Rattle.htl_main.specs.Sources.{EndsBefore}
 use Rattle.htl_main.specs.declared.fault.RunFault.{RunFault}
 use Rattle.htl_main.specs.declared.fault.RunFault.TheVariants.{Write}
 use Rattle.htl_device.proofs.KnownBytes.{prefix_after}
 use Rattle.htl_main.proofs.DumpLaws.{prefix_more}
+use Rattle.htl_main.proofs.ReadingLaws.{ReadBefore, ended_there, ill, knows_next, left_there}
+use Rattle.htl_main.proofs.SourceLaws.{Knows}
 
 -- ---- hexadecimal digits
 
@@ -110,3 +118,61 @@ some_begin_of text bytes (s ∷ ss) encoded is some = begins_of (kept (text_line
 -- a text that gives some bytes begins with a segment
 pub some_begin : (text bytes : List ℕ) → Gives text bytes → 0 < length bytes → begins (kept (text_lines text)) ≡ true
 some_begin text bytes gives some = some_begin_of text bytes gives.0 gives.1 gives.2 some
+
+-- the texts before one are encoded, and what is reported of that one is reported
+pub stops_encoding : {R : Type 0} (state : R → SourceState) (first now : List R) (place : ℕ) (x : R) (here : slice_get now place ≡ Some x)
+    {is_text : Bool} (before : ReadBefore is_text (map state first) (map state now) place) (y : R) (texts : List (List ℕ)) (fault : RunFault)
+    (segments : List Content) → (all : map remaining (map state first) ≡ map (λ (t : List ℕ). Some t) texts)
+    → EncodeAll (take place texts) segments
+    → ((knows : Knows texts place (remaining (state x)))
+    → IsReportedOfText (remaining (state y)) (has_ended (state y)) place knows.input fault)
+    → EncodingStops texts (lefts (map state (set now place y))) (ends (map state (set now place y))) fault
+stops_encoding state first now place x here before y texts fault segments all encoded reported =
+    let knows = knows_next state first now place x here before texts all in
+    record {
+      place = place;
+      text = knows.input;
+      here = knows.here;
+      left = remaining (state y);
+      left_is = left_there state first now place x here before y;
+      ended = has_ended (state y);
+      ended_is = ended_there state first now place x here before y;
+      segments = segments;
+      before = encoded;
+      reported = reported knows;
+    }
+
+-- ---- how a run that encodes ends
+
+-- bytes of all texts that were written, or a first part of which was, are those that the texts encode
+pub ends_written : {S : Type 0} (hex : Bool) (texts : List (List ℕ)) (new : List SourceState) (bytes : List ℕ) (old now : Option (List ℕ))
+    (result : Result S RunFault) → GiveAll texts bytes → OnOk result (Appends old now (written_as hex bytes))
+    → IfErr result (λ fault. (fault ≡ Write) × AppendsPrefix old now (written_as hex bytes)) → EndsEncoding hex texts new old now result
+ends_written hex texts new bytes old now (Ok done) all written part = (all.0, all.1, rw (← all.2) written)
+ends_written hex texts new bytes old now (Err fault) all written part = rw (part.0) (all.0, all.1, rw (← all.2) (part.1))
+
+-- what can only end for a failed write
+pub only_writes : {S : Type 0} (P Q : Type 0) (result : Result S RunFault) → IfErr result (λ fault. (fault ≡ Write) × P)
+    → IfErr result (λ fault. fault ≢ Write → Q)
+only_writes P Q (Ok done) part = tt
+only_writes P Q (Err fault) part = λ other. absurd (other part.0)
+
+-- before anything is written it ends for the fault of a text
+pub ends_unwritten : (S : Type 0) (hex : Bool) (texts : List (List ℕ)) (new : List SourceState) (old now : Option (List ℕ)) (fault : RunFault)
+    → fault ≢ Write → EncodingStops texts (lefts new) (ends new) fault → EndsEncoding hex texts new old now (ill {S = S} fault)
+ends_unwritten S hex texts new old now Write other stops = absurd (other refl)
+ends_unwritten S hex texts new old now fault other stops = stops
+
+pub no_failure : (S : Type 0) (fault : RunFault) → fault ≢ Write → is_failed_write (ill {S = S} fault) ≡ false
+no_failure S Write other = absurd (other refl)
+no_failure S fault other = refl
+
+-- a failed write is no failed read, and names no input
+pub no_read_of_writes : {S : Type 0} (P : Type 0) (result : Result S RunFault) → IfErr result (λ fault. (fault ≡ Write) × P) → NeverRead result
+no_read_of_writes P (Ok done) part at is = cc is
+no_read_of_writes P (Err fault) part at is = cc (part.0, is)
+
+pub no_input_of_writes : {S : Type 0} (P : Type 0) (result : Result S RunFault) → IfErr result (λ fault. (fault ≡ Write) × P)
+    → IfErr result (λ fault. (place : ℕ) → EndsBefore fault place → ⊥)
+no_input_of_writes P (Ok done) part = tt
+no_input_of_writes P (Err fault) part = λ place. rw (part.0) (λ before. before)

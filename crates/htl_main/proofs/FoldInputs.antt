@@ -11,6 +11,7 @@ use Rattle.htl_case.specs.declared.fault.CaseFault.{CaseFault}
 use Rattle.htl_case.specs.declared.fault.CaseFault.TheVariants as cases
 use Rattle.htl_command.specs.declared.question.InputForm.{InputForm}
 use Rattle.htl_command.specs.declared.question.Setting.{Setting}
+use Rattle.htl_device.specs.States.{SourceState, lefts}
 use Rattle.htl_reading.specs.declared.digits.DigitsFault.{DigitsFault}
 use Rattle.htl_reading.specs.declared.digits.DigitsFault.TheVariants as reads
 use Rattle.htl_reading.specs.Sources.{IsLeft}
@@ -32,19 +33,20 @@ use Rattle.htl_main.specs.Ends.{IsEnd, IsEndRefused, IsInput}
 use Rattle.htl_main.specs.Faults.{of_case, of_digits, of_hex, of_segment, of_source}
 use Rattle.htl_main.specs.Folders.{AreAllTaken, Folds, GaveOwn, IsAddedToFolded, IsMissingOf, IsNotAdded, IsOfInput, IsSymbolsFault, KeepsAll}
 use Rattle.htl_main.specs.Folders.{folds_of, number_of}
-use Rattle.htl_main.specs.Folding.{AreAccepted, AreFolded, AreGiven, AreReadToFold, AreTaken, AsksFoldsMemory, IsBeginningRefused}
-use Rattle.htl_main.specs.Folding.{IsCollectionOf, IsFolded, IsFoldedFar, IsFoldedUpTo, IsFoldingRefused, IsFoldsFault, IsMissingOfFirsts}
-use Rattle.htl_main.specs.Folding.{TakesUpTo, counted}
-use Rattle.htl_main.specs.Inputs.{DecodeAll, HasBytes, StopsAtInput}
+use Rattle.htl_main.specs.Folding.{AreAccepted, AreFolded, AreGiven, AreReadToFold, AreTaken, AsksFoldsMemory, Folding, IsBeginningRefused}
+use Rattle.htl_main.specs.Folding.{IsCollectionOf, IsFolded, IsFoldedFar, IsFoldedUpTo, IsFoldingRefused, IsFoldsFault, IsHalfKnown, IsMissingOfFirsts}
+use Rattle.htl_main.specs.Folding.{StopsFolding, TakesUpTo, counted, folding}
+use Rattle.htl_main.specs.Inputs.{DecodeAll, HasBytes}
 use Rattle.htl_main.specs.Printed.{WorkersFit}
 use Rattle.htl_main.specs.Readings.{AreRead}
 use Rattle.htl_main.specs.Reads.{NeverRead}
-use Rattle.htl_main.specs.Sources.{EndsBefore, IsReportedAt, IsReportedOfSource}
+use Rattle.htl_main.specs.Sources.{EndsBefore, IsReportedOfSource}
 use Rattle.htl_main.specs.declared.adding.Added.{Added}
 use Rattle.htl_main.specs.declared.cut_inputs.CutEnd.{CutEnd}
 use Rattle.htl_main.specs.declared.fault.RunFault.{RunFault}
 use Rattle.htl_main.specs.declared.fault.RunFault.TheVariants as faults
 use Rattle.htl_main.specs.declared.folder.Folder.{Folder}
+use Rattle.htl_main.specs.declared.origin.Between.TheVariants.{Nothing}
 use Rattle.htl_main.proofs.EndLaws.{input_of, source_of, source_refused}
 use Rattle.htl_main.proofs.FoldLaws.{all_counted}
 use Rattle.htl_main.proofs.ReadingLaws.{ends_too, ill, read_then, well}
@@ -285,79 +287,76 @@ counted_before before (Some a) T taken all = all_counted before a T taken.1 take
 
 -- ---- why a reading ends
 
-module _ (setting : Setting) (before : List Content) (texts : List (List ℕ)) (lefts : List (Option (List ℕ))) (ends : List Bool) where
-  abbrev pub Stops : RunFault → Type 0
-  Stops fault = StopsAtInput setting.form (IsReportedAt setting.form lefts ends) texts fault
-
+module _ (of : Folding) where
   abbrev pub Refuses : Option State → RunFault → Type 0
-  Refuses now fault = IsFoldingRefused setting before texts lefts ends (AreFolded now) fault
+  Refuses now fault = IsFoldingRefused of (AreFolded now) fault
 
   -- before the first read
-  pub no_workers : (now : Option State) → AreFolded now before → (WorkersFit setting.workers → ⊥) → Refuses now faults.Workers
+  pub no_workers : (now : Option State) → AreFolded now of.before → (WorkersFit of.setting.workers → ⊥) → Refuses now faults.Workers
   no_workers now was unfit = record {
     given = [];
     are_given = refl;
     taken = [];
     unfit = None;
     takes = record { later = []; cut = refl; accepted = tt; ends = refl };
-    kept = subst (AreFolded now) (sym (append-nil before)) was;
+    kept = subst (AreFolded now) (sym (append-nil of.before)) was;
     why = unfit;
   }
 
-  module _ (fit : WorkersFit setting.workers) (first : Option State) (was : AreFolded first before) {U E : Type 0} (ended : Result U E) where
+  module _ (fit : WorkersFit of.setting.workers) (first : Option State) (was : AreFolded first of.before) {U E : Type 0} (ended : Result U E) where
     -- what was taken is known where it was folded
     abbrev pub Ends : Option State → RunFault → Type 0
-    Ends now fault = IsFoldingRefused setting before texts lefts ends (λ taken. OnOk ended (AreFolded now taken)) fault
+    Ends now fault = IsFoldingRefused of (λ taken. OnOk ended (AreFolded now taken)) fault
 
     up_to : (now : Option State) (unfit : Option CaseFault) (n : ℕ) (fault : RunFault) (given : List Content)
-        → AreGiven setting.form texts lefts fault given → (folds : Folds first now unfit n given) → OnOk ended (IsFoldedFar now)
-        → IsFoldsFault setting before texts lefts ends folds.taken unfit fault
-        → IsFoldedUpTo setting before texts lefts ends (λ taken. OnOk ended (AreFolded now taken)) fault
+        → AreGiven of.setting.form of.inputs (lefts of.after) fault given → (folds : Folds first now unfit n given) → OnOk ended (IsFoldedFar now)
+        → IsFoldsFault of folds.taken unfit fault
+        → IsFoldedUpTo of (λ taken. OnOk ended (AreFolded now taken)) fault
     up_to now unfit n fault given are folds far why = record {
       given = given;
       are_given = are;
       taken = folds.taken;
       unfit = unfit;
-      takes = folds.takes before was;
-      kept = on_ok_weaker ended (λ is_far. record { taken = folds.kept before was; far = is_far }) far;
+      takes = folds.takes of.before was;
+      kept = on_ok_weaker ended (λ is_far. record { taken = folds.kept of.before was; far = is_far }) far;
       why = why;
     }
 
     -- for a segment that is unfit
     pub refused_unfit : (now : Option State) (n : ℕ) (given : List Content) (fault : CaseFault) → Folds first now (Some fault) n given
-        → OnOk ended (IsFoldedFar now) → DecodeAll setting.form texts given → Ends now (of_case fault)
-    refused_unfit now n given cases.Empty folds far decoded = absurd ((folds.takes before was).ends.3)
-    refused_unfit now n given cases.NoMemory folds far decoded = absurd ((folds.takes before was).ends.3)
+        → OnOk ended (IsFoldedFar now) → DecodeAll of.setting.form of.inputs given → Ends now (of_case fault)
+    refused_unfit now n given cases.Empty folds far decoded = absurd ((folds.takes of.before was).ends.3)
+    refused_unfit now n given cases.NoMemory folds far decoded = absurd ((folds.takes of.before was).ends.3)
     refused_unfit now n given fault folds far decoded =
         up_to now (Some fault) n (faults.Case fault) given decoded folds far (fit, refl)
 
     module _ (old mid : Folder) (none : Folds first old.analyst old.unfit old.segments []) (same : old.analyst ≡ first) where
       abbrev pub GaveBy : RunFault → Type 0
       GaveBy fault =
-          fault ≢ faults.Memory → (given : List Content) × AreGiven setting.form texts lefts fault given × Took folds_of old mid given
+          fault ≢ faults.Memory → (given : List Content) × AreGiven of.setting.form of.inputs (lefts of.after) fault given × Took folds_of old mid given
 
       -- for refused memory, after the last read
       pub refused_fold : {T : Type 0} (result : Result T RunFault) → 0 < mid.segments
-          → OnOk result ((given : List Content) × DecodeAll setting.form texts given × Took folds_of old mid given)
-          → IfErr result Stops → IfErr result GaveBy → AsksFoldsMemory setting before texts lefts ends
+          → OnOk result ((given : List Content) × DecodeAll of.setting.form of.inputs given × Took folds_of old mid given)
+          → IfErr result (StopsFolding of) → IfErr result GaveBy → AsksFoldsMemory of
       refused_fold (Ok done) some all stops gave = (
         fit,
         inr (inl (
           all.0,
-          some_given first mid.analyst mid.segments all.0 before was mid.unfit (since first old mid all.0 none same all.2) some,
+          some_given first mid.analyst mid.segments all.0 of.before was mid.unfit (since first old mid all.0 none same all.2) some,
           faults.Memory,
           all.1,
         )),
       )
       refused_fold (Err fault) some all stops gave =
           elim (memory_or_not fault) [
-            | inl is ↦ (fit, inl (subst Stops is stops))
+            | inl is ↦ (fit, inl (subst (StopsFolding of) is stops))
             | inr other ↦
                 let own = gave other in (
                   fit,
                   inr (inl (
                     own.0,
-                    some_given first mid.analyst mid.segments own.0 before was mid.unfit
+                    some_given first mid.analyst mid.segments own.0 of.before was mid.unfit
                         (since first old mid own.0 none same own.2) some,
                     fault,
                     own.1,
@@ -369,7 +368,7 @@ module _ (setting : Setting) (before : List Content) (texts : List (List ℕ)) (
       pub refused_read : (now : Option State) (unfit : Option CaseFault) (n : ℕ) (fault : RunFault)
           → ((a : Option State) (given : List Content) → Folds a mid.analyst mid.unfit mid.segments given → Folds a now unfit n given)
           → ((given : List Content) → Folds first mid.analyst mid.unfit mid.segments given → OnOk ended (IsFoldedFar now))
-          → Stops fault → IsOfInput fault → GaveBy fault → Ends now fault
+          → StopsFolding of fault → IsOfInput fault → GaveBy fault → Ends now fault
       refused_read now unfit n faults.Memory carry far stops is gave = (fit, inl stops)
       refused_read now unfit n (faults.Segment at offset fault) carry far stops is gave =
           let own = gave (λ e. cc e) in
@@ -388,13 +387,13 @@ module _ (setting : Setting) (before : List Content) (texts : List (List ℕ)) (
 
   -- ---- once all segments were taken
 
-  module _ (fit : WorkersFit setting.workers) (old new : Option State) (n : ℕ) (cuts : List CutEnd)
-      (all : AreAllTaken setting.form before texts old new n cuts) where
-    takes_all : TakesUpTo before all.given all.given None
+  module _ (fit : WorkersFit of.setting.workers) (old new : Option State) (n : ℕ) (cuts : List CutEnd)
+      (all : AreAllTaken of.setting.form of.before of.inputs old new n cuts) where
+    takes_all : TakesUpTo of.before all.given all.given None
     takes_all = record { later = []; cut = sym (append-nil all.given); accepted = all.accepted; ends = refl }
 
-    folded_in : (a : Option State) → new ≡ a → AreFolded a (before ++ all.given)
-    folded_in a is = subst (λ (x : Option State). AreFolded x (before ++ all.given)) is all.folded
+    folded_in : (a : Option State) → new ≡ a → AreFolded a (of.before ++ all.given)
+    folded_in a is = subst (λ (x : Option State). AreFolded x (of.before ++ all.given)) is all.folded
 
     -- there is none
     none_there : new ≡ None → Refuses new (faults.Case cases.Empty)
@@ -408,8 +407,8 @@ module _ (setting : Setting) (before : List Content) (texts : List (List ℕ)) (
       why = (fit, (folded_in None is).taken);
     }
 
-    missing_there : (a : State) → new ≡ Some a → (fault : RunFault) → AreGiven setting.form texts lefts fault all.given
-        → IsFoldsFault setting before texts lefts ends all.given None fault → IsFoldedUpTo setting before texts lefts ends (AreFolded new) fault
+    missing_there : (a : State) → new ≡ Some a → (fault : RunFault) → AreGiven of.setting.form of.inputs (lefts of.after) fault all.given
+        → IsFoldsFault of all.given None fault → IsFoldedUpTo of (AreFolded new) fault
     missing_there a is fault given why = record {
       given = all.given;
       are_given = given;
@@ -420,14 +419,14 @@ module _ (setting : Setting) (before : List Content) (texts : List (List ℕ)) (
       why = why;
     }
 
-    reports : (a : State) → new ≡ Some a → (fault : RunFault) → setting.complete ≡ true
+    reports : (a : State) → new ≡ Some a → (fault : RunFault) → of.setting.complete ≡ true
         → ((segments : List Content) (T : Trace) → AreFolded (Some a) segments → IsCollectionOf segments T → ReportsMissing T cuts fault)
-        → IsMissingOfFirsts setting (before ++ all.given) texts fault
+        → IsMissingOfFirsts of.setting (of.before ++ all.given) of.inputs fault
     reports a is fault complete missing =
-        (complete, cuts, all.cut_ends, λ T case. missing (before ++ all.given) T (folded_in (Some a) is) case)
+        (complete, cuts, all.cut_ends, λ T case. missing (of.before ++ all.given) T (folded_in (Some a) is) case)
 
     -- one is missing, or memory was refused
-    not_covered : (a : State) (fault : RunFault) → new ≡ Some a → IsMissingOf setting.complete cuts a fault → Refuses new fault
+    not_covered : (a : State) (fault : RunFault) → new ≡ Some a → IsMissingOf of.setting.complete cuts a fault → Refuses new fault
     not_covered a fault is (inl memory) = rw memory (fit, inr (inr (all.given, all.decoded, (folded_in (Some a) is).taken.0)))
     not_covered a (faults.Incomplete processor number) is (inr missing) =
         missing_there a is (faults.Incomplete processor number) all.decoded
@@ -436,17 +435,17 @@ module _ (setting : Setting) (before : List Content) (texts : List (List ℕ)) (
         missing_there a is (faults.UnknownCut input) all.decoded (fit, refl, reports a is (faults.UnknownCut input) missing.1 missing.2)
     not_covered a fault is (inr missing) = absurd (missing.0)
 
-    not_added_to : (now : Option State) → new ≡ now → (fault : RunFault) → IsNotAdded setting.complete cuts now fault → Refuses new fault
+    not_added_to : (now : Option State) → new ≡ now → (fault : RunFault) → IsNotAdded of.setting.complete cuts now fault → Refuses new fault
     not_added_to None is fault told = rw told (none_there is)
     not_added_to (Some a) is fault told = not_covered a fault is told
 
     -- a reading that brings no segment, or misses one, is refused for that
-    pub not_added : (fault : RunFault) → IsNotAdded setting.complete cuts new fault → Refuses new fault
+    pub not_added : (fault : RunFault) → IsNotAdded of.setting.complete cuts new fault → Refuses new fault
     not_added fault told = not_added_to new refl fault told
 
     -- all is well
-    pub is_folded : (added : Added) → AreFolded old before → IsAddedToFolded setting.complete new (number_of old) n cuts added
-        → IsFolded setting before texts (AreFolded new) added
+    pub is_folded : (added : Added) → AreFolded old of.before → IsAddedToFolded of.setting.complete new (number_of old) n cuts added
+        → IsFolded of.setting of.before of.inputs (AreFolded new) added
     is_folded added was is =
         let now = folded_in (Some is.analyst) is.there in
         record {
@@ -458,17 +457,17 @@ module _ (setting : Setting) (before : List Content) (texts : List (List ℕ)) (
           some = now.taken.0;
           segments = is.segments_are ∙ all.number;
           new = λ T U all_before all_after.
-              (let first = counted_before before old T was.taken all_before in
+              (let first = counted_before of.before old T was.taken all_before in
               let last : number_of new ≡ length U.segments = ap number_of is.there
-              ∙ all_counted (before ++ all.given) is.analyst U now.taken.1 now.taken.0 all_after in
+              ∙ all_counted (of.before ++ all.given) is.analyst U now.taken.1 now.taken.0 all_after in
               let more = fewer old new all.keeps in
               let new_are = is.new_are in
               omega (arith, first, last, more, new_are));
-          coverage = λ T case. (is.covered (before ++ all.given) T now case).0;
+          coverage = λ T case. (is.covered (of.before ++ all.given) T now case).0;
           cuts = cuts;
           cut_ends = all.cut_ends;
-          whole = λ asked T case. (is.covered (before ++ all.given) T now case).1 asked;
-          cut = is.cut_is setting.form.hex texts all.cut_ends;
+          whole = λ asked T case. (is.covered (of.before ++ all.given) T now case).1 asked;
+          cut = is.cut_is of.setting.form.hex of.inputs all.cut_ends;
         }
 
 -- ---- what a fault isn't
@@ -498,25 +497,47 @@ symbols_no_end symbols faults.Memory is = λ place before. before
 symbols_no_end symbols (faults.Symbols fault) is = λ place before. before
 symbols_no_end symbols fault is = absurd is
 
+-- both are about no two segments, and are no failed write
+pub gap_about_none : (complete : Bool) (cuts : List CutEnd) (now : Option State) (fault : RunFault) → IsNotAdded complete cuts now fault
+    → IsHalfKnown fault Nothing
+gap_about_none complete cuts None fault is = rw is refl
+gap_about_none complete cuts (Some a) fault (inl memory) = rw memory refl
+gap_about_none complete cuts (Some a) (faults.Case fault) (inr missing) = absurd (missing.0)
+gap_about_none complete cuts (Some a) fault (inr missing) = refl
+
+pub gap_no_write : (complete : Bool) (cuts : List CutEnd) (now : Option State) (fault : RunFault) → IsNotAdded complete cuts now fault
+    → fault ≢ faults.Write
+gap_no_write complete cuts None fault is told = cc (is, told)
+gap_no_write complete cuts (Some a) fault (inl memory) told = cc (memory, told)
+gap_no_write complete cuts (Some a) faults.Write (inr missing) told = missing.0
+gap_no_write complete cuts (Some a) fault (inr missing) told = cc told
+
+pub symbols_about_none : (symbols : Option (List ℕ)) (fault : RunFault) → IsSymbolsFault symbols fault → IsHalfKnown fault Nothing
+symbols_about_none symbols (faults.Case fault) is = absurd is
+symbols_about_none symbols fault is = refl
+
+pub symbols_no_write : (symbols : Option (List ℕ)) (fault : RunFault) → IsSymbolsFault symbols fault → fault ≢ faults.Write
+symbols_no_write symbols faults.Write is told = is
+symbols_no_write symbols fault is told = cc told
+
 -- ---- how the sources are read
 
-module _ {R : Type 0} (is_text : Bool) (has_failed has_ended : R → Bool) (good_reads : R → ℕ) (remaining : R → Option (List ℕ))
-    (old new : List R) where
+module _ (is_text : Bool) (old new : List SourceState) where
   -- memory was refused to fold what was read
   pub read_to_fold : {S T : Type 0} (result : Result S RunFault)
-      → AreRead is_text has_failed has_ended good_reads remaining old new result
-      → AreReadToFold is_text has_failed has_ended good_reads remaining old new (ill {S = T} faults.Memory)
+      → AreRead is_text old new result
+      → AreReadToFold is_text old new (ill {S = T} faults.Memory)
   read_to_fold (Ok value) read =
-      inl (read_then is_text has_failed has_ended good_reads remaining old new value (ill faults.Memory) read (λ at told. cc told)
+      inl (read_then is_text old new value (ill faults.Memory) read (λ at told. cc told)
       (λ place before. before))
-  read_to_fold (Err fault) read = inr (refl, fault, ends_too is_text has_failed has_ended good_reads remaining old new fault read)
+  read_to_fold (Err fault) read = inr (refl, fault, ends_too is_text old new fault read)
 
-  module _ {S T : Type 0} (value : S) (read : AreRead is_text has_failed has_ended good_reads remaining old new (well value)) where
+  module _ {S T : Type 0} (value : S) (read : AreRead is_text old new (well value)) where
     -- there is no segment, or one is missing
     pub read_to_gap : (complete : Bool) (cuts : List CutEnd) (now : Option State) (fault : RunFault) → IsNotAdded complete cuts now fault
-        → AreRead is_text has_failed has_ended good_reads remaining old new (ill {S = T} fault)
+        → AreRead is_text old new (ill {S = T} fault)
     read_to_gap complete cuts now fault told =
-        read_then is_text has_failed has_ended good_reads remaining old new value (ill fault) read (never now fault told) (names now fault told)
+        read_then is_text old new value (ill fault) read (never now fault told) (names now fault told)
       where
         never : (now : Option State) (fault : RunFault) → IsNotAdded complete cuts now fault → NeverRead (ill {S = T} fault)
         never None fault told at is = cc (told, is)
@@ -528,9 +549,9 @@ module _ {R : Type 0} (is_text : Bool) (has_failed has_ended : R → Bool) (good
 
     -- or the symbols have a fault
     pub read_to_symbols : (symbols : Option (List ℕ)) (fault : RunFault) → IsSymbolsFault symbols fault
-        → AreRead is_text has_failed has_ended good_reads remaining old new (ill {S = T} fault)
+        → AreRead is_text old new (ill {S = T} fault)
     read_to_symbols symbols fault is =
-        read_then is_text has_failed has_ended good_reads remaining old new value (ill fault) read (symbols_no_read symbols fault is)
+        read_then is_text old new value (ill fault) read (symbols_no_read symbols fault is)
         (symbols_no_end symbols fault is)
 
 -- ---- at the beginning
@@ -539,11 +560,11 @@ module _ {R : Type 0} (is_text : Bool) (has_failed has_ended : R → Bool) (good
 pub nothing_folded : AreFolded None []
 nothing_folded = record { taken = refl; far = tt }
 
-module _ (setting : Setting) (symbols : Option (List ℕ)) (texts : List (List ℕ)) (lefts : List (Option (List ℕ))) (ends : List Bool)
+module _ (setting : Setting) (symbols : Option (List ℕ)) (texts : List (List ℕ)) (after : List SourceState)
     (Keeps : List Content → Type 0) where
   -- the refusal of a first reading is one of a beginning
-  pub begins_refused : (fault : RunFault) → IsFoldingRefused setting [] texts lefts ends Keeps fault
-      → IsBeginningRefused setting symbols texts lefts ends fault
+  pub begins_refused : (fault : RunFault) → IsFoldingRefused (folding setting [] texts after) Keeps fault
+      → IsBeginningRefused setting symbols texts after fault
   begins_refused faults.Memory refused = refused
   begins_refused (faults.Symbols fault) refused = absurd (refused.why)
   begins_refused fault refused = record {
@@ -558,7 +579,7 @@ module _ (setting : Setting) (symbols : Option (List ℕ)) (texts : List (List �
 
   -- a fault of the symbols, once all was read, is a refusal of a beginning
   pub symbols_refused : (added : Added) (fault : RunFault) → IsFolded setting [] texts Keeps added → IsSymbolsFault symbols fault
-      → IsBeginningRefused setting symbols texts lefts ends fault
+      → IsBeginningRefused setting symbols texts after fault
   symbols_refused added faults.Memory folded told = (folded.workers, inr (inr (folded.given, folded.decoded, folded.some)))
   symbols_refused added (faults.Symbols fault) folded told = (
     told,

@@ -2,6 +2,7 @@
 use Rattle.std.proofs.Common.{◌≡◌, ◌≢◌, ◌⊎◌, ◌<◌, ◌≤◌, ◌+◌, ℕ, Bool, true, false, List, length, refl, ap, inl, inr}
 use Rattle.std.proofs.Common.{Option, Some, None, IfSome, Result, Ok, Err}
 use Rattle.std.specs.Prelude.{IfErr, OnOk}
+use Rattle.htl_device.specs.States.{SourceState, good_reads, has_ended, has_failed, remaining}
 use Rattle.htl_command.specs.declared.question.InputForm.{InputForm}
 use Rattle.htl_device.specs.declared.whole.ReadFault.{ReadFault}
 use Rattle.htl_device.specs.declared.whole.ReadFault.TheVariants as reads
@@ -86,12 +87,11 @@ always : {S E P : Type 0} (result : Result S E) → P → OnOk result P
 always (Ok value) holds = holds
 always (Err fault) holds = tt
 
-module _ {R T : Type 0} (has_failed has_ended : R → Bool) (good_reads : R → ℕ) (remaining : R → Option (List ℕ))
-    (place : ℕ) (old new : R) where
+module _ {T : Type 0} (place : ℕ) (old new : SourceState) where
   -- so it is read as a source of the run, whatever is made of its segments
   decoded_well : {S : Type 0} (made : S) (value : T)
-      → IsSourceRead MAX_READS has_failed has_ended good_reads remaining (remaining old) old new (made_of made)
-      → IsRead false MAX_READS has_failed has_ended good_reads remaining place old new (well value)
+      → IsSourceRead MAX_READS (remaining old) old new (made_of made)
+      → IsRead false MAX_READS place old new (well value)
   decoded_well made value is = record {
     ended = is.ended;
     reported = λ failed. absurd (cc (is.reported failed));
@@ -104,8 +104,8 @@ module _ {R T : Type 0} (has_failed has_ended : R → Bool) (good_reads : R → 
 
   -- or as one that ends within a segment and may not
   decoded_early : {S : Type 0} (made : S) (fault : RunFault) → IsSegmentOf place fault
-      → IsSourceRead MAX_READS has_failed has_ended good_reads remaining (remaining old) old new (made_of made)
-      → IsRead false MAX_READS has_failed has_ended good_reads remaining place old new (ill {S = T} fault)
+      → IsSourceRead MAX_READS (remaining old) old new (made_of made)
+      → IsRead false MAX_READS place old new (ill {S = T} fault)
   decoded_early made fault segment is = rw (segment.2) record {
     ended = tt;
     reported = λ failed. absurd (cc (is.reported failed));
@@ -118,16 +118,16 @@ module _ {R T : Type 0} (has_failed has_ended : R → Bool) (good_reads : R → 
 
   -- a source that was read by a call that ends well is read so by one that ends well or for a fault of its segments
   pub accepted_read : {S : Type 0} (made : S) (result : Result T RunFault) → IfErr result (IsSegmentOf place)
-      → IsSourceRead MAX_READS has_failed has_ended good_reads remaining (remaining old) old new (made_of made)
-      → IsRead false MAX_READS has_failed has_ended good_reads remaining place old new result
+      → IsSourceRead MAX_READS (remaining old) old new (made_of made)
+      → IsRead false MAX_READS place old new result
   accepted_read made (Ok value) segment is = decoded_well made value is
   accepted_read made (Err fault) segment is = decoded_early made fault segment is
 
   -- or as one with a fault
   pub decoded_ill : {S : Type 0} (fault : SourceFault)
-      → IsSourceRead MAX_READS has_failed has_ended good_reads remaining (remaining old) old new
+      → IsSourceRead MAX_READS (remaining old) old new
       (told {S = S} fault)
-      → IsRead false MAX_READS has_failed has_ended good_reads remaining place old new (ill {S = T} (of_source place fault))
+      → IsRead false MAX_READS place old new (ill {S = T} (of_source place fault))
   decoded_ill {S} fault is = record {
     ended = tt;
     reported = λ failed. (let same : fault ≡ sources.Read = cc (is.reported failed) in rw same refl);
@@ -143,7 +143,7 @@ module _ {R T : Type 0} (has_failed has_ended : R → Bool) (good_reads : R → 
   -- a text was gathered whole, and this came of it
   pub gathered : (result : Result T RunFault) → has_ended new ≡ true → has_failed new ≡ false → good_reads new ≤ good_reads old + MAX_READS
       → NeverRead result → NamesOnly place result
-      → IsRead true MAX_READS has_failed has_ended good_reads remaining place old new result
+      → IsRead true MAX_READS place old new result
   gathered result ended fine bounded never named = record {
     ended = always result ended;
     reported = λ failed. absurd (cc (fine, failed));
@@ -159,7 +159,7 @@ module _ {R T : Type 0} (has_failed has_ended : R → Bool) (good_reads : R → 
       → (fault ≡ reads.NoMemory) ⊎ ((has_failed new ≡ true)
       ⊎ ((MAX_READS ≤ good_reads new) × IfSome (remaining old) (λ xs. MAX_READS ≤ length xs)))
       → good_reads new ≤ good_reads old + MAX_READS
-      → IsRead true MAX_READS has_failed has_ended good_reads remaining place old new (ill {S = T} (of_read place fault))
+      → IsRead true MAX_READS place old new (ill {S = T} (of_read place fault))
   ungathered reads.NoMemory reported failed bounded = record {
     ended = tt;
     reported = λ is. absurd (cc (reported is));

@@ -1,21 +1,27 @@
 -- Sources are read one after another to their ends, up to the one at which a run ends.
-use Rattle.std.proofs.Common.{◌≡◌, ◌<◌, ◌≤◌, ◌+◌, ℕ, Bool, false, List, length, map, All, refl, sym, ap, ◌∙◌, arith, inl, inr}
+use Rattle.std.proofs.Common.{◌≡◌, ◌<◌, ◌≤◌, ◌+◌, ℕ, Bool, false, List, length, map, take, All, refl, sym, ap, ◌∙◌, arith, inl, inr}
 use Rattle.std.proofs.Common.{Option, Some, Result, Ok, Err}
 use Rattle.std.specs.Prelude.{IfErr, option_map, slice_get}
 use Rattle.std.proofs.Math.ListN.{set}
 use Rattle.std.proofs.lemmas.Bool.{false_from_ne_true}
-use Rattle.std.proofs.lemmas.List.Elements.{All-set}
-use Rattle.std.proofs.lemmas.Option.{slice_get-map}
+use Rattle.std.proofs.lemmas.List.{length-map, map-set, take_all}
+use Rattle.std.proofs.lemmas.List.Elements.{All-contains, All-set}
+use Rattle.std.proofs.lemmas.Option.{slice_get-map, slice_get_within}
+use Rattle.htl_device.specs.States.{AreOpen, IsOpen, SourceState, ends, good_reads, has_ended, has_failed, lefts, remaining}
 use Rattle.htl_device.specs.declared.whole.TheConstants.{MAX_READS}
 use Rattle.htl_device.specs.declared.source.TheConstants.{MAX_READ_LEN}
+use Rattle.htl_segment.specs.Content.{Content}
+use Rattle.htl_segment.proofs.Spans.{at_place}
+use Rattle.htl_command.specs.declared.question.InputForm.{InputForm}
+use Rattle.htl_main.specs.Inputs.{DecodeAll, StopsAtInput}
 use Rattle.htl_main.specs.Reads.{IsRead, NeverRead}
 use Rattle.htl_main.specs.Readings.{AreRead}
-use Rattle.htl_main.specs.Sources.{AreReadToFault, AreReadWithin, EndsBefore, IsTrueAt}
+use Rattle.htl_main.specs.Sources.{AreReadToFault, AreReadWithin, EndsBefore, IsReportedAt, IsReportedOfSource, IsTrueAt}
 use Rattle.htl_main.specs.declared.fault.RunFault.{RunFault}
 use Rattle.htl_main.specs.declared.fault.RunFault.TheVariants.{Memory, Read, Workers}
-use Rattle.htl_main.proofs.SourceLaws.{ended_next, endless_at, known_now, none_read, none_read_within, one_read, one_read_within, other_value}
-use Rattle.htl_main.proofs.SourceLaws.{read_no_fault, slice_get-set_other, stopped_at, stopped_before, true_nowhere, true_of_all, true_of_new}
-use Rattle.htl_main.proofs.SourceLaws.{true_there}
+use Rattle.htl_main.proofs.SourceLaws.{Knows, ended_next, endless_at, known_now, knows_now, none_read, none_read_within, one_read, one_read_within}
+use Rattle.htl_main.proofs.SourceLaws.{other_value, read_no_fault, slice_get-set_other, stopped_at, stopped_before, true_nowhere, true_of_all, true_of_new}
+use Rattle.htl_main.proofs.SourceLaws.{true_there, value_there}
 
 -- a run that ends well, with a value
 abbrev pub well : {S : Type 0} → S → Result S RunFault
@@ -25,35 +31,43 @@ well value = Ok value
 abbrev pub ill : {S : Type 0} → RunFault → Result S RunFault
 ill fault = Err fault
 
+-- ---- what is known of sources
+
+-- once all were read, what holds of the texts of those before a place holds of all texts
+pub all_texts : {R : Type 0} (state : R → SourceState) (sources : List R) (texts : List (List ℕ)) (place : ℕ)
+    → map remaining (map state sources) ≡ map (λ (x : List ℕ). Some x) texts → length sources ≤ place → take place texts ≡ texts
+all_texts state sources texts place all done =
+    let long = sym (length-map texts (λ (x : List ℕ). Some x)) ∙ sym (ap length all) ∙ length-map (map state sources) remaining
+    ∙ length-map sources state in
+    take_all place texts (omega (arith, long, done))
+
 -- The sources before a place were read to their ends, and the others weren't read.
-pub record ReadBefore {R : Type 0} (is_text : Bool) (has_failed has_ended : R → Bool) (good_reads : R → ℕ)
-    (remaining : R → Option (List ℕ)) (first now : List R) (place : ℕ) : Type 0 where
+pub record ReadBefore (is_text : Bool) (first now : List SourceState) (place : ℕ) : Type 0 where
   pub left : (k : ℕ) → place ≤ k → slice_get now k ≡ slice_get first k
   pub ended : (k : ℕ) → k < place → IsTrueAt (map has_ended now) k
   pub fine : All (λ source. has_failed source ≡ false) now
   pub bounded : AreReadWithin (map good_reads first) (map good_reads now)
   pub to_fault : is_text ≡ false → AreReadToFault MAX_READ_LEN (map remaining first) (map remaining now)
 
-module _ {R : Type 0} (is_text : Bool) (has_failed has_ended : R → Bool) (good_reads : R → ℕ)
-    (remaining : R → Option (List ℕ)) (first : List R) where
+module _ (is_text : Bool) (first : List SourceState) where
   -- before the first read
-  pub none_before : All (λ source. has_failed source ≡ false) first
-      → ReadBefore is_text has_failed has_ended good_reads remaining first first 0
-  none_before fine = record {
+  pub none_before : AreOpen first
+      → ReadBefore is_text first first 0
+  none_before ready = record {
     left = λ k above. refl;
     ended = λ k below. absurd (omega (arith, below));
-    fine = fine;
+    fine = λ k d below. (ready k d below).fine;
     bounded = none_read_within (map good_reads first);
     to_fault = λ bytes. none_read MAX_READ_LEN (map remaining first);
   }
 
   -- a run that ends before its first read reads no source
-  pub unread : {S : Type 0} → All (λ source. has_failed source ≡ false) first
-      → AreRead is_text has_failed has_ended good_reads remaining first first (ill {S = S} Workers)
-  unread fine = record {
+  pub unread : {S : Type 0} → AreOpen first
+      → AreRead is_text first first (ill {S = S} Workers)
+  unread ready = record {
     ended = tt;
     in_order = λ earlier later below. inr refl;
-    reported = λ place failed. absurd (true_nowhere has_failed first place fine failed);
+    reported = λ place failed. absurd (true_nowhere has_failed first place (λ k d below. (ready k d below).fine) failed);
     read = λ place told. absurd (cc told);
     no_fault = λ place told bytes. absurd (cc told);
     bounded = none_read_within (map good_reads first);
@@ -61,11 +75,11 @@ module _ {R : Type 0} (is_text : Bool) (has_failed has_ended : R → Bool) (good
     to_fault = λ bytes. none_read MAX_READ_LEN (map remaining first);
   }
 
-  module _ (now : List R) where
+  module _ (now : List SourceState) where
     -- all were read
-    pub all_read : {S : Type 0} (place : ℕ) (value : S) → ReadBefore is_text has_failed has_ended good_reads remaining first now place
+    pub all_read : {S : Type 0} (place : ℕ) (value : S) → ReadBefore is_text first now place
         → length now ≤ place
-        → AreRead is_text has_failed has_ended good_reads remaining first now (well {S = S} value)
+        → AreRead is_text first now (well {S = S} value)
     all_read place value before all = record {
       ended = true_of_all has_ended now (λ k within. before.ended k (omega (arith, all, within)));
       in_order = stopped_before has_ended first now place before.ended before.left;
@@ -79,8 +93,8 @@ module _ {R : Type 0} (is_text : Bool) (has_failed has_ended : R → Bool) (good
 
     -- a run ends for the fault of its sources, whatever it gives else
     pub ends_too : {S T : Type 0} (fault : RunFault)
-        → AreRead is_text has_failed has_ended good_reads remaining first now (ill {S = S} fault)
-        → AreRead is_text has_failed has_ended good_reads remaining first now (ill {S = T} fault)
+        → AreRead is_text first now (ill {S = S} fault)
+        → AreRead is_text first now (ill {S = T} fault)
     ends_too fault read = record {
       ended = tt;
       in_order = read.in_order;
@@ -94,9 +108,9 @@ module _ {R : Type 0} (is_text : Bool) (has_failed has_ended : R → Bool) (good
 
     -- a run that has read all its sources ends well, or for a fault of no input
     pub read_then : {S T : Type 0} (value : S) (result : Result T RunFault)
-        → AreRead is_text has_failed has_ended good_reads remaining first now (well {S = S} value) → NeverRead result
+        → AreRead is_text first now (well {S = S} value) → NeverRead result
         → IfErr result (λ fault. (place : ℕ) → EndsBefore fault place → ⊥)
-        → AreRead is_text has_failed has_ended good_reads remaining first now result
+        → AreRead is_text first now result
     read_then value (Ok done) read never names = record {
       ended = read.ended;
       in_order = read.in_order;
@@ -119,7 +133,7 @@ module _ {R : Type 0} (is_text : Bool) (has_failed has_ended : R → Bool) (good
     }
 
     -- The source x at a place is read next, and is y after that.
-    module _ (place : ℕ) (x y : R) (before : ReadBefore is_text has_failed has_ended good_reads remaining first now place)
+    module _ (place : ℕ) (x y : SourceState) (before : ReadBefore is_text first now place)
         (within : place < length now) (here : slice_get now place ≡ Some x) where
       bytes_of : slice_get (map remaining first) place ≡ Some (remaining x)
       bytes_of = known_now remaining first now place x (before.left place (omega arith)) here
@@ -130,8 +144,8 @@ module _ {R : Type 0} (is_text : Bool) (has_failed has_ended : R → Bool) (good
 
       -- one source more
       pub one_before : {S : Type 0} (value : S)
-          → IsRead is_text MAX_READS has_failed has_ended good_reads remaining place x y (well {S = S} value)
-          → ReadBefore is_text has_failed has_ended good_reads remaining first (set now place y) (place + 1)
+          → IsRead is_text MAX_READS place x y (well {S = S} value)
+          → ReadBefore is_text first (set now place y) (place + 1)
       one_before value is =
           let fine : has_failed y ≡ false = false_from_ne_true (has_failed y)
           (λ failed. cc (is.reported failed)) in
@@ -146,8 +160,8 @@ module _ {R : Type 0} (is_text : Bool) (has_failed has_ended : R → Bool) (good
 
       -- a run ends at the source at a place
       pub read_to : {S T : Type 0} (fault : RunFault)
-          → IsRead is_text MAX_READS has_failed has_ended good_reads remaining place x y (ill {S = S} fault)
-          → AreRead is_text has_failed has_ended good_reads remaining first (set now place y) (ill {S = T} fault)
+          → IsRead is_text MAX_READS place x y (ill {S = S} fault)
+          → AreRead is_text first (set now place y) (ill {S = T} fault)
       read_to fault is = record {
         ended = tt;
         in_order = stopped_at has_ended first now place y before.ended before.left;
@@ -176,8 +190,8 @@ module _ {R : Type 0} (is_text : Bool) (has_failed has_ended : R → Bool) (good
 
       -- a source was read, and then memory was refused
       pub refused_after : {S T : Type 0} (value : S)
-          → IsRead is_text MAX_READS has_failed has_ended good_reads remaining place x y (well {S = S} value)
-          → AreRead is_text has_failed has_ended good_reads remaining first (set now place y) (ill {S = T} Memory)
+          → IsRead is_text MAX_READS place x y (well {S = S} value)
+          → AreRead is_text first (set now place y) (ill {S = T} Memory)
       refused_after value is =
           record {
             ended = tt;
@@ -194,7 +208,7 @@ module _ {R : Type 0} (is_text : Bool) (has_failed has_ended : R → Bool) (good
           }
 
 -- the sources after the last that was read have all their bytes left
-pub unread_later : {R : Type 0} (remaining : R → Option (List ℕ)) (first now : List R) (texts : List (List ℕ)) (place : ℕ) (y : R)
+unread_later : {R : Type 0} (remaining : R → Option (List ℕ)) (first now : List R) (texts : List (List ℕ)) (place : ℕ) (y : R)
     → ((k : ℕ) → place ≤ k → slice_get now k ≡ slice_get first k) → map remaining first ≡ map (λ (x : List ℕ). Some x) texts
     → (later : ℕ) → place < later
     → slice_get (map remaining (set now place y)) later ≡ slice_get (map (λ (x : List ℕ). Some x) texts) later
@@ -202,3 +216,84 @@ unread_later remaining first now texts place y left all later above =
     other_value remaining now place later y (λ e. omega (arith, above, e)) ∙ slice_get-map remaining now later
     ∙ ap (option_map remaining) (left later (omega (arith, above))) ∙ sym (slice_get-map remaining first later)
     ∙ ap (λ (l : List (Option (List ℕ))). slice_get l later) all
+
+-- ---- one source after another, in a loop
+
+-- The sources before a place were read, and x, which stands there, is next.
+module _ {R : Type 0} (state : R → SourceState) (first now : List R) (place : ℕ) (x : R) (here : slice_get now place ≡ Some x)
+    {is_text : Bool} (before : ReadBefore is_text (map state first) (map state now) place) where
+  here_now : slice_get (map state now) place ≡ Some (state x)
+  here_now = slice_get-map state now place ∙ ap (option_map state) here
+
+  within_now : place < length (map state now)
+  within_now = slice_get_within (map state now) place (state x) here_now
+
+  left_now : slice_get (map state now) place ≡ slice_get (map state first) place
+  left_now = before.left place (omega arith)
+
+  -- it can be read
+  pub next_open : AreOpen (map state first) → IsOpen (state x)
+  next_open all = All-contains (λ source. IsOpen source) (map state first) (state x) all
+      (at_place (map state first) place (state x) (sym left_now ∙ here_now))
+
+  -- where the bytes of all sources are known, so are its own
+  pub knows_next : (texts : List (List ℕ)) → map remaining (map state first) ≡ map (λ (t : List ℕ). Some t) texts
+      → Knows texts place (remaining (state x))
+  knows_next texts all = knows_now remaining (map state first) (map state now) texts place (state x) left_now here_now all
+
+  -- It is y once it was read.
+  module _ (y : R) where
+    -- one source more was read to its end
+    pub one_more : {S : Type 0} (value : S) → IsRead is_text MAX_READS place (state x) (state y) (well {S = S} value)
+        → ReadBefore is_text (map state first) (map state (set now place y)) (place + 1)
+    one_more value is = rw (map-set state now place y) (one_before is_text (map state first) (map state now) place (state x) (state y) before
+        within_now here_now value is)
+
+    -- the run ends for its fault
+    pub ends_there : {S T : Type 0} (fault : RunFault) → IsRead is_text MAX_READS place (state x) (state y) (ill {S = S} fault)
+        → AreRead is_text (map state first) (map state (set now place y)) (ill {S = T} fault)
+    ends_there fault is = rw (map-set state now place y) (read_to is_text (map state first) (map state now) place (state x) (state y) before
+        within_now here_now fault is)
+
+    -- or for refused memory, once it was read to its end
+    pub refused_there : {S T : Type 0} (value : S) → IsRead is_text MAX_READS place (state x) (state y) (well {S = S} value)
+        → AreRead is_text (map state first) (map state (set now place y)) (ill {S = T} Memory)
+    refused_there value is = rw (map-set state now place y) (refused_after is_text (map state first) (map state now) place (state x) (state y)
+        before within_now here_now value is)
+
+    -- what is left of it, and whether its end was found
+    pub left_there : slice_get (lefts (map state (set now place y))) place ≡ Some (remaining (state y))
+    left_there = rw (map-set state now place y) (value_there remaining (map state now) place (state y) within_now)
+
+    pub ended_there : slice_get (ends (map state (set now place y))) place ≡ Some (has_ended (state y))
+    ended_there = rw (map-set state now place y) (value_there has_ended (map state now) place (state y) within_now)
+
+    -- all bytes of the later ones are left
+    pub later_there : (texts : List (List ℕ)) → map remaining (map state first) ≡ map (λ (t : List ℕ). Some t) texts → (later : ℕ)
+        → place < later → slice_get (lefts (map state (set now place y))) later ≡ slice_get (map (λ (t : List ℕ). Some t) texts) later
+    later_there texts all = rw (map-set state now place y) (unread_later remaining (map state first) (map state now) texts place (state y)
+        before.left all)
+
+    -- the sources before it are decoded, and what is reported of it is reported
+    pub stops_there : (form : InputForm) (texts : List (List ℕ)) (fault : RunFault) (segments : List Content)
+        → (all : map remaining (map state first) ≡ map (λ (t : List ℕ). Some t) texts) → DecodeAll form (take place texts) segments
+        → ((knows : Knows texts place (remaining (state x)))
+        → IsReportedOfSource form (remaining (state y)) (has_ended (state y)) place knows.input fault)
+        → StopsAtInput form (IsReportedAt form (lefts (map state (set now place y))) (ends (map state (set now place y)))) texts fault
+    stops_there form texts fault segments all decoded reported =
+        let knows = knows_next texts all in
+        record {
+          place = place;
+          input = knows.input;
+          here = knows.here;
+          segments = segments;
+          before = decoded;
+          reported = (remaining (state y), has_ended (state y), left_there, ended_there, reported knows);
+        }
+
+-- all were read in the loop
+pub all_ended : {R S : Type 0} (state : R → SourceState) (first now : List R) (place : ℕ) (value : S) {is_text : Bool}
+    → ReadBefore is_text (map state first) (map state now) place → length now ≤ place
+    → AreRead is_text (map state first) (map state now) (well {S = S} value)
+all_ended state first now place value before done =
+    let long = length-map now state in all_read _ (map state first) (map state now) place value before (omega (arith, long, done))

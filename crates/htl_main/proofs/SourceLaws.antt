@@ -5,15 +5,11 @@ use Rattle.std.specs.Prelude.{slice_get, option_map}
 use Rattle.std.proofs.Math.ListN.{set}
 use Rattle.std.proofs.KnownBytes.{Consumes-nil}
 use Rattle.std.proofs.lemmas.Bool.{cases_lt}
-use Rattle.htl_segment.proofs.Spans.{at_place}
-use Rattle.std.proofs.lemmas.List.Elements.{All-cons, All-contains, All-head, All-nil, All-tail}
+use Rattle.std.proofs.lemmas.List.Elements.{All-cons, All-head, All-nil, All-tail}
 use Rattle.std.proofs.lemmas.Option.{slice_get-map}
 use Rattle.htl_device.specs.declared.whole.TheConstants.{MAX_READS}
-use Rattle.htl_command.specs.declared.question.InputForm.{InputForm}
 use Rattle.htl_segment.specs.Content.{Fits}
-use Rattle.htl_main.specs.Sources.{AreReadInOrder, AreReadToFault, AreReadWithin, IsEndless, IsReportedAt, IsReportedOfSource, IsTrueAt}
-use Rattle.htl_main.specs.Sources.{ReadsNoFault}
-use Rattle.htl_main.specs.declared.fault.RunFault.{RunFault}
+use Rattle.htl_main.specs.Sources.{AreReadInOrder, AreReadToFault, AreReadWithin, IsEndless, IsTrueAt, ReadsNoFault}
 use Rattle.htl_reading.specs.Sources.{IsReadToFault}
 use Rattle.htl_reading.proofs.FaultLaws.{read_without_fault}
 
@@ -86,12 +82,6 @@ knows_now f first now inputs place x left here all =
     knows_all inputs place (f x) (ap (λ (l : List (Option (List ℕ))). slice_get l place) (sym all)
     ∙ known_now f first now place x left here)
 
--- a test that was false of all at the start is false of it
-pub false_now : {X : Type 0} (f : X → Bool) (first now : List X) (place : ℕ) (x : X) → slice_get now place ≡ slice_get first place
-    → slice_get now place ≡ Some x → All (λ source. f source ≡ false) first → f x ≡ false
-false_now f first now place x left here all =
-    All-contains (λ source. f source ≡ false) first x all (at_place first place x (sym left ∙ here))
-
 -- a fact of the known bytes, where they are known
 pub at_known : (inputs : List (List ℕ)) (place : ℕ) (known : Option (List ℕ)) (P : List ℕ → Type 0) (knows : Knows inputs place known)
     → IfSome known P → P knows.input
@@ -101,14 +91,6 @@ at_known inputs place (Some x) P knows fact = let is : x ≡ knows.input = let e
 -- what a new element at a place is mapped to
 pub value_there : {X Y : Type 0} (f : X → Y) (xs : List X) (i : ℕ) (y : X) → i < length xs → slice_get (map f (set xs i y)) i ≡ Some (f y)
 value_there f xs i y within = slice_get-map f (set xs i y) i ∙ ap (option_map f) (slice_get-set_same xs i y within)
-
--- what is reported of the source that was read last is reported of it among all
-pub reported_at : {R : Type 0} (has_ended : R → Bool) (remaining : R → Option (List ℕ)) (now : List R) (place : ℕ) (y : R)
-    → place < length now → (form : InputForm) (input : List ℕ) (fault : RunFault)
-    → IsReportedOfSource form (remaining y) (has_ended y) place input fault
-    → IsReportedAt form (map remaining (set now place y)) (map has_ended (set now place y)) place input fault
-reported_at has_ended remaining now place y within form input fault reported =
-    (remaining y, has_ended y, value_there remaining now place y within, value_there has_ended now place y within, reported)
 
 -- ---- in which order sources are read
 

@@ -6,6 +6,7 @@ use Rattle.std.specs.Prelude.{Contains}
 use Rattle.std.specs.Prelude.{length, min, slice_get, take, Option, None, Some, Result, Err}
 use Rattle.std.specs.List.{AllByRecursion}
 use Rattle.std.specs.Io.KnownBytes.{Consumes}
+use Rattle.htl_device.specs.States.{SourceState, ends, lefts}
 use Rattle.htl_analyst.specs.Right.{IsCollection}
 use Rattle.htl_analyst.specs.States.{State}
 use Rattle.htl_analyst.specs.Keys.{HasTaken}
@@ -136,6 +137,16 @@ pub record TakesUpTo (before given taken : List Content) (unfit : Option CaseFau
 
 -- ---- what a reading brings, and why it ends
 
+-- A reading that folds: its setting, the segments that were taken before it, the texts of its inputs, and what is known of these after it.
+pub record Folding : Type 0 where
+  pub setting : Setting
+  pub before : List Content
+  pub inputs : List (List ℕ)
+  pub after : List SourceState
+
+abbrev pub folding : Setting → List Content → List (List ℕ) → List SourceState → Folding
+folding setting before inputs after = record { setting = setting; before = before; inputs = inputs; after = after }
+
 -- Read: all segments of the inputs were taken, and `Keeps` holds of all that were taken by then. `added` counts the segments of the inputs,
 -- and those whose keys were not there.
 pub record IsFolded (setting : Setting) (before : List Content) (inputs : List (List ℕ)) (Keeps : List Content → Type 0) (added : Added)
@@ -179,12 +190,17 @@ AreGiven form inputs lefts (faults.Read place) given =
     (left : Option (List ℕ)) × (slice_get lefts place ≡ Some left) × ComeBefore form inputs place (GaveBefore form.hex left) given
 AreGiven form inputs lefts fault given = DecodeAll form inputs given
 
+-- the reading stops at one of its inputs, of which this is reported
+abbrev pub StopsFolding : Folding → RunFault → Type 0
+StopsFolding of fault =
+    StopsAtInput of.setting.form (IsReportedAt of.setting.form (lefts of.after) (ends of.after)) of.inputs fault
+
 -- Memory is asked for to read; to fold segments that were given, before a fault too; and to say what was read.
-abbrev pub AsksFoldsMemory : Setting → List Content → List (List ℕ) → List (Option (List ℕ)) → List Bool → Type 0
-AsksFoldsMemory setting before inputs lefts ends =
-    WorkersFit setting.workers × (StopsAtInput setting.form (IsReportedAt setting.form lefts ends) inputs faults.Memory
-    ⊎ (((given : List Content) × (given ≢ []) × (fault : RunFault) × AreGiven setting.form inputs lefts fault given)
-    ⊎ ((given : List Content) × DecodeAll setting.form inputs given × (before ++ given ≢ []))))
+abbrev pub AsksFoldsMemory : Folding → Type 0
+AsksFoldsMemory of =
+    WorkersFit of.setting.workers × (StopsFolding of faults.Memory
+    ⊎ (((given : List Content) × (given ≢ []) × (fault : RunFault) × AreGiven of.setting.form of.inputs (lefts of.after) fault given)
+    ⊎ ((given : List Content) × DecodeAll of.setting.form of.inputs given × (of.before ++ given ≢ []))))
 
 -- A complete trace is asked for, and this fault says why the collection of all segments, with inputs that are cut, isn't complete.
 abbrev pub IsMissingOfFirsts : Setting → List Content → List (List ℕ) → RunFault → Type 0
@@ -193,54 +209,47 @@ IsMissingOfFirsts setting all inputs fault =
     × ((T : Trace) → IsCollectionOf all T → ReportsMissing T cuts fault)
 
 -- Why a reading ends, by what its inputs gave, and which segments of that were taken before an unfit one.
-abbrev pub IsFoldsFault : Setting → List Content → List (List ℕ) → List (Option (List ℕ)) → List Bool → List Content → Option CaseFault
-    → RunFault → Type 0
-IsFoldsFault setting before inputs lefts ends taken unfit faults.Workers = WorkersFit setting.workers → ⊥
-IsFoldsFault setting before inputs lefts ends taken unfit (faults.Segment place offset fault) =
-    WorkersFit setting.workers × StopsAtInput setting.form (IsReportedAt setting.form lefts ends) inputs (faults.Segment place offset fault)
-IsFoldsFault setting before inputs lefts ends taken unfit (faults.Hex place fault) =
-    WorkersFit setting.workers × StopsAtInput setting.form (IsReportedAt setting.form lefts ends) inputs (faults.Hex place fault)
-IsFoldsFault setting before inputs lefts ends taken unfit (faults.Read place) =
-    WorkersFit setting.workers × StopsAtInput setting.form (IsReportedAt setting.form lefts ends) inputs (faults.Read place)
-IsFoldsFault setting before inputs lefts ends taken unfit (faults.Case cases.Empty) = WorkersFit setting.workers × (before ++ taken ≡ [])
-IsFoldsFault setting before inputs lefts ends taken unfit (faults.Case fault) = WorkersFit setting.workers × (unfit ≡ Some fault)
-IsFoldsFault setting before inputs lefts ends taken unfit (faults.Incomplete processor number) =
-    WorkersFit setting.workers × (unfit ≡ None) × IsMissingOfFirsts setting (before ++ taken) inputs (faults.Incomplete processor number)
-IsFoldsFault setting before inputs lefts ends taken unfit (faults.UnknownCut input) =
-    WorkersFit setting.workers × (unfit ≡ None) × IsMissingOfFirsts setting (before ++ taken) inputs (faults.UnknownCut input)
-IsFoldsFault setting before inputs lefts ends taken unfit fault = ⊥
+abbrev pub IsFoldsFault : Folding → List Content → Option CaseFault → RunFault → Type 0
+IsFoldsFault of taken unfit faults.Workers = WorkersFit of.setting.workers → ⊥
+IsFoldsFault of taken unfit (faults.Segment place offset fault) =
+    WorkersFit of.setting.workers × StopsFolding of (faults.Segment place offset fault)
+IsFoldsFault of taken unfit (faults.Hex place fault) = WorkersFit of.setting.workers × StopsFolding of (faults.Hex place fault)
+IsFoldsFault of taken unfit (faults.Read place) = WorkersFit of.setting.workers × StopsFolding of (faults.Read place)
+IsFoldsFault of taken unfit (faults.Case cases.Empty) = WorkersFit of.setting.workers × (of.before ++ taken ≡ [])
+IsFoldsFault of taken unfit (faults.Case fault) = WorkersFit of.setting.workers × (unfit ≡ Some fault)
+IsFoldsFault of taken unfit (faults.Incomplete processor number) =
+    WorkersFit of.setting.workers × (unfit ≡ None)
+    × IsMissingOfFirsts of.setting (of.before ++ taken) of.inputs (faults.Incomplete processor number)
+IsFoldsFault of taken unfit (faults.UnknownCut input) =
+    WorkersFit of.setting.workers × (unfit ≡ None) × IsMissingOfFirsts of.setting (of.before ++ taken) of.inputs (faults.UnknownCut input)
+IsFoldsFault of taken unfit fault = ⊥
 
 -- Refused: of the segments before the fault those before an unfit one were taken, and `Keeps` holds of all that were taken by then.
-pub record IsFoldedUpTo (setting : Setting) (before : List Content) (inputs : List (List ℕ)) (lefts : List (Option (List ℕ)))
-    (ends : List Bool) (Keeps : List Content → Type 0) (fault : RunFault) : Type 0 where
+pub record IsFoldedUpTo (of : Folding) (Keeps : List Content → Type 0) (fault : RunFault) : Type 0 where
   pub given : List Content
-  pub are_given : AreGiven setting.form inputs lefts fault given
+  pub are_given : AreGiven of.setting.form of.inputs (lefts of.after) fault given
   pub taken : List Content
   pub unfit : Option CaseFault
-  pub takes : TakesUpTo before given taken unfit
-  pub kept : Keeps (before ++ taken)
-  pub why : IsFoldsFault setting before inputs lefts ends taken unfit fault
+  pub takes : TakesUpTo of.before given taken unfit
+  pub kept : Keeps (of.before ++ taken)
+  pub why : IsFoldsFault of taken unfit fault
 
 -- After refused memory nothing is said of what was taken.
-abbrev pub IsFoldingRefused : Setting → List Content → List (List ℕ) → List (Option (List ℕ)) → List Bool → (List Content → Type 0)
-    → RunFault → Type 0
-IsFoldingRefused setting before inputs lefts ends Keeps faults.Memory = AsksFoldsMemory setting before inputs lefts ends
-IsFoldingRefused setting before inputs lefts ends Keeps fault = IsFoldedUpTo setting before inputs lefts ends Keeps fault
+abbrev pub IsFoldingRefused : Folding → (List Content → Type 0) → RunFault → Type 0
+IsFoldingRefused of Keeps faults.Memory = AsksFoldsMemory of
+IsFoldingRefused of Keeps fault = IsFoldedUpTo of Keeps fault
 
 -- Why a dialogue doesn't begin: a fault of its inputs, or else of the symbols.
-abbrev pub IsBeginningRefused : Setting → Option (List ℕ) → List (List ℕ) → List (Option (List ℕ)) → List Bool → RunFault → Type 0
-IsBeginningRefused setting symbols inputs lefts ends (faults.Symbols fault) =
+abbrev pub IsBeginningRefused : Setting → Option (List ℕ) → List (List ℕ) → List SourceState → RunFault → Type 0
+IsBeginningRefused setting symbols inputs after (faults.Symbols fault) =
     HasSymbolFault symbols fault × (added : Added) × IsFolded setting [] inputs (λ taken. ⊤) added
-IsBeginningRefused setting symbols inputs lefts ends fault = IsFoldingRefused setting [] inputs lefts ends (λ taken. ⊤) fault
+IsBeginningRefused setting symbols inputs after fault = IsFoldingRefused (folding setting [] inputs after) (λ taken. ⊤) fault
 
 -- The sources are read as by a run that ends so. Where memory was refused to fold what came before a fault, they were read as by a run that
 -- ends with that fault.
-abbrev pub AreReadToFold : {R S : Type 0} → Bool → (R → Bool) → (R → Bool) → (R → ℕ) → (R → Option (List ℕ)) → List R → List R
-    → Result S RunFault → Type 0
-AreReadToFold {R} {S} is_text has_failed has_ended good_reads remaining old new result =
-    AreRead is_text has_failed has_ended good_reads remaining old new result
-    ⊎ ((result ≡ Err faults.Memory) × (fault : RunFault)
-    × AreRead {S = S} is_text has_failed has_ended good_reads remaining old new (Err fault))
+abbrev pub AreReadToFold : {S : Type 0} → Bool → List SourceState → List SourceState → Result S RunFault → Type 0
+AreReadToFold {S} is_text old new result =
+    AreRead is_text old new result ⊎ ((result ≡ Err faults.Memory) × (fault : RunFault) × AreRead {S = S} is_text old new (Err fault))
 
 -- A fault about two segments names neither, since one of them may be forgotten (`Unknown`). Any other fault is about `Nothing`.
 abbrev pub IsHalfKnown : RunFault → Between → Type 0

@@ -20,6 +20,7 @@ pub mod Adding
 pub mod Folding
 pub mod Asked
 pub mod Picked
+pub mod Runs
 pub mod Statuses
 pub mod Analysts
 pub mod Histories

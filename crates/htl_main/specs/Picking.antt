@@ -1,5 +1,8 @@
 -- For the clauses of private functions: what is picked of one source more, and of all, and why no answer is made of it.
-use Rattle.std.specs.Prelude.{◌≡◌, ⊤, ℕ, Bool, true, false, List, ◌++◌, All, Option}
+use Rattle.std.specs.Prelude.{◌≡◌, ◌≢◌, ⊤, ℕ, Bool, true, false, List, ◌++◌, All, Option, Result, Ok, Err, IfErr, IfOk}
+use Rattle.std.specs.Io.KnownBytes.{Appends}
+use Rattle.htl_device.specs.Devices.{AppendsPrefix}
+use Rattle.htl_device.specs.States.{SinkState}
 use Rattle.htl_event.specs.declared.interest.Interest.{Interest}
 use Rattle.htl_event.specs.declared.interest.Interest.TheVariants.{OpenHandles}
 use Rattle.htl_segment.specs.Content.{Content, Fits}
@@ -10,18 +13,23 @@ use Rattle.htl_case.specs.Cases.{IsCaseOf}
 use Rattle.htl_case.specs.Picked.{Picked, IsPickedOf, IsPickedUntil}
 use Rattle.htl_command.specs.declared.question.InputForm.{InputForm}
 use Rattle.htl_command.specs.declared.question.Job.{Job}
+use Rattle.htl_main.specs.Causes.{IsCauseAfter}
 use Rattle.htl_main.specs.Coverages.{CoversSegments}
 use Rattle.htl_main.specs.Ends.{IsInput}
 use Rattle.htl_main.specs.Inputs.{DecodeAll}
+use Rattle.htl_main.specs.Picked.{IsLackOf}
 use Rattle.htl_main.specs.Printed.{AreAnswerLines}
 use Rattle.htl_main.specs.Remarks.{RemarksIn}
+use Rattle.htl_main.specs.Runs.{LeavesSink}
 use Rattle.htl_main.specs.Subjects.{HasAbsenceIn}
 use Rattle.htl_main.specs.declared.completed.Completed.{Completed}
 use Rattle.htl_main.specs.declared.cut_inputs.CutEnd.{CutEnd}
 use Rattle.htl_reading.specs.declared.outcome.EarlyEnd.{EarlyEnd}
-use Rattle.htl_main.specs.CutInputs.{AreCut, AreCutEnds, Decoding}
+use Rattle.htl_main.specs.CutInputs.{AreCut, AreCutEnds, Decoding, decoding}
 use Rattle.htl_main.specs.declared.fault.RunFault.{RunFault}
 use Rattle.htl_main.specs.declared.fault.RunFault.TheVariants.{Incomplete, NoSubject, Symbols, Memory, UnknownCut, Write}
+use Rattle.htl_main.specs.declared.picked_run.Lacking.{Lacking}
+use Rattle.htl_main.specs.declared.picking.AllPicks.{AllPicks}
 
 -- only the open handles of a process are asked about
 abbrev pub is_of_open_handles : Interest → Bool
@@ -91,3 +99,24 @@ EndsAnswer other = ⊥
 abbrev pub EndsPrinting : RunFault → Type 0
 EndsPrinting Write = ⊤
 EndsPrinting fault = EndsAnswer fault
+
+-- The answer over the case of what was decoded was printed, and what is reported beside it holds; or its picks lack something to tell it;
+-- or there is a reason why not.
+abbrev pub EndsOfPicks : Interest → Decoding → Option (List ℕ) → Job → Option (List ℕ) → Option (List ℕ)
+    → Result (Result Completed Lacking) RunFault → Type 0
+EndsOfPicks interest given symbols job old new (Ok (Ok completed)) =
+    PrintsOf given symbols job (Appends old new) × ReportsOf given.segments symbols job given.cuts completed
+EndsOfPicks interest given symbols job old new (Ok (Err lack)) = IsLackOf interest given.segments job lack
+EndsOfPicks interest given symbols job old new (Err fault) =
+    EndsPrinting fault × (fault ≢ Write → IsCauseAfter given symbols job fault)
+    × (fault ≡ Write → PrintsOf given symbols job (AppendsPrefix old new))
+
+pub record PrintsPicks (interest : Interest) (all : AllPicks) (symbols : Option (List ℕ)) (job : Job) (before after : SinkState)
+    (result : Result (Result Completed Lacking) RunFault) : Type 0 where
+  pub outcome : (segments : List Content) → ArePickedFor interest all.picks segments
+      → EndsOfPicks interest (decoding segments all.cuts.items) symbols job before.contents after.contents result
+  pub sink : LeavesSink before after result
+  -- Where something is lacking, nothing was written.
+  pub unwritten : IfOk result (λ ended. IfErr ended (λ lack. after ≡ before))
+  -- No failed read is reported, and no rule of a case.
+  pub ends : IfErr result EndsPrinting

@@ -1,5 +1,6 @@
 -- For the clauses of private functions: how the reading of the source at a place may end.
 use Rattle.std.specs.Prelude.{◌≡◌, ◌≢◌, ◌<◌, ◌≤◌, ◌+◌, ◌⊎◌, ℕ, Bool, true, false, List, length, Option, IfSome, IfErr, OnOk, Result, Err}
+use Rattle.htl_device.specs.States.{SourceState, good_reads, has_ended, has_failed, remaining}
 use Rattle.htl_device.specs.declared.source.TheConstants.{MAX_READ_LEN}
 use Rattle.htl_reading.specs.Sources.{IsReadToFault}
 use Rattle.htl_main.specs.Sources.{EndsBefore}
@@ -26,8 +27,7 @@ NeverWrite result = IfErr result (λ fault. fault ≢ Write)
 
 -- How one source is read, as `AreRead` says it of all: the one at a place, of which at most so many reads give bytes. It has the state
 -- `new` after that.
-pub record IsRead {R S : Type 0} (is_text : Bool) (most : ℕ) (has_failed has_ended : R → Bool) (good_reads : R → ℕ)
-    (remaining : R → Option (List ℕ)) (place : ℕ) (old new : R) (result : Result S RunFault) : Type 0 where
+pub record IsRead {S : Type 0} (is_text : Bool) (most : ℕ) (place : ℕ) (old new : SourceState) (result : Result S RunFault) : Type 0 where
   pub ended : OnOk result (has_ended new ≡ true)
   -- A read that failed is reported.
   pub reported : has_failed new ≡ true → result ≡ Err (Read place)

@@ -1,21 +1,19 @@
 //! More sources, whose segments are added to what was loaded.
 
-ghost use Rattle.std.specs.Prelude.{◌≡◌, ◌⊎◌, ◌++◌, ◌∷◌, [], ℕ, Bool, List, All, Some, None, false};
-ghost use Rattle.std.specs.Prelude.{length, map, IfErr, IfOk, OnOk};
+ghost use Rattle.std.specs.Prelude.{◌≡◌, ◌⊎◌, ◌++◌, ◌∷◌, [], ℕ, Bool, List, None};
+ghost use Rattle.std.specs.Prelude.{length, map, IfErr, IfOk};
 ghost use Rattle.htl_case.specs.Cases.{IsCase};
 ghost use Rattle.htl_command.specs.declared.question.InputForm.{InputForm};
 ghost use Rattle.htl_command.specs.declared.question.Job.{Job};
-ghost use Rattle.htl_main.specs.Adding.{IsAdded, IsAddingRefused};
+ghost use Rattle.htl_device.specs.States.{AreOpen};
 ghost use Rattle.htl_main.specs.Causes.{IsCauseAfter};
 ghost use Rattle.htl_main.specs.Coverages.{IsCoverage};
 ghost use Rattle.htl_main.specs.CutInputs.{AreCut, AreCutEnds, decoding};
 ghost use Rattle.htl_main.specs.Inputs.{DecodeAll, Decodes};
 ghost use Rattle.htl_main.specs.Loading.{AreLoaded};
-ghost use Rattle.htl_main.specs.Origins.{IsBetween, by_fault};
+ghost use Rattle.htl_main.specs.Origins.{IsBetween};
 ghost use Rattle.htl_main.specs.Spans.{AreSpans};
-ghost use Rattle.htl_main.specs.Printed.{WorkersFit};
-ghost use Rattle.htl_main.specs.Reads.{NeverWrite};
-ghost use Rattle.htl_main.specs.Readings.{AreRead};
+ghost use Rattle.htl_main.specs.Runs.{AddsAs};
 
 use crate::cases::case_of;
 use crate::coverage::Coverage;
@@ -80,24 +78,9 @@ pub fn add<Rt: Threads + Sync, R: Parted>(
     loaded: &mut Loaded,
     inputs: &mut [R],
 ) -> Result<Added, Refused>
-    requires fresh { All (λ source. R.has_failed source ≡ false) inputs.old }
-    requires inside { All (λ source. R.has_ended source ≡ false) inputs.old }
-    // The segments of the sources' bytes are added, or their first fault is reported.
-    ensures ok { (texts : List (List ℕ)) → map R.remaining inputs.old ≡ map Some texts
-        → IfOk result (IsAdded setting.form setting.complete loaded.old.case.segments texts
-        loaded.new.case) }
-    ensures coverage { IfOk result (λ added. (loaded.new.coverage ≡ added.coverage)
-        × IsCoverage loaded.new.case loaded.new.coverage) }
-    ensures err { (texts : List (List ℕ)) → map R.remaining inputs.old ≡ map Some texts
-        → IfErr result (IsAddingRefused setting loaded.old.case.segments texts
-        (map R.remaining inputs.new) (map R.has_ended inputs.new)) }
-    ensures workers { OnOk result (WorkersFit setting.workers) }
-    ensures same { IfErr result (λ _. loaded.new ≡ loaded.old) }
-    ensures symbols { loaded.new.symbols ≡ loaded.old.symbols }
-    ensures cut { loaded.new.cut ≡ loaded.old.cut }
-    ensures reading { AreRead setting.form.hex R.has_failed R.has_ended R.good_reads
-        R.remaining inputs.old inputs.new (by_fault result) }
-    ensures no_write { NeverWrite (by_fault result) }
+    requires ready { AreOpen (map R.state inputs.old) }
+    ensures { AddsAs setting (map R.state inputs.old) (map R.state inputs.new)
+        loaded.old loaded.new result }
 {
     check_workers(setting.workers)?;
     let decoded = read_all(rt, alloc, setting.form, setting.workers, inputs)?;

@@ -1,7 +1,7 @@
 //! The run that dumps the segments of sources as text.
 
 ghost use Rattle.std.specs.Prelude.{◌≡◌, ◌⊎◌, ◌+◌, ◌*◌, ◌-◌, ◌<◌, ◌≤◌, ◌^◌};
-ghost use Rattle.std.specs.Prelude.{ℕ, Bool, List, Option, All, Some, Err, false, true, drop};
+ghost use Rattle.std.specs.Prelude.{ℕ, Bool, List, Option, Err, false, true, drop};
 ghost use Rattle.std.specs.Prelude.{length, map, IfErr, IfOk, IfSome, MatchResult, OnOk};
 ghost use Rattle.std.specs.Io.KnownBytes.{Appends};
 ghost use Rattle.htl_device.specs.Devices.{AppendsPrefix};
@@ -9,13 +9,12 @@ ghost use Rattle.htl_segment.specs.Bundles.{bundle, IsRest};
 ghost use Rattle.htl_segment.specs.Content.{Content};
 ghost use Rattle.htl_text.specs.Texts.{segment_text};
 ghost use Rattle.htl_reading.specs.Sources.{IsReadToFault};
-ghost use Rattle.htl_main.specs.CutInputs.{AreCut};
+ghost use Rattle.htl_device.specs.States.{AreOpen, IsOpen};
 ghost use Rattle.htl_main.specs.Dumping.{DumpsInput, FrontDumped, FrontStops, WholeStops};
-ghost use Rattle.htl_main.specs.Dumps.{Dumps, DumpStops, InputStops};
+ghost use Rattle.htl_main.specs.Dumps.{InputStops, is_failed_write};
 ghost use Rattle.htl_main.specs.Ends.{IsEnd, IsEndRefused, IsSegmentOf};
-ghost use Rattle.htl_main.specs.Dumps.{is_failed_write};
 ghost use Rattle.htl_main.specs.Reads.{FailsOnly, IsRead, NamesOnly, NeverRead};
-ghost use Rattle.htl_main.specs.Readings.{AreRead};
+ghost use Rattle.htl_main.specs.Runs.{IsDumpedFrom};
 
 use crate::cut_inputs::{CutInputs, check_end, with_input};
 use crate::fault::RunFault;
@@ -40,20 +39,10 @@ pub fn dump_from<R: Source, W: Sink>(
     inputs: &mut [R],
     out: &mut W,
 ) -> Result<Option<CutInputs>, RunFault>
-    requires inputs { All (λ source. R.has_failed source ≡ false) inputs.old }
-    requires inside { All (λ source. R.has_ended source ≡ false) inputs.old }
-    requires out { W.has_failed out.old ≡ false }
-    // The texts of all segments are written; or of those before what is reported.
-    ensures ok { (texts : List (List ℕ)) → map R.remaining inputs.old ≡ map Some texts
-        → OnOk result (Dumps form texts (W.contents out.old) (W.contents out.new)) }
-    ensures cut { (texts : List (List ℕ)) → map R.remaining inputs.old ≡ map Some texts
-        → IfOk result (AreCut form.hex texts) }
-    ensures stops { (texts : List (List ℕ)) → map R.remaining inputs.old ≡ map Some texts
-        → IfErr result (λ fault. DumpStops form texts (map R.remaining inputs.new)
-        (map R.has_ended inputs.new) (W.contents out.old) (W.contents out.new) fault) }
-    ensures failed { W.has_failed out.new ≡ is_failed_write result }
-    ensures reading { AreRead form.hex R.has_failed R.has_ended R.good_reads R.remaining
-        inputs.old inputs.new result }
+    requires ready { AreOpen (map R.state inputs.old) }
+    requires out { (W.state out.old).failed ≡ false }
+    ensures { IsDumpedFrom form (map R.state inputs.old) (map R.state inputs.new)
+        (W.state out.old) (W.state out.new) result }
 {
     let mut cut = None;
     for (place, source) in inputs.iter_mut().enumerate() {
@@ -72,17 +61,16 @@ fn dump_input<R: Source, W: Sink>(
     source: &mut R,
     out: &mut W,
 ) -> Result<Option<EarlyEnd>, RunFault>
-    requires fresh { R.has_failed source.old ≡ false }
-    requires inside { R.has_ended source.old ≡ false }
-    requires out { W.has_failed out.old ≡ false }
-    ensures ok { IfOk result (λ end. IfSome (R.remaining source.old) (λ bytes.
-        DumpsInput form bytes end (W.contents out.old) (W.contents out.new))) }
-    ensures stops { IfErr result (λ fault. IfSome (R.remaining source.old) (λ bytes.
-        InputStops form (R.remaining source.new) (R.has_ended source.new) place bytes
-        (W.contents out.old) (W.contents out.new) fault)) }
-    ensures failed { W.has_failed out.new ≡ is_failed_write result }
-    ensures reading { IsRead form.hex MAX_READS R.has_failed R.has_ended R.good_reads R.remaining
-        place source.old source.new result }
+    requires ready { IsOpen (R.state source.old) }
+    requires out { (W.state out.old).failed ≡ false }
+    ensures ok { IfOk result (λ end. IfSome (R.state source.old).remaining (λ bytes.
+        DumpsInput form bytes end (W.state out.old).contents (W.state out.new).contents)) }
+    ensures stops { IfErr result (λ fault. IfSome (R.state source.old).remaining (λ bytes.
+        InputStops form (R.state source.new).remaining (R.state source.new).ended place bytes
+        (W.state out.old).contents (W.state out.new).contents fault)) }
+    ensures failed { (W.state out.new).failed ≡ is_failed_write result }
+    ensures reading { IsRead form.hex MAX_READS place (R.state source.old)
+        (R.state source.new) result }
 {
     if form.hex {
         return match read_whole(alloc, source) {
@@ -102,14 +90,14 @@ fn dump_text<W: Sink>(
     text: &[u8],
     out: &mut W,
 ) -> Result<Option<EarlyEnd>, RunFault>
-    requires out { W.has_failed out.old ≡ false }
+    requires out { (W.state out.old).failed ≡ false }
     requires digits { form.hex ≡ true }
     ensures ok { IfOk result (λ end.
-        DumpsInput form text.now end (W.contents out.old) (W.contents out.new)) }
+        DumpsInput form text.now end (W.state out.old).contents (W.state out.new).contents) }
     ensures stops { IfErr result (λ fault. (left : Option (List ℕ)) (ended : Bool)
         → InputStops form left ended place text.now
-        (W.contents out.old) (W.contents out.new) fault) }
-    ensures failed { W.has_failed out.new ≡ is_failed_write result }
+        (W.state out.old).contents (W.state out.new).contents fault) }
+    ensures failed { (W.state out.new).failed ≡ is_failed_write result }
     ensures no_read { NeverRead result }
     ensures named { NamesOnly place result }
 {
@@ -127,13 +115,14 @@ fn dump_whole<W: Sink>(
     bytes: &[u8],
     out: &mut W,
 ) -> Result<Option<EarlyEnd>, RunFault>
-    requires { W.has_failed out.old ≡ false }
+    requires { (W.state out.old).failed ≡ false }
     ensures ok { IfOk result (λ end. (rest : List ℕ)
-        × (front : FrontDumped bytes.now rest (W.contents out.old) (W.contents out.new))
+        × (front : FrontDumped bytes.now rest (W.state out.old).contents (W.state out.new).contents)
         × IsEnd form front.segments rest end) }
     ensures stops { IfErr result (λ fault.
-        WholeStops form place bytes.now (W.contents out.old) (W.contents out.new) fault) }
-    ensures failed { W.has_failed out.new ≡ is_failed_write result }
+        WholeStops form place bytes.now (W.state out.old).contents (W.state out.new).contents
+        fault) }
+    ensures failed { (W.state out.new).failed ≡ is_failed_write result }
 {
     let rest = dump_front(alloc, place, 0, bytes, out)?;
     finish(form, place, (bytes.len() - rest.len()) as u64, rest)
@@ -149,27 +138,27 @@ fn dump_within<R: Source, W: Sink>(
     most: u64,
     out: &mut W,
 ) -> Result<Option<EarlyEnd>, RunFault>
-    requires fresh { R.has_failed source.old ≡ false }
-    requires inside { R.has_ended source.old ≡ false }
-    requires out { W.has_failed out.old ≡ false }
+    requires ready { IsOpen (R.state source.old) }
+    requires out { (W.state out.old).failed ≡ false }
     requires whole { length buffer.old ≡ MIN_READ_LEN }
     requires few { most * MAX_READ_LEN < 2 ^ 64 }
     requires bytes { form.hex ≡ false }
-    ensures ok { IfOk result (λ end. IfSome (R.remaining source.old) (λ bytes.
-        DumpsInput form bytes end (W.contents out.old) (W.contents out.new))) }
-    ensures stops { IfErr result (λ fault. IfSome (R.remaining source.old) (λ bytes.
-        InputStops form (R.remaining source.new) (R.has_ended source.new) place bytes
-        (W.contents out.old) (W.contents out.new) fault)) }
-    ensures failed { W.has_failed out.new ≡ is_failed_write result }
-    ensures ended { OnOk result (R.has_ended source.new ≡ true) }
-    ensures reported { R.has_failed source.new ≡ true → result ≡ Err (RunFault.Read place) }
-    ensures read { FailsOnly place (R.has_failed source.new) (R.good_reads source.new)
-        (R.remaining source.old) most result }
+    ensures ok { IfOk result (λ end. IfSome (R.state source.old).remaining (λ bytes.
+        DumpsInput form bytes end (W.state out.old).contents (W.state out.new).contents)) }
+    ensures stops { IfErr result (λ fault. IfSome (R.state source.old).remaining (λ bytes.
+        InputStops form (R.state source.new).remaining (R.state source.new).ended place bytes
+        (W.state out.old).contents (W.state out.new).contents fault)) }
+    ensures failed { (W.state out.new).failed ≡ is_failed_write result }
+    ensures ended { OnOk result ((R.state source.new).ended ≡ true) }
+    ensures reported { (R.state source.new).failed ≡ true → result ≡ Err (RunFault.Read place) }
+    ensures read { FailsOnly place (R.state source.new).failed (R.state source.new).good_reads
+        (R.state source.old).remaining most result }
     ensures no_fault { (at : ℕ) → result ≡ Err (RunFault.Read at)
-        → IsReadToFault 0 (R.remaining source.old) (R.remaining source.new) }
-    ensures bounded { R.good_reads source.new ≤ R.good_reads source.old + most }
+        → IsReadToFault 0 (R.state source.old).remaining (R.state source.new).remaining }
+    ensures bounded { (R.state source.new).good_reads ≤ (R.state source.old).good_reads + most }
     ensures named { NamesOnly place result }
-    ensures to_fault { IsReadToFault MAX_READ_LEN (R.remaining source.old) (R.remaining source.new) }
+    ensures to_fault { IsReadToFault MAX_READ_LEN (R.state source.old).remaining
+        (R.state source.new).remaining }
 {
     let mut held = Vec::new(alloc);
     let mut start = 0;
@@ -224,13 +213,14 @@ fn dump_front<'a, W: Sink>(
     bytes: &'a [u8],
     out: &mut W,
 ) -> Result<&'a [u8], RunFault>
-    requires out { W.has_failed out.old ≡ false }
+    requires out { (W.state out.old).failed ≡ false }
     requires room { start + length bytes.now < 2 ^ 64 }
     ensures dumped { MatchResult result
-        (λ rest. FrontDumped bytes.now rest.now (W.contents out.old) (W.contents out.new)
-        × IsRest rest.now)
-        (λ fault. FrontStops place start bytes.now (W.contents out.old) (W.contents out.new) fault) }
-    ensures failed { W.has_failed out.new ≡ is_failed_write result }
+        (λ rest. FrontDumped bytes.now rest.now (W.state out.old).contents
+        (W.state out.new).contents × IsRest rest.now)
+        (λ fault. FrontStops place start bytes.now (W.state out.old).contents
+        (W.state out.new).contents fault) }
+    ensures failed { (W.state out.new).failed ≡ is_failed_write result }
 {
     let mut rest = bytes;
     loop {
@@ -257,13 +247,14 @@ fn dump_segment<W: Sink>(
     segment: &SegmentBytes<'_>,
     out: &mut W,
 ) -> Result<(), RunFault>
-    requires { W.has_failed out.old ≡ false }
+    requires { (W.state out.old).failed ≡ false }
     ensures ok { OnOk result
-        (Appends (W.contents out.old) (W.contents out.new) (segment_text segment.now)) }
+        (Appends (W.state out.old).contents (W.state out.new).contents (segment_text segment.now)) }
     ensures err { IfErr result (λ fault. ((fault ≡ RunFault.Memory) × (out.new ≡ out.old))
         ⊎ ((fault ≡ RunFault.Write)
-        × AppendsPrefix (W.contents out.old) (W.contents out.new) (segment_text segment.now))) }
-    ensures failed { W.has_failed out.new ≡ is_failed_write result }
+        × AppendsPrefix (W.state out.old).contents (W.state out.new).contents
+        (segment_text segment.now))) }
+    ensures failed { (W.state out.new).failed ≡ is_failed_write result }
 {
     let segment = segment.to_segment(alloc)?;
     let text = dump(alloc, &segment)?;

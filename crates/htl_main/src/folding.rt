@@ -1,20 +1,17 @@
 //! A reading that forgets: segments are folded as they come, and no event is kept.
 
-ghost use Rattle.std.specs.Prelude.{◌≡◌, [], ℕ, List, All, Some, None, false, true, map};
-ghost use Rattle.std.specs.Prelude.{IfErr, IfOk, OnOk};
+ghost use Rattle.std.specs.Prelude.{◌≡◌, List, Some, None, true, map, IfErr, IfOk};
 ghost use Rattle.std.specs.Option.{option_copied};
 ghost use Rattle.htl_segment.specs.Content.{Content};
 ghost use Rattle.htl_segment.specs.Traces.{Trace};
+ghost use Rattle.htl_device.specs.States.{AreOpen};
 ghost use Rattle.htl_main.specs.Completeness.{IsComplete};
 ghost use Rattle.htl_main.specs.Coverages.{IsCoverage};
 ghost use Rattle.htl_main.specs.Folders.{IsMissingOf};
 ghost use Rattle.htl_main.specs.Folders.{IsAddedToFolded, IsNotAdded, IsSymbolsFault};
-ghost use Rattle.htl_main.specs.Folding.{AreFolded, AreReadToFold, IsBeginningRefused};
-ghost use Rattle.htl_main.specs.Folding.{IsCollectionOf, IsFolded, IsFoldingRefused, IsHalfKnown};
-ghost use Rattle.htl_main.specs.Origins.{by_fault};
+ghost use Rattle.htl_main.specs.Folding.{AreFolded, IsCollectionOf};
 ghost use Rattle.htl_main.specs.Printed.{HasSymbols};
-ghost use Rattle.htl_main.specs.Readings.{AreRead};
-ghost use Rattle.htl_main.specs.Reads.{NeverWrite};
+ghost use Rattle.htl_main.specs.Runs.{BeginsAs, FoldsAs};
 
 use crate::adding::Added;
 use crate::coverage::{Coverage, Missed};
@@ -64,19 +61,9 @@ pub fn load_folded<Rt: Threads + Sync, R: Parted>(
     inputs: &mut [R],
     symbols: Option<&[u8]>,
 ) -> Result<(Folded, Added), Refused>
-    requires fresh { All (λ source. R.has_failed source ≡ false) inputs.old }
-    requires inside { All (λ source. R.has_ended source ≡ false) inputs.old }
-    ensures ok { (texts : List (List ℕ)) → map R.remaining inputs.old ≡ map Some texts
-        → IfOk result (λ begun. IsFolded setting [] texts (AreFolded begun.0.analyst) begun.1) }
-    ensures symbols { IfOk result (λ begun.
-        HasSymbols (option_copied symbols.entry) begun.0.symbols) }
-    ensures err { (texts : List (List ℕ)) → map R.remaining inputs.old ≡ map Some texts
-        → IfErr result (λ refused. IsBeginningRefused setting (option_copied symbols.entry) texts
-        (map R.remaining inputs.new) (map R.has_ended inputs.new) refused.fault) }
-    ensures between { IfErr result (λ refused. IsHalfKnown refused.fault refused.between) }
-    ensures reading { AreRead setting.form.hex R.has_failed R.has_ended R.good_reads
-        R.remaining inputs.old inputs.new (by_fault result) }
-    ensures no_write { NeverWrite (by_fault result) }
+    requires ready { AreOpen (map R.state inputs.old) }
+    ensures { BeginsAs setting (option_copied symbols.entry) (map R.state inputs.old)
+        (map R.state inputs.new) result }
 {
     check_workers(setting.workers)?;
     let mut folded = Folded {
@@ -108,23 +95,9 @@ pub fn fold<Rt: Threads + Sync, R: Parted>(
     folded: &mut Folded,
     inputs: &mut [R],
 ) -> Result<Added, Refused>
-    requires fresh { All (λ source. R.has_failed source ≡ false) inputs.old }
-    requires inside { All (λ source. R.has_ended source ≡ false) inputs.old }
-    // All segments of the sources are taken, or those before the fault.
-    ensures ok { (before : List Content) (texts : List (List ℕ))
-        → AreFolded folded.old.analyst before → map R.remaining inputs.old ≡ map Some texts
-        → IfOk result (IsFolded setting before texts (AreFolded folded.new.analyst)) }
-    ensures err { (before : List Content) (texts : List (List ℕ))
-        → AreFolded folded.old.analyst before → map R.remaining inputs.old ≡ map Some texts
-        → IfErr result (λ refused. IsFoldingRefused setting before texts
-        (map R.remaining inputs.new) (map R.has_ended inputs.new) (AreFolded folded.new.analyst)
-        refused.fault) }
-    ensures between { IfErr result (λ refused. IsHalfKnown refused.fault refused.between) }
-    ensures symbols { folded.new.symbols ≡ folded.old.symbols }
-    // Where memory was refused after a read that failed, that is reported, and not the read.
-    ensures reading { AreReadToFold setting.form.hex R.has_failed R.has_ended R.good_reads
-        R.remaining inputs.old inputs.new (by_fault result) }
-    ensures no_write { NeverWrite (by_fault result) }
+    requires ready { AreOpen (map R.state inputs.old) }
+    ensures { FoldsAs setting (map R.state inputs.old) (map R.state inputs.new)
+        folded.old folded.new result }
 {
     check_workers(setting.workers)?;
     let before = folded.number();

@@ -1,18 +1,16 @@
 //! What is loaded before a question is answered, or many.
 
-ghost use Rattle.std.specs.Prelude.{◌≡◌, ℕ, Bool, List, All, Some, false, map, IfErr, IfOk};
+ghost use Rattle.std.specs.Prelude.{◌≡◌, ℕ, Bool, List, map, IfErr, IfOk};
 ghost use Rattle.std.specs.Option.{option_copied};
 ghost use Rattle.htl_segment.specs.Content.{Content};
 ghost use Rattle.htl_case.specs.Cases.{IsCase, IsCaseOf};
 ghost use Rattle.htl_command.specs.declared.question.Job.{Job};
+ghost use Rattle.htl_device.specs.States.{AreOpen};
+ghost use Rattle.htl_main.specs.Runs.{LoadsAs};
 ghost use Rattle.htl_main.specs.Causes.{IsCauseAfter};
 ghost use Rattle.htl_main.specs.Coverages.{IsCoverage};
 ghost use Rattle.htl_main.specs.CutInputs.{AreCut, AreCutEnds, decoding};
-ghost use Rattle.htl_main.specs.Origins.{IsBetween, by_fault};
-ghost use Rattle.htl_main.specs.Readings.{AreRead};
-ghost use Rattle.htl_main.specs.Reads.{NeverWrite};
-ghost use Rattle.htl_main.specs.Sources.{IsSourcesCause};
-ghost use Rattle.htl_main.specs.Loading.{AreLoaded, AreLoadedOf, in_setting};
+ghost use Rattle.htl_main.specs.Loading.{AreLoaded};
 
 use crate::cases::case_of;
 use crate::coverage::{Coverage, Missed};
@@ -62,27 +60,9 @@ pub fn load<Rt: Threads + Sync, R: Parted>(
     inputs: &mut [R],
     symbols: Option<&[u8]>,
 ) -> Result<Loaded, Refused>
-    requires fresh { All (λ source. R.has_failed source ≡ false) inputs.old }
-    requires inside { All (λ source. R.has_ended source ≡ false) inputs.old }
-    // What the sources' bytes come to is loaded, or reported as by a run for whichever question.
-    ensures ok { (texts : List (List ℕ)) → map R.remaining inputs.old ≡ map Some texts
-        → IfOk result (λ loaded. AreLoadedOf texts (option_copied symbols.entry) setting until
-        loaded.case loaded.symbols) }
-    ensures case { IfOk result (λ loaded. IsCase loaded.case) }
-    ensures coverage { IfOk result (λ loaded. IsCoverage loaded.case loaded.coverage) }
-    ensures cut { (texts : List (List ℕ)) → map R.remaining inputs.old ≡ map Some texts
-        → IfOk result (λ loaded. AreCut setting.form.hex texts loaded.cut) }
-    ensures cause { (texts : List (List ℕ)) → map R.remaining inputs.old ≡ map Some texts
-        → IfErr (by_fault result) (λ fault. (job : Job) → job.until ≡ until
-        → IsSourcesCause (in_setting setting job) texts (map R.remaining inputs.new)
-        (map R.has_ended inputs.new) (option_copied symbols.entry) fault) }
-    // Where a fault is about two segments, they are named.
-    ensures between { (texts : List (List ℕ)) → map R.remaining inputs.old ≡ map Some texts
-        → IfErr result (λ refused.
-        IsBetween setting.form texts refused.fault refused.between) }
-    ensures reading { AreRead setting.form.hex R.has_failed R.has_ended R.good_reads
-        R.remaining inputs.old inputs.new (by_fault result) }
-    ensures no_write { NeverWrite (by_fault result) }
+    requires ready { AreOpen (map R.state inputs.old) }
+    ensures { LoadsAs setting until (option_copied symbols.entry) (map R.state inputs.old)
+        (map R.state inputs.new) result }
 {
     check_workers(setting.workers)?;
     let decoded = read_all(rt, alloc, setting.form, setting.workers, inputs)?;

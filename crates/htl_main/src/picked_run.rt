@@ -1,17 +1,11 @@
 //! The run of a question, which keeps only the events that the question asks about.
 
-ghost use Rattle.std.specs.Prelude.{◌≡◌, ◌≢◌, ℕ, List, All, Some, false, true, map};
-ghost use Rattle.std.specs.Prelude.{IfErr, IfOk, OnOk, Err};
+ghost use Rattle.std.specs.Prelude.{◌≡◌, false, map};
 ghost use Rattle.std.specs.Option.{option_copied};
-ghost use Rattle.std.specs.Io.KnownBytes.{Appends};
-ghost use Rattle.htl_device.specs.Devices.{AppendsPrefix};
-ghost use Rattle.htl_segment.specs.Content.{Content};
-ghost use Rattle.htl_main.specs.Causes.{IsCauseAfter, Prints, PrintsPart};
-ghost use Rattle.htl_main.specs.CutInputs.{decoding};
-ghost use Rattle.htl_main.specs.Picked.{IsLackOf, Lacks, NeverCase, Reports, Serves};
-ghost use Rattle.htl_main.specs.Picking.{ArePickedFor, EndsPrinting, PrintsOf, ReportsOf};
-ghost use Rattle.htl_main.specs.Readings.{AreRead};
-ghost use Rattle.htl_main.specs.Sources.{IsSourcesCause};
+ghost use Rattle.htl_device.specs.States.{AreOpen};
+ghost use Rattle.htl_main.specs.Picked.{Serves};
+ghost use Rattle.htl_main.specs.Picking.{PrintsPicks};
+ghost use Rattle.htl_main.specs.Runs.{IsPicked};
 
 use crate::completed::Completed;
 use crate::fault::RunFault;
@@ -50,33 +44,12 @@ pub fn pick_from<Rt: Threads + Sync, R: Parted, W: Sink>(
     symbols: Option<&[u8]>,
     out: &mut W,
 ) -> Result<Result<Completed, Lacking>, RunFault>
-    requires inputs { All (λ source. R.has_failed source ≡ false) inputs.old }
-    requires inside { All (λ source. R.has_ended source ≡ false) inputs.old }
-    requires out { W.has_failed out.old ≡ false }
+    requires ready { AreOpen (map R.state inputs.old) }
+    requires out { (W.state out.old).failed ≡ false }
     requires bytes { job.now.setting.form.hex ≡ false }
     requires serves { Serves job.now.question interest }
-    // The answer over the sources' bytes is printed, or their first fault is reported.
-    ensures ok { (texts : List (List ℕ)) → map R.remaining inputs.old ≡ map Some texts
-        → IfOk result (λ ended. IfOk ended (λ _. Prints job.now texts
-        (option_copied symbols.entry) (W.contents out.old) (W.contents out.new))) }
-    ensures reports { (texts : List (List ℕ)) → map R.remaining inputs.old ≡ map Some texts
-        → IfOk result (λ ended. IfOk ended (Reports job.now texts (option_copied symbols.entry))) }
-    ensures lacking { (texts : List (List ℕ)) → map R.remaining inputs.old ≡ map Some texts
-        → IfOk result (λ ended. IfErr ended (Lacks interest job.now texts)) }
-    ensures unwritten { IfOk result (λ ended. IfErr ended (λ _. out.new ≡ out.old)) }
-    ensures fine { OnOk result (W.has_failed out.new ≡ false) }
-    ensures cause { (texts : List (List ℕ)) → map R.remaining inputs.old ≡ map Some texts
-        → IfErr result (IsSourcesCause job.now texts (map R.remaining inputs.new)
-        (map R.has_ended inputs.new) (option_copied symbols.entry)) }
-    ensures write { (texts : List (List ℕ)) → map R.remaining inputs.old ≡ map Some texts
-        → result ≡ Err RunFault.Write → PrintsPart job.now texts (option_copied symbols.entry)
-        (W.contents out.old) (W.contents out.new) }
-    ensures failed { result ≡ Err RunFault.Write → W.has_failed out.new ≡ true }
-    ensures untouched { IfErr result (λ fault. fault ≢ RunFault.Write → out.new ≡ out.old) }
-    // No broken rule of a case is reported, since only whole segments tell which it is.
-    ensures no_case { NeverCase result }
-    ensures reading { AreRead false R.has_failed R.has_ended R.good_reads R.remaining
-        inputs.old inputs.new result }
+    ensures { IsPicked interest job.now (option_copied symbols.entry) (map R.state inputs.old)
+        (map R.state inputs.new) (W.state out.old) (W.state out.new) result }
 {
     check_workers(job.setting.workers)?;
     let all = pick_all(
@@ -100,27 +73,10 @@ fn print_picks<W: Sink>(
     symbols: Option<&[u8]>,
     out: &mut W,
 ) -> Result<Result<Completed, Lacking>, RunFault>
-    requires out { W.has_failed out.old ≡ false }
+    requires out { (W.state out.old).failed ≡ false }
     requires serves { Serves job.now.question interest }
-    ensures ok { (segments : List Content) → ArePickedFor interest all.picks segments
-        → IfOk result (λ ended. IfOk ended (λ _. PrintsOf (decoding segments all.cuts.items)
-        (option_copied symbols.entry) job.now (Appends (W.contents out.old) (W.contents out.new)))) }
-    ensures reports { (segments : List Content) → ArePickedFor interest all.picks segments
-        → IfOk result (λ ended. IfOk ended
-        (ReportsOf segments (option_copied symbols.entry) job.now all.cuts.items)) }
-    ensures lacking { (segments : List Content) → ArePickedFor interest all.picks segments
-        → IfOk result (λ ended. IfErr ended (IsLackOf interest segments job.now)) }
-    ensures unwritten { IfOk result (λ ended. IfErr ended (λ _. out.new ≡ out.old)) }
-    ensures fine { OnOk result (W.has_failed out.new ≡ false) }
-    ensures cause { (segments : List Content) → ArePickedFor interest all.picks segments
-        → IfErr result (λ fault. fault ≢ RunFault.Write
-        → IsCauseAfter (decoding segments all.cuts.items) (option_copied symbols.entry) job.now fault) }
-    ensures write { (segments : List Content) → ArePickedFor interest all.picks segments
-        → result ≡ Err RunFault.Write → PrintsOf (decoding segments all.cuts.items)
-        (option_copied symbols.entry) job.now (AppendsPrefix (W.contents out.old) (W.contents out.new)) }
-    ensures failed { result ≡ Err RunFault.Write → W.has_failed out.new ≡ true }
-    ensures untouched { IfErr result (λ fault. fault ≢ RunFault.Write → out.new ≡ out.old) }
-    ensures after { IfErr result EndsPrinting }
+    ensures { PrintsPicks interest all (option_copied symbols.entry) job.now
+        (W.state out.old) (W.state out.new) result }
 {
     let Some(case) = PickedCase::of(all.picks) else {
         return Ok(Err(Lacking::Segments));

@@ -1,7 +1,7 @@
 //! Picks what a question asks about from sources, each of which is read to its end.
 
-ghost use Rattle.std.specs.Prelude.{◌≡◌, ℕ, List, All, Some, false, map};
-ghost use Rattle.std.specs.Prelude.{IfErr, IfOk, IfSome};
+ghost use Rattle.std.specs.Prelude.{◌≡◌, false, map, IfErr, IfOk, IfSome};
+ghost use Rattle.htl_device.specs.States.{AreOpen, IfKnown, IsOpen, ends, lefts};
 ghost use Rattle.htl_main.specs.CutInputs.{AreCutEnds};
 ghost use Rattle.htl_main.specs.Inputs.{StopsAtInput};
 ghost use Rattle.htl_main.specs.Picked.{NeverCase};
@@ -37,18 +37,16 @@ pub(crate) fn pick_all<Rt: Threads + Sync, R: Parted>(
     workers: u32,
     sources: &mut [R],
 ) -> Result<AllPicks, RunFault>
-    requires fresh { All (λ source. R.has_failed source ≡ false) sources.old }
-    requires inside { All (λ source. R.has_ended source ≡ false) sources.old }
+    requires ready { AreOpen (map R.state sources.old) }
     requires bytes { form.hex ≡ false }
-    ensures ok { (inputs : List (List ℕ)) → map R.remaining sources.old ≡ map Some inputs
-        → IfOk result (λ all. ArePicksOfAll form interest inputs all.picks) }
-    ensures cuts { (inputs : List (List ℕ)) → map R.remaining sources.old ≡ map Some inputs
-        → IfOk result (λ all. AreCutEnds form.hex inputs all.cuts.items) }
-    ensures err { (inputs : List (List ℕ)) → map R.remaining sources.old ≡ map Some inputs
-        → IfErr result (StopsAtInput form (IsReportedAt form (map R.remaining sources.new)
-        (map R.has_ended sources.new)) inputs) }
-    ensures reading { AreRead false R.has_failed R.has_ended R.good_reads R.remaining
-        sources.old sources.new result }
+    ensures ok { IfKnown (map R.state sources.old) (λ inputs. IfOk result (λ all.
+        ArePicksOfAll form interest inputs all.picks)) }
+    ensures cuts { IfKnown (map R.state sources.old) (λ inputs. IfOk result (λ all.
+        AreCutEnds form.hex inputs all.cuts.items)) }
+    ensures err { IfKnown (map R.state sources.old) (λ inputs. IfErr result (StopsAtInput form
+        (IsReportedAt form (lefts (map R.state sources.new)) (ends (map R.state sources.new)))
+        inputs)) }
+    ensures reading { AreRead false (map R.state sources.old) (map R.state sources.new) result }
     ensures no_write { NeverWrite result }
     ensures no_case { NeverCase result }
 {
@@ -72,15 +70,15 @@ fn pick_source<Rt: Threads + Sync, R: Parted>(
     source: &mut R,
     picks: Picks,
 ) -> Result<Accepted<Picks>, RunFault>
-    requires fresh { R.has_failed source.old ≡ false }
-    requires inside { R.has_ended source.old ≡ false }
+    requires ready { IsOpen (R.state source.old) }
     requires bytes { form.hex ≡ false }
-    ensures ok { IfOk result (λ new. IfSome (R.remaining source.old) (λ bytes.
+    ensures ok { IfOk result (λ new. IfSome (R.state source.old).remaining (λ bytes.
         ArePicksMore form picks new.segments bytes new.end)) }
-    ensures err { IfErr result (λ fault. IfSome (R.remaining source.old) (λ bytes.
-        IsReportedOfSource form (R.remaining source.new) (R.has_ended source.new) place bytes fault)) }
-    ensures reading { IsRead false MAX_READS R.has_failed R.has_ended R.good_reads
-        R.remaining place source.old source.new result }
+    ensures err { IfErr result (λ fault. IfSome (R.state source.old).remaining (λ bytes.
+        IsReportedOfSource form (R.state source.new).remaining (R.state source.new).ended
+        place bytes fault)) }
+    ensures reading { IsRead false MAX_READS place (R.state source.old)
+        (R.state source.new) result }
     ensures no_write { NeverWrite result }
     ensures no_case { NeverCase result }
 {

@@ -1,24 +1,21 @@
 //! The run over inputs that lie in memory, and the steps that all runs share.
 
-ghost use Rattle.std.specs.Prelude.{◌≡◌, ◌≢◌, ◌⊎◌, false, true, map, IfOk, IfErr, OnOk};
+ghost use Rattle.std.specs.Prelude.{◌≡◌, ◌⊎◌, false, true, map, IfOk, IfErr, OnOk};
 ghost use Rattle.std.specs.Prelude.{None, Some};
 ghost use Rattle.std.specs.Io.KnownBytes.{Appends};
 ghost use Rattle.std.specs.Option.{option_copied};
 ghost use Rattle.htl_device.specs.Devices.{AppendsPrefix};
 ghost use Rattle.htl_segment.specs.Traces.{Trace};
+ghost use Rattle.htl_main.specs.Runs.{IsRunOver};
 ghost use Rattle.htl_main.specs.CaseOutlines.{IsMissed};
 ghost use Rattle.htl_main.specs.Completeness.{ReportsMissing};
-ghost use Rattle.htl_main.specs.Coverages.{Covers, IsCoverage};
-ghost use Rattle.htl_main.specs.CutInputs.{AreCut};
+ghost use Rattle.htl_main.specs.Coverages.{IsCoverage};
 ghost use Rattle.htl_main.specs.Printed.{HasSymbols, HasSymbolFault, IsText, WorkersFit};
 ghost use Rattle.htl_main.specs.Printed.{lines_of_answer};
-ghost use Rattle.htl_main.specs.Causes.{Prints, PrintsPart, IsCause};
 ghost use Rattle.htl_main.specs.Moments.{IsCompleteUntil};
-ghost use Rattle.htl_main.specs.Origins.{IsBetween, by_fault};
 ghost use Rattle.htl_main.specs.Picking.{EndsAnswer, NamesMissing};
-ghost use Rattle.htl_main.specs.Printing.{EndsOver, PrintsOver};
-ghost use Rattle.htl_main.specs.Remarks.{RemarksOver, ReportsRemarks};
-ghost use Rattle.htl_main.specs.Subjects.{HasAbsence, ReportsAbsence};
+ghost use Rattle.htl_main.specs.Printing.{PrintsAnswer};
+ghost use Rattle.htl_main.specs.Remarks.{RemarksOver};
 
 use crate::answering::answer;
 use crate::cases::case_of;
@@ -58,27 +55,9 @@ pub fn run<Rt: Threads + Sync, W: Sink>(
     symbols: Option<&[u8]>,
     out: &mut W,
 ) -> Result<Completed, Refused>
-    requires { W.has_failed out.old ≡ false }
-    ensures ok { OnOk result (Prints job.now (map (λ input. input.items) inputs.now)
-        (option_copied symbols.entry) (W.contents out.old) (W.contents out.new)) }
-    ensures coverage { IfOk result (λ completed.
-        Covers job.now.setting.form (map (λ input. input.items) inputs.now) completed.coverage) }
-    ensures cut { IfOk result (λ completed.
-        AreCut job.now.setting.form.hex (map (λ input. input.items) inputs.now) completed.cut) }
-    ensures absence { IfOk result (λ completed. ReportsAbsence
-        (map (λ input. input.items) inputs.now) job.now completed.absence) }
-    ensures remarks { IfOk result (λ completed. ReportsRemarks job.now
-        (map (λ input. input.items) inputs.now) (option_copied symbols.entry) completed.remarks) }
-    ensures fine { OnOk result (W.has_failed out.new ≡ false) }
-    ensures cause { IfErr (by_fault result) (IsCause job.now (map (λ input. input.items) inputs.now)
-        (option_copied symbols.entry)) }
-    ensures between { IfErr result (λ refused. IsBetween job.now.setting.form
-        (map (λ input. input.items) inputs.now) refused.fault refused.between) }
-    ensures write { by_fault result ≡ Err RunFault.Write
-        → PrintsPart job.now (map (λ input. input.items) inputs.now)
-        (option_copied symbols.entry) (W.contents out.old) (W.contents out.new)
-        × (W.has_failed out.new ≡ true) }
-    ensures untouched { IfErr (by_fault result) (λ fault. fault ≢ RunFault.Write → out.new ≡ out.old) }
+    requires { (W.state out.old).failed ≡ false }
+    ensures { IsRunOver job.now (map (λ input. input.items) inputs.now)
+        (option_copied symbols.entry) (W.state out.old) (W.state out.new) result }
 {
     check_workers(job.setting.workers)?;
     let decoded = decode_all(alloc, job.setting.form, inputs)?;
@@ -99,21 +78,8 @@ pub(crate) fn print_answer<Rt: Threads + Sync, W: Sink>(
     out: &mut W,
 ) -> Result<Completed, RunFault>
     requires known { IsCoverage loaded.now.case loaded.now.coverage }
-    requires out { W.has_failed out.old ≡ false }
-    ensures ok { OnOk result (PrintsOver loaded.now.case loaded.now.symbols job.now
-        (Appends (W.contents out.old) (W.contents out.new))) }
-    ensures coverage { IfOk result (λ completed. completed.coverage ≡ loaded.now.coverage) }
-    ensures cut { IfOk result (λ completed. completed.cut ≡ loaded.now.cut) }
-    ensures absence { IfOk result (λ completed.
-        HasAbsence loaded.now.case job.now completed.absence) }
-    ensures remarks { IfOk result (λ completed.
-        RemarksOver loaded.now.case loaded.now.symbols job.now completed.remarks) }
-    ensures fine { OnOk result (W.has_failed out.new ≡ false) }
-    ensures err { IfErr result (EndsOver loaded.now.case job.now) }
-    ensures write { result ≡ Err RunFault.Write
-        → PrintsOver loaded.now.case loaded.now.symbols job.now
-        (AppendsPrefix (W.contents out.old) (W.contents out.new)) × (W.has_failed out.new ≡ true) }
-    ensures untouched { IfErr result (λ fault. fault ≢ RunFault.Write → out.new ≡ out.old) }
+    requires out { (W.state out.old).failed ≡ false }
+    ensures { PrintsAnswer loaded.now job.now (W.state out.old) (W.state out.new) result }
 {
     let absence = absence_of(job, loaded);
     check_absence(job, absence)?;
@@ -257,11 +223,13 @@ pub(crate) fn read_symbols(alloc: Global, symbols: Option<&[u8]>) -> Result<Symb
 
 /// Writes the whole text, or some first part of it where the sink fails.
 pub(crate) fn write_lines<W: Sink>(out: &mut W, lines: &[u8]) -> Result<(), RunFault>
-    requires { W.has_failed out.old ≡ false }
-    ensures ok { OnOk result (Appends (W.contents out.old) (W.contents out.new) lines.now) }
-    ensures fine { OnOk result (W.has_failed out.new ≡ false) }
-    ensures err { IfErr result (λ fault. (fault ≡ RunFault.Write) × (W.has_failed out.new ≡ true)
-        × AppendsPrefix (W.contents out.old) (W.contents out.new) lines.now) }
+    requires { (W.state out.old).failed ≡ false }
+    ensures ok { OnOk result
+        (Appends (W.state out.old).contents (W.state out.new).contents lines.now) }
+    ensures fine { OnOk result ((W.state out.new).failed ≡ false) }
+    ensures err { IfErr result (λ fault. (fault ≡ RunFault.Write)
+        × ((W.state out.new).failed ≡ true)
+        × AppendsPrefix (W.state out.old).contents (W.state out.new).contents lines.now) }
 {
     write_whole(out, lines).map_err(|_| RunFault::Write)
 }

@@ -1,7 +1,7 @@
 //! The segments that sources give, each read to its end.
 
-ghost use Rattle.std.specs.Prelude.{◌≡◌, ℕ, List, All, Some, false};
 ghost use Rattle.std.specs.Prelude.{map, IfOk, IfErr, IfSome};
+ghost use Rattle.htl_device.specs.States.{AreOpen, IfKnown, IsOpen, ends, lefts};
 ghost use Rattle.htl_main.specs.CutInputs.{AreCutEnds};
 ghost use Rattle.htl_main.specs.Ends.{IsInput};
 ghost use Rattle.htl_main.specs.Inputs.{DecodeAll, StopsAtInput};
@@ -30,20 +30,17 @@ pub(crate) fn read_all<Rt: Threads + Sync, R: Parted>(
     workers: u32,
     sources: &mut [R],
 ) -> Result<Decoded, RunFault>
-    requires fresh { All (λ source. R.has_failed source ≡ false) sources.old }
-    requires inside { All (λ source. R.has_ended source ≡ false) sources.old }
-    ensures ok { (inputs : List (List ℕ)) → map R.remaining sources.old ≡ map Some inputs
-        → IfOk result (λ decoded. DecodeAll form inputs decoded.segments.items) }
-    ensures spans { (inputs : List (List ℕ)) → map R.remaining sources.old ≡ map Some inputs
-        → IfOk result (λ decoded.
-        AreSpans form inputs decoded.segments.items decoded.spans.items) }
-    ensures cuts { (inputs : List (List ℕ)) → map R.remaining sources.old ≡ map Some inputs
-        → IfOk result (λ decoded. AreCutEnds form.hex inputs decoded.cuts.items) }
-    ensures err { (inputs : List (List ℕ)) → map R.remaining sources.old ≡ map Some inputs
-        → IfErr result (StopsAtInput form (IsReportedAt form (map R.remaining sources.new)
-        (map R.has_ended sources.new)) inputs) }
-    ensures reading { AreRead form.hex R.has_failed R.has_ended R.good_reads R.remaining
-        sources.old sources.new result }
+    requires ready { AreOpen (map R.state sources.old) }
+    ensures ok { IfKnown (map R.state sources.old) (λ inputs. IfOk result (λ decoded.
+        DecodeAll form inputs decoded.segments.items)) }
+    ensures spans { IfKnown (map R.state sources.old) (λ inputs. IfOk result (λ decoded.
+        AreSpans form inputs decoded.segments.items decoded.spans.items)) }
+    ensures cuts { IfKnown (map R.state sources.old) (λ inputs. IfOk result (λ decoded.
+        AreCutEnds form.hex inputs decoded.cuts.items)) }
+    ensures err { IfKnown (map R.state sources.old) (λ inputs. IfErr result (StopsAtInput form
+        (IsReportedAt form (lefts (map R.state sources.new)) (ends (map R.state sources.new)))
+        inputs)) }
+    ensures reading { AreRead form.hex (map R.state sources.old) (map R.state sources.new) result }
     ensures no_write { NeverWrite result }
 {
     let mut decoded = Decoded::new(alloc);
@@ -64,14 +61,14 @@ fn read_input<Rt: Threads + Sync, R: Parted>(
     place: u64,
     source: &mut R,
 ) -> Result<Accepted<Vec<Segment>>, RunFault>
-    requires fresh { R.has_failed source.old ≡ false }
-    requires inside { R.has_ended source.old ≡ false }
-    ensures ok { IfOk result (λ input. IfSome (R.remaining source.old)
+    requires ready { IsOpen (R.state source.old) }
+    ensures ok { IfOk result (λ input. IfSome (R.state source.old).remaining
         (λ bytes. IsInput form bytes input.segments.items input.end)) }
-    ensures err { IfErr result (λ fault. IfSome (R.remaining source.old) (λ bytes.
-        IsReportedOfSource form (R.remaining source.new) (R.has_ended source.new) place bytes fault)) }
-    ensures reading { IsRead form.hex MAX_READS R.has_failed R.has_ended R.good_reads R.remaining
-        place source.old source.new result }
+    ensures err { IfErr result (λ fault. IfSome (R.state source.old).remaining (λ bytes.
+        IsReportedOfSource form (R.state source.new).remaining (R.state source.new).ended
+        place bytes fault)) }
+    ensures reading { IsRead form.hex MAX_READS place (R.state source.old)
+        (R.state source.new) result }
     ensures no_write { NeverWrite result }
 {
     if form.hex {

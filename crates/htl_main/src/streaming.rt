@@ -1,19 +1,11 @@
 //! The run over sources, which are read as it goes on.
 
-ghost use Rattle.std.specs.Prelude.{◌≡◌, ◌≢◌, ℕ, List, All, Some, Err, false, true, map};
-ghost use Rattle.std.specs.Prelude.{IfErr, IfOk, OnOk};
+ghost use Rattle.std.specs.Prelude.{◌≡◌, false, map};
 ghost use Rattle.std.specs.Option.{option_copied};
-ghost use Rattle.htl_main.specs.Causes.{Prints, PrintsPart};
-ghost use Rattle.htl_main.specs.Coverages.{Covers};
-ghost use Rattle.htl_main.specs.CutInputs.{AreCut};
-ghost use Rattle.htl_main.specs.Origins.{IsBetween, by_fault};
-ghost use Rattle.htl_main.specs.Readings.{AreRead};
-ghost use Rattle.htl_main.specs.Sources.{IsSourcesCause};
-ghost use Rattle.htl_main.specs.Remarks.{ReportsRemarks};
-ghost use Rattle.htl_main.specs.Subjects.{ReportsAbsence};
+ghost use Rattle.htl_device.specs.States.{AreOpen};
+ghost use Rattle.htl_main.specs.Runs.{IsRun};
 
 use crate::completed::Completed;
-use crate::fault::RunFault;
 use crate::loading::load;
 use crate::printing::print_answer;
 use crate::refused::Refused;
@@ -37,38 +29,10 @@ pub fn run_from<Rt: Threads + Sync, R: Parted, W: Sink>(
     symbols: Option<&[u8]>,
     out: &mut W,
 ) -> Result<Completed, Refused>
-    requires inputs { All (λ source. R.has_failed source ≡ false) inputs.old }
-    requires inside { All (λ source. R.has_ended source ≡ false) inputs.old }
-    requires out { W.has_failed out.old ≡ false }
-    // The answer over the sources' bytes is printed, or their first fault is reported.
-    ensures ok { (texts : List (List ℕ)) → map R.remaining inputs.old ≡ map Some texts
-        → OnOk result (Prints job.now texts (option_copied symbols.entry)
-        (W.contents out.old) (W.contents out.new)) }
-    ensures coverage { (texts : List (List ℕ)) → map R.remaining inputs.old ≡ map Some texts
-        → IfOk result (λ completed. Covers job.now.setting.form texts completed.coverage) }
-    ensures cut { (texts : List (List ℕ)) → map R.remaining inputs.old ≡ map Some texts
-        → IfOk result (λ completed. AreCut job.now.setting.form.hex texts completed.cut) }
-    ensures absence { (texts : List (List ℕ)) → map R.remaining inputs.old ≡ map Some texts
-        → IfOk result (λ completed. ReportsAbsence texts job.now completed.absence) }
-    ensures remarks { (texts : List (List ℕ)) → map R.remaining inputs.old ≡ map Some texts
-        → IfOk result (λ completed.
-        ReportsRemarks job.now texts (option_copied symbols.entry) completed.remarks) }
-    ensures fine { OnOk result (W.has_failed out.new ≡ false) }
-    ensures cause { (texts : List (List ℕ)) → map R.remaining inputs.old ≡ map Some texts
-        → IfErr (by_fault result) (IsSourcesCause job.now texts (map R.remaining inputs.new)
-        (map R.has_ended inputs.new) (option_copied symbols.entry)) }
-    ensures write { (texts : List (List ℕ)) → map R.remaining inputs.old ≡ map Some texts
-        → by_fault result ≡ Err RunFault.Write
-        → PrintsPart job.now texts (option_copied symbols.entry)
-        (W.contents out.old) (W.contents out.new) }
-    // Where a fault is about two segments, they are named.
-    ensures between { (texts : List (List ℕ)) → map R.remaining inputs.old ≡ map Some texts
-        → IfErr result (λ refused.
-        IsBetween job.now.setting.form texts refused.fault refused.between) }
-    ensures failed { by_fault result ≡ Err RunFault.Write → W.has_failed out.new ≡ true }
-    ensures reading { AreRead job.now.setting.form.hex R.has_failed R.has_ended R.good_reads
-        R.remaining inputs.old inputs.new (by_fault result) }
-    ensures untouched { IfErr (by_fault result) (λ fault. fault ≢ RunFault.Write → out.new ≡ out.old) }
+    requires ready { AreOpen (map R.state inputs.old) }
+    requires out { (W.state out.old).failed ≡ false }
+    ensures { IsRun job.now (option_copied symbols.entry) (map R.state inputs.old)
+        (map R.state inputs.new) (W.state out.old) (W.state out.new) result }
 {
     let loaded = load(rt, alloc, job.setting, job.until, inputs, symbols)?;
     let completed = print_answer(rt, alloc, job, &loaded, out)?;

@@ -1,15 +1,16 @@
 //! Takes the segments of sources into a folder, up to the first fault.
 
-ghost use Rattle.std.specs.Prelude.{◌≡◌, ◌≢◌, [], ℕ, List, All, Some, None, false, true, map};
+ghost use Rattle.std.specs.Prelude.{◌≡◌, ◌≢◌, [], ℕ, List, None, true, map};
 ghost use Rattle.std.specs.Prelude.{IfErr, IfOk, IfSome, OnErr, OnOk};
 ghost use Rattle.htl_segment.specs.Content.{Content};
 ghost use Rattle.htl_device.specs.declared.whole.TheConstants.{MAX_READS};
 ghost use Rattle.htl_segment.specs.Keepers.{Took};
+ghost use Rattle.htl_device.specs.States.{AreOpen, IfKnown, IsOpen, ends, lefts};
 ghost use Rattle.htl_main.specs.CutInputs.{AreCutEnds};
 ghost use Rattle.htl_main.specs.Ends.{IsInput};
 ghost use Rattle.htl_main.specs.Folders.{AreAllTaken, GaveOwn, IsOfInput, folds_of};
 ghost use Rattle.htl_main.specs.Folding.{AreFolded, AreGiven, AsksFoldsMemory};
-ghost use Rattle.htl_main.specs.Folding.{IsFoldingRefused, IsHalfKnown};
+ghost use Rattle.htl_main.specs.Folding.{IsFoldingRefused, IsHalfKnown, folding};
 ghost use Rattle.htl_main.specs.Inputs.{DecodeAll, HasBytes, IsReportedOfInput, StopsAtInput};
 ghost use Rattle.htl_main.specs.Faults.{of_case};
 ghost use Rattle.htl_main.specs.Origins.{by_fault};
@@ -52,27 +53,24 @@ pub(crate) fn take_all<Rt: Threads + Sync, R: Parted>(
     folded: &mut Folded,
     inputs: &mut [R],
 ) -> (Result<Taken, Refused>, Result<(), NoMemory>)
-    requires fresh { All (λ source. R.has_failed source ≡ false) inputs.old }
-    requires inside { All (λ source. R.has_ended source ≡ false) inputs.old }
-    ensures ok { (before : List Content) (texts : List (List ℕ))
-        → AreFolded folded.old.analyst before → map R.remaining inputs.old ≡ map Some texts
-        → OnOk result.1 (IfOk result.0 (λ taken. AreAllTaken setting.form before texts
-        folded.old.analyst folded.new.analyst taken.segments taken.cuts.items)) }
-    ensures err { (before : List Content) (texts : List (List ℕ))
-        → AreFolded folded.old.analyst before → map R.remaining inputs.old ≡ map Some texts
-        → WorkersFit setting.workers
-        → IfErr result.0 (λ refused. IsFoldingRefused setting before texts
-        (map R.remaining inputs.new) (map R.has_ended inputs.new)
-        (λ taken. OnOk result.1 (AreFolded folded.new.analyst taken)) refused.fault) }
-    ensures memory { (before : List Content) (texts : List (List ℕ))
-        → AreFolded folded.old.analyst before → map R.remaining inputs.old ≡ map Some texts
-        → WorkersFit setting.workers
-        → OnErr result.1 (AsksFoldsMemory setting before texts
-        (map R.remaining inputs.new) (map R.has_ended inputs.new)) }
+    requires ready { AreOpen (map R.state inputs.old) }
+    ensures ok { (before : List Content) → AreFolded folded.old.analyst before
+        → IfKnown (map R.state inputs.old) (λ texts. OnOk result.1 (IfOk result.0 (λ taken.
+        AreAllTaken setting.form before texts folded.old.analyst folded.new.analyst
+        taken.segments taken.cuts.items))) }
+    ensures err { (before : List Content) → AreFolded folded.old.analyst before
+        → IfKnown (map R.state inputs.old) (λ texts. WorkersFit setting.workers
+        → IfErr result.0 (λ refused. IsFoldingRefused
+        (folding setting before texts (map R.state inputs.new))
+        (λ taken. OnOk result.1 (AreFolded folded.new.analyst taken)) refused.fault)) }
+    ensures memory { (before : List Content) → AreFolded folded.old.analyst before
+        → IfKnown (map R.state inputs.old) (λ texts. WorkersFit setting.workers
+        → OnErr result.1
+        (AsksFoldsMemory (folding setting before texts (map R.state inputs.new)))) }
     ensures between { IfErr result.0 (λ refused. IsHalfKnown refused.fault refused.between) }
     ensures symbols { folded.new.symbols ≡ folded.old.symbols }
-    ensures reading { AreRead setting.form.hex R.has_failed R.has_ended R.good_reads
-        R.remaining inputs.old inputs.new (by_fault result.0) }
+    ensures reading { AreRead setting.form.hex (map R.state inputs.old) (map R.state inputs.new)
+        (by_fault result.0) }
     ensures no_write { NeverWrite (by_fault result.0) }
 {
     let analyst = mem::replace(&mut folded.analyst, None);
@@ -103,23 +101,21 @@ fn read_all<Rt: Threads + Sync, R: Parted>(
     sources: &mut [R],
     folder: &mut Folder,
 ) -> Result<Vec<CutEnd>, RunFault>
-    requires fresh { All (λ source. R.has_failed source ≡ false) sources.old }
-    requires inside { All (λ source. R.has_ended source ≡ false) sources.old }
-    ensures ok { (inputs : List (List ℕ)) → map R.remaining sources.old ≡ map Some inputs
-        → OnOk result ((given : List Content) × DecodeAll setting.form inputs given
-        × Took folds_of folder.old folder.new given) }
-    ensures cuts { (inputs : List (List ℕ)) → map R.remaining sources.old ≡ map Some inputs
-        → IfOk result (λ cuts. AreCutEnds setting.form.hex inputs cuts.items) }
-    ensures err { (inputs : List (List ℕ)) → map R.remaining sources.old ≡ map Some inputs
-        → IfErr result (StopsAtInput setting.form (IsReportedAt setting.form
-        (map R.remaining sources.new) (map R.has_ended sources.new)) inputs) }
-    ensures kept { (inputs : List (List ℕ)) → map R.remaining sources.old ≡ map Some inputs
-        → IfErr result (λ fault. fault ≢ RunFault.Memory → (given : List Content)
-        × AreGiven setting.form inputs (map R.remaining sources.new) fault given
-        × Took folds_of folder.old folder.new given) }
+    requires ready { AreOpen (map R.state sources.old) }
+    ensures ok { IfKnown (map R.state sources.old) (λ inputs. OnOk result ((given : List Content)
+        × DecodeAll setting.form inputs given × Took folds_of folder.old folder.new given)) }
+    ensures cuts { IfKnown (map R.state sources.old) (λ inputs. IfOk result (λ cuts.
+        AreCutEnds setting.form.hex inputs cuts.items)) }
+    ensures err { IfKnown (map R.state sources.old) (λ inputs. IfErr result
+        (StopsAtInput setting.form (IsReportedAt setting.form
+        (lefts (map R.state sources.new)) (ends (map R.state sources.new))) inputs)) }
+    ensures kept { IfKnown (map R.state sources.old) (λ inputs. IfErr result (λ fault.
+        fault ≢ RunFault.Memory → (given : List Content)
+        × AreGiven setting.form inputs (lefts (map R.state sources.new)) fault given
+        × Took folds_of folder.old folder.new given)) }
     ensures of_input { IfErr result IsOfInput }
-    ensures reading { AreRead setting.form.hex R.has_failed R.has_ended R.good_reads R.remaining
-        sources.old sources.new result }
+    ensures reading { AreRead setting.form.hex (map R.state sources.old)
+        (map R.state sources.new) result }
 {
     let mut cuts = Vec::new(alloc);
     for (place, source) in sources.iter_mut().enumerate() {
@@ -139,21 +135,20 @@ fn read_input<Rt: Threads + Sync, R: Parted>(
     source: &mut R,
     folder: &mut Folder,
 ) -> Result<Option<EarlyEnd>, RunFault>
-    requires fresh { R.has_failed source.old ≡ false }
-    requires inside { R.has_ended source.old ≡ false }
-    ensures ok { IfOk result (λ end. IfSome (R.remaining source.old) (λ text.
+    requires ready { IsOpen (R.state source.old) }
+    ensures ok { IfOk result (λ end. IfSome (R.state source.old).remaining (λ text.
         (given : List Content) × IsInput setting.form text given end
         × Took folds_of folder.old folder.new given)) }
-    ensures err { IfErr result (λ fault. IfSome (R.remaining source.old) (λ text.
-        IsReportedOfSource setting.form (R.remaining source.new) (R.has_ended source.new)
+    ensures err { IfErr result (λ fault. IfSome (R.state source.old).remaining (λ text.
+        IsReportedOfSource setting.form (R.state source.new).remaining (R.state source.new).ended
         place text fault)) }
-    ensures kept { IfErr result (λ fault. IfSome (R.remaining source.old) (λ text.
+    ensures kept { IfErr result (λ fault. IfSome (R.state source.old).remaining (λ text.
         fault ≢ RunFault.Memory → (given : List Content)
-        × GaveOwn setting.form (R.remaining source.new) text fault given
+        × GaveOwn setting.form (R.state source.new).remaining text fault given
         × Took folds_of folder.old folder.new given)) }
     ensures of_input { IfErr result IsOfInput }
-    ensures reading { IsRead setting.form.hex MAX_READS R.has_failed R.has_ended R.good_reads R.remaining
-        place source.old source.new result }
+    ensures reading { IsRead setting.form.hex MAX_READS place (R.state source.old)
+        (R.state source.new) result }
 {
     if setting.form.hex {
         return match read_digits(alloc, source) {

@@ -1,13 +1,11 @@
 -- What is said of a dialogue by the notes after its beginning is said of it by all notes.
-use Rattle.std.proofs.Common.{◌≡◌, ◌⊎◌, ◌∙◌, ℕ, Bool, false, List, [], ◌∷◌, ◌++◌, Option, Result, Err, inl, inr, sym, ap, take}
+use Rattle.std.proofs.Common.{◌≡◌, ◌⊎◌, ℕ, Bool, false, List, [], ◌∷◌, ◌++◌, Option, inl, inr, take}
 use Rattle.htl_dialogue.specs.Dialogues.{Answers, Converses, Gets, GotAt, DialogueStops, last_wait}
 use Rattle.htl_dialogue.specs.Notes.{Note, awaits}
 use Rattle.htl_dialogue.specs.declared.dialogue.Conversed.{Conversed}
 use Rattle.htl_dialogue.specs.declared.dialogue.DialogueFault.{DialogueFault}
 use Rattle.htl_dialogue.specs.declared.dialogue.DialogueFault.TheVariants.{Questions, Write, NoMemory}
 use Rattle.htl_program.specs.Asking.{BeginsAndGets, Opening, opening_note}
-use Rattle.htl_program.specs.declared.ask_fault.AskFault.{AskFault}
-use Rattle.htl_program.specs.declared.ask_fault.AskFault.TheVariants.{Dialogue}
 
 module _ {S Host : Type 0} (answers : Answers S) (wanted : Bool) (before : S) (text : List ℕ) (old new : Option (List ℕ))
     (told : Host → Note → Host) (audience host after : Host) (names : List (List ℕ)) (opening : Opening)
@@ -60,9 +58,3 @@ module _ {S Host : Type 0} (answers : Answers S) (wanted : Bool) (before : S) (t
     got = got_at at.state failed fault at.later at.replies at.notes at.got;
     in_time = at.in_time;
   }
-
--- the fault that a dialogue ended with is the one that is reported
-pub ended_by : (result : Result Conversed AskFault) (reported : AskFault) (ended fault : DialogueFault) → result ≡ Err reported
-    → reported ≡ Dialogue ended → result ≡ Err (Dialogue fault) → fault ≡ ended
-ended_by result reported ended fault is told named =
-    let both : Err (Dialogue ended) ≡ Err (Dialogue fault) = ap (λ f. Err f) (sym told) ∙ (sym is ∙ named) in cc both

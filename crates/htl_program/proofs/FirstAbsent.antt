@@ -6,9 +6,8 @@ use mathlib.Core.Bool.{true≢false}
 use Rattle.htl_main.specs.declared.fault.RunFault.{RunFault}
 use Rattle.htl_main.specs.declared.fault.RunFault.TheVariants.{Memory, Read}
 use Rattle.htl_program.specs.Asking.{Found, all_hold, found, found_with, one_is_absent, unknown}
-use Rattle.htl_program.specs.Opened.{Known}
-use Rattle.htl_program.specs.Openings.{IsUnopenedFor}
-use Rattle.htl_program.specs.Worlds.{IsFirstAbsent, of_each, of_inputs}
+use Rattle.htl_program.specs.Readings.{IsUnopenedFor}
+use Rattle.htl_program.specs.Worlds.{IsFirstAbsent, Known, of_each, of_inputs}
 
 -- known bytes are no unknown ones
 known : {X : Type 0} (texts : List X) (place : ℕ) → slice_get (map (λ x. Some x) texts) place ≡ Some None → ⊥
@@ -82,8 +81,8 @@ held_memory holds absences texts fault all (inr (place, is, first)) =
     absurd (known texts place (sym (ap (λ l. slice_get l place) all) ∙ first.here))
 
 -- a run over names of which one is absent ends for the first of these, or for want of memory
-pub first_or_memory : {S : Type 0} (ended : Result S RunFault) (holds : List (Option (List ℕ))) (absences : List Bool) (fault : RunFault) (place : ℕ)
-    → ended ≡ Err fault → IsUnopenedFor holds absences fault → IsFirstAbsent holds absences place
+pub first_or_memory : {S : Type 0} (ended : Result S RunFault) (holds : List (Option (List ℕ))) (absences : List Bool) (fault : RunFault)
+    (place : ℕ) → ended ≡ Err fault → IsUnopenedFor holds absences fault → IsFirstAbsent holds absences place
     → (ended ≡ Err (Read place)) ⊎ (ended ≡ Err Memory)
 first_or_memory ended holds absences fault place is (inl memory) absent = inr (is ∙ ap Err memory)
 first_or_memory ended holds absences fault place is (inr (at, read, first)) absent =

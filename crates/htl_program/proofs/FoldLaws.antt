@@ -1,11 +1,13 @@
 -- What is said of what was folded is said of the segments that were taken, also once more files are folded.
-use Rattle.std.proofs.Common.{◌≡◌, ◌≢◌, ◌∙◌, ℕ, Bool, List, [], ◌++◌, Option, Some, map, refl, inl, inr}
-use Rattle.std.specs.Prelude.{IfErr, IfOk, Result, Ok, Err, Vec}
+use Rattle.std.proofs.Common.{◌≡◌, ◌≢◌, ◌∙◌, ℕ, List, [], ◌++◌, length, map, refl, inl, inr}
+use Rattle.std.specs.Prelude.{IfErr, Result, Ok, Err, Vec}
 use Rattle.htl_segment.specs.Content.{Content}
 use Rattle.htl_command.specs.declared.question.Setting.{Setting}
-use Rattle.htl_main.specs.Folding.{AreFolded, AreReadToFold, IsFolded, IsFoldedUpTo, IsFoldingRefused, IsHalfKnown}
+use Rattle.htl_device.specs.States.{SourceState}
+use Rattle.htl_main.specs.Folding.{AreFolded, AreReadToFold, Folding, IsFolded, IsFoldedUpTo, IsFoldingRefused, IsHalfKnown, folding}
 use Rattle.htl_main.specs.Origins.{by_fault}
 use Rattle.htl_main.specs.Readings.{AreRead}
+use Rattle.htl_main.specs.Runs.{EndsFolding, FoldsAs}
 use Rattle.htl_main.specs.declared.adding.Added.{Added}
 use Rattle.htl_main.specs.declared.fault.RunFault.{RunFault}
 use Rattle.htl_main.specs.declared.fault.RunFault.TheVariants as faults
@@ -13,8 +15,8 @@ use Rattle.htl_main.specs.declared.folding.Folded.{Folded}
 use Rattle.htl_main.specs.declared.refused.Refused.{Refused}
 use Rattle.htl_program.specs.Asking.{GoesOn, IsFolding}
 use Rattle.htl_program.specs.Loads.{FoldsFiles}
-use Rattle.htl_program.specs.Openings.{IsUnopenedFor}
-use Rattle.htl_program.specs.Opened.{Known, Opened}
+use Rattle.htl_program.specs.Readings.{IsUnopenedFor}
+use Rattle.htl_program.specs.Worlds.{Known}
 use Rattle.htl_program.proofs.FirstAbsent.{held_memory, none_is_absent}
 use Rattle.htl_program.proofs.NamesRead.{AreOpenedBy, all_read, none_read}
 
@@ -43,9 +45,12 @@ module _ (setting : Setting) (before : List Content) (texts : List (List ℕ)) (
     },
   )
 
-  module _ (lefts : List (Option (List ℕ))) (ends : List Bool) where
-    took_part : (fault : RunFault) → IsFoldedUpTo setting before texts lefts ends Keeps fault
-        → (taken : List Content) × Keeps taken × IsFoldedUpTo setting before texts lefts ends (λ all. all ≡ taken) fault
+  module _ (sources : List SourceState) where
+    abbrev of : Folding
+    of = folding setting before texts sources
+
+    took_part : (fault : RunFault) → IsFoldedUpTo of Keeps fault
+        → (taken : List Content) × Keeps taken × IsFoldedUpTo of (λ all. all ≡ taken) fault
     took_part fault is = (
       before ++ is.taken,
       is.kept,
@@ -60,8 +65,8 @@ module _ (setting : Setting) (before : List Content) (texts : List (List ℕ)) (
       },
     )
 
-    took_before : (fault : RunFault) → fault ≢ faults.Memory → IsFoldingRefused setting before texts lefts ends Keeps fault
-        → (taken : List Content) × Keeps taken × IsFoldingRefused setting before texts lefts ends (λ all. all ≡ taken) fault
+    took_before : (fault : RunFault) → fault ≢ faults.Memory → IsFoldingRefused of Keeps fault
+        → (taken : List Content) × Keeps taken × IsFoldingRefused of (λ all. all ≡ taken) fault
     took_before faults.Workers known is = took_part faults.Workers is
     took_before (faults.Segment place offset fault) known is = took_part (faults.Segment place offset fault) is
     took_before (faults.Hex place fault) known is = took_part (faults.Hex place fault) is
@@ -78,21 +83,21 @@ module _ (setting : Setting) (before : List Content) (texts : List (List ℕ)) (
     took_before (faults.UnknownCut input) known is = took_part (faults.UnknownCut input) is
 
     -- what came of folding, where it goes on, is of one list of segments of which what is kept holds
-    pub took : (ended : Result Added Refused) → GoesOn ended → IsFolding setting before texts lefts ends Keeps ended
-        → (taken : List Content) × Keeps taken × IsFolding setting before texts lefts ends (λ all. all ≡ taken) ended
+    pub took : (ended : Result Added Refused) → GoesOn ended → IsFolding of Keeps ended
+        → (taken : List Content) × Keeps taken × IsFolding of (λ all. all ≡ taken) ended
     took (Ok added) known is = took_all added is
     took (Err refused) known is =
         let part = took_before refused.fault known is.0 in (part.0, part.1, (part.2, is.1))
 
 -- ---- how files are folded
 
-module _ {R : Type 0} (world : Known) (ways : Opened R) (setting : Setting) (before : Folded) (names : List (List ℕ)) where
+module _ (world : Known) (setting : Setting) (before : Folded) (names : List (List ℕ)) where
   -- Files were not opened, and nothing was taken.
   pub none_folded : (refused : Refused) → IsUnopenedFor (map world.holds names) (map world.is_absent names) refused.fault
-      → FoldsFiles world ways setting before names before (Err refused)
+      → FoldsFiles world setting before names before (Err refused)
   none_folded refused unopened = record {
     sources = [];
-    reads = λ known. none_read world ways setting.form.hex names refused.fault unopened;
+    reads = λ known. none_read world setting.form.hex names refused.fault unopened;
     folds = λ known taken texts folded held.
         absurd (known (held_memory (map world.holds names) (map world.is_absent names) texts refused.fault held unopened));
     unopened = λ absent. refl;
@@ -100,39 +105,28 @@ module _ {R : Type 0} (world : Known) (ways : Opened R) (setting : Setting) (bef
   }
 
   -- Files were opened, and what was folded is what came of them.
-  pub opened_and_folded : {A : Type 0} (after : Folded) (sources : Vec R A) (now : List R) (ended : Result Added Refused)
-      → AreOpenedBy world ways names (Ok sources)
-      → ((taken : List Content) (texts : List (List ℕ)) → AreFolded before.analyst taken
-      → map ways.remaining sources.items ≡ map (λ t. Some t) texts
-      → IfOk ended (IsFolded setting taken texts (AreFolded after.analyst)))
-      → ((taken : List Content) (texts : List (List ℕ)) → AreFolded before.analyst taken
-      → map ways.remaining sources.items ≡ map (λ t. Some t) texts
-      → IfErr ended (λ refused. IsFoldingRefused setting taken texts (map ways.remaining now) (map ways.has_ended now)
-      (AreFolded after.analyst) refused.fault))
-      → IfErr ended (λ refused. IsHalfKnown refused.fault refused.between) → after.symbols ≡ before.symbols
-      → AreReadToFold setting.form.hex ways.has_failed ways.has_ended ways.good_reads ways.remaining sources.items now (by_fault ended)
-      → FoldsFiles world ways setting before names after ended
-  opened_and_folded after sources now ended are ok err between symbols read = record {
-    sources = now;
-    reads = λ known. all_read world ways setting.form.hex names sources now (by_fault ended) are (as_a_run ended known read);
-    folds = λ known taken texts folded held. folding ended taken texts (ok taken texts folded (are.bytes ∙ held))
-        (err taken texts folded (are.bytes ∙ held)) between;
+  pub opened_and_folded : {R A : Type 0} (state : R → SourceState) (after : Folded) (sources : Vec R A) (now : List R)
+      (ended : Result Added Refused) → AreOpenedBy state world names (Ok sources) → length now ≡ length sources.items
+      → FoldsAs setting (map state sources.items) (map state now) before after ended → FoldsFiles world setting before names after ended
+  opened_and_folded state after sources now ended are all is = record {
+    sources = map state now;
+    reads = λ known. all_read world setting.form.hex names state sources now (by_fault ended) are all (as_a_run ended known is.reading);
+    folds = λ known taken texts folded held.
+        as_folding ended taken texts (is.outcome taken folded texts (are.bytes ∙ held)) is.between;
     unopened = λ absent. absurd (none_is_absent world names are.there absent);
-    symbols = symbols;
+    symbols = is.symbols;
   }
     where
       as_a_run : (ended : Result Added Refused) → GoesOn ended
-          → AreReadToFold setting.form.hex ways.has_failed ways.has_ended ways.good_reads ways.remaining sources.items now (by_fault ended)
-          → AreRead setting.form.hex ways.has_failed ways.has_ended ways.good_reads ways.remaining sources.items now (by_fault ended)
+          → AreReadToFold setting.form.hex (map state sources.items) (map state now) (by_fault ended)
+          → AreRead setting.form.hex (map state sources.items) (map state now) (by_fault ended)
       as_a_run ended known (inl read) = read
       as_a_run (Ok added) known (inr refused) = absurd (cc refused.0)
       as_a_run (Err refused) known (inr memory) = absurd (known (cc memory.0))
 
-      folding : (ended : Result Added Refused) (taken : List Content) (texts : List (List ℕ))
-          → IfOk ended (IsFolded setting taken texts (AreFolded after.analyst))
-          → IfErr ended (λ refused. IsFoldingRefused setting taken texts (map ways.remaining now) (map ways.has_ended now)
-          (AreFolded after.analyst) refused.fault)
+      as_folding : (ended : Result Added Refused) (taken : List Content) (texts : List (List ℕ))
+          → EndsFolding (folding setting taken texts (map state now)) after.analyst ended
           → IfErr ended (λ refused. IsHalfKnown refused.fault refused.between)
-          → IsFolding setting taken texts (map ways.remaining now) (map ways.has_ended now) (AreFolded after.analyst) ended
-      folding (Ok added) taken texts ok err between = ok
-      folding (Err refused) taken texts ok err between = (err, between)
+          → IsFolding (folding setting taken texts (map state now)) (AreFolded after.analyst) ended
+      as_folding (Ok added) taken texts folded between = folded
+      as_folding (Err refused) taken texts why between = (why, between)

@@ -3,6 +3,7 @@ use Rattle.std.proofs.Common.{◌≡◌, ℕ, Bool, false, true, List, [], ◌�
 use Rattle.std.specs.Prelude.{IfSome, Result, Ok, Err}
 use Rattle.htl_command.specs.declared.question.Job.{Job}
 use Rattle.htl_command.specs.declared.question.Setting.{Setting}
+use Rattle.htl_device.specs.States.{SourceState}
 use Rattle.htl_main.specs.Folding.{AreFolded}
 use Rattle.htl_main.specs.Loading.{AreLoadedOf}
 use Rattle.htl_main.specs.Printed.{HasSymbols}
@@ -17,7 +18,7 @@ use Rattle.htl_main.specs.declared.refused.Refused.{Refused}
 use Rattle.htl_program.specs.Asking.{Found, GoesOn, IfAllHold, IsAbsenceOver, IsOutcomeOver, LeadsTo, ReadsMore, Taken, all_hold, found}
 use Rattle.htl_program.specs.Asking.{found_with, inputs, inputs_then, one_is_absent, segments, unknown}
 use Rattle.htl_program.specs.Loads.{AddsFiles, AreKept, FoldsFiles, HasAbsenceIn, HasOutcomeIn, IsCovered, ReadsFiles}
-use Rattle.htl_program.specs.Opened.{Known, Opened, ends, lefts}
+use Rattle.htl_program.specs.Worlds.{Known}
 use Rattle.htl_program.specs.declared.kept.Kept.{Kept}
 use Rattle.htl_program.specs.declared.kept.Kept.TheVariants.{Case, State}
 use Rattle.htl_program.proofs.FoldLaws.{took}
@@ -73,45 +74,42 @@ known_texts world (name ∷ more) = one_more (world.holds name) (world.is_absent
     one_more None true rest is = tt
     one_more None false rest is = tt
 
-module _ {R : Type 0} (world : Known) (ways : Opened R) (setting : Setting) (symbols : Option (List ℕ)) (names : List (List ℕ)) where
+module _ (world : Known) (setting : Setting) (symbols : Option (List ℕ)) (names : List (List ℕ)) where
   -- these texts are those of the names
   abbrev AreHeld : Found → Type 0
   AreHeld rest = IfAllHold rest (λ texts. map world.holds names ≡ map (λ t. Some t) texts)
 
   -- what was read then, which is what is kept then, and to which that led which was read before
-  abbrev Then : Option Taken → Found → List R → Kept → Result Added Refused → Type 0
+  abbrev Then : Option Taken → Found → List SourceState → Kept → Result Added Refused → Type 0
   Then read rest sources after ended =
-      (then : Option Taken) × Holds setting symbols after then
-      × LeadsTo setting read rest (lefts (record ways { files = sources })) (ends (record ways { files = sources })) then ended
+      (then : Option Taken) × Holds setting symbols after then × LeadsTo setting read rest sources then ended
 
   module _ (before after : Loaded) (texts : List (List ℕ)) (old : AreLoadedOf texts symbols setting None before.case before.symbols) where
-    added_kept : (rest : Found) (ended : Result Added Refused) → AreHeld rest
-        → AddsFiles world ways setting before names after ended
+    added_kept : (rest : Found) (ended : Result Added Refused) → AreHeld rest → AddsFiles world setting before names after ended
         → IfSome (inputs_then texts rest ended) (AreKept setting symbols (Case after))
     added_kept one_is_absent (Ok added) held adds = tt
     added_kept unknown (Ok added) held adds = tt
     added_kept (all_hold more) (Ok added) held adds =
-        loaded_then world ways setting symbols before after names texts old more added held adds
+        loaded_then world setting symbols before after names texts old more added held adds
     added_kept rest (Err refused) held adds =
         subst (λ (loaded : Loaded). AreLoadedOf texts symbols setting None loaded.case loaded.symbols) (sym adds.same) old
 
     added_leads : (rest : Found) (ended : Result Added Refused) → AreHeld rest
-        → (adds : AddsFiles world ways setting before names after ended)
-        → LeadsTo setting (Some (inputs texts)) rest (lefts (record ways { files = adds.sources }))
-        (ends (record ways { files = adds.sources })) (inputs_then texts rest ended) ended
+        → (adds : AddsFiles world setting before names after ended)
+        → LeadsTo setting (Some (inputs texts)) rest adds.sources (inputs_then texts rest ended) ended
     added_leads one_is_absent ended held adds = (refl, tt)
     added_leads unknown ended held adds = (refl, tt)
-    added_leads (all_hold more) ended held adds = (refl, adds_to world ways setting symbols before after names texts old more ended adds held)
+    added_leads (all_hold more) ended held adds = (refl, adds_to world setting symbols before after names texts old more ended adds held)
 
   -- Files were added to what is known by what was read, or were not.
   module _ (before after : Loaded) where
     covered_then : (read : Option Taken) (ended : Result Added Refused) → Holds setting symbols (Case before) read
-        → AddsFiles world ways setting before names after ended → IsCovered (Case after)
+        → AddsFiles world setting before names after ended → IsCovered (Case after)
     covered_then read (Ok added) holds adds = adds.coverage
     covered_then read (Err refused) holds adds = subst (λ (loaded : Loaded). IsCovered (Case loaded)) (sym adds.same) holds.covered
 
     case_then : (read : Option Taken) (rest : Found) (ended : Result Added Refused)
-        → Holds setting symbols (Case before) read → AreHeld rest → (adds : AddsFiles world ways setting before names after ended)
+        → Holds setting symbols (Case before) read → AreHeld rest → (adds : AddsFiles world setting before names after ended)
         → Then read rest adds.sources (Case after) ended
     case_then None rest ended holds held adds =
         (None, record { covered = covered_then None ended holds adds; are = tt }, refl)
@@ -129,7 +127,7 @@ module _ {R : Type 0} (world : Known) (ways : Opened R) (setting : Setting) (sym
   module _ (before after : Folded) where
     state_then : (read : Option Taken) (rest : Found) (ended : Result Added Refused)
         → Holds setting symbols (State before) read → AreHeld rest → found world names ≡ rest
-        → (folds : FoldsFiles world ways setting before names after ended) → GoesOn ended → Then read rest folds.sources (State after) ended
+        → (folds : FoldsFiles world setting before names after ended) → GoesOn ended → Then read rest folds.sources (State after) ended
     state_then None rest ended holds held is folds fine = (None, record { covered = tt; are = tt }, refl)
     state_then (Some (inputs texts)) rest ended holds held is folds fine = absurd holds.are
     state_then (Some (segments earlier)) unknown ended holds held is folds fine = (None, record { covered = tt; are = tt }, (fine, refl))
@@ -144,8 +142,7 @@ module _ {R : Type 0} (world : Known) (ways : Opened R) (setting : Setting) (sym
     )
     state_then (Some (segments earlier)) (all_hold texts) ended holds held is folds fine =
         let are : AreFolded before.analyst earlier × HasSymbols symbols before.symbols = holds.are in
-        let now = took setting earlier texts (AreFolded after.analyst) (lefts (record ways { files = folds.sources }))
-        (ends (record ways { files = folds.sources })) ended fine (folds.folds fine earlier texts are.0 held) in (
+        let now = took setting earlier texts (AreFolded after.analyst) folds.sources ended fine (folds.folds fine earlier texts are.0 held) in (
           Some (segments now.0),
           record { covered = tt; are = (now.1, subst (HasSymbols symbols) (sym folds.symbols) are.1) },
           (fine, now.0, refl, now.2),
@@ -153,8 +150,8 @@ module _ {R : Type 0} (world : Known) (ways : Opened R) (setting : Setting) (sym
 
   -- where files are read into what is kept, what is kept then is of what was read then
   pub reading_more : (before : Kept) (read : Option Taken) (after : Kept) (ended : Result Added Refused)
-      → Holds setting symbols before read → ReadsFiles world ways setting before names after ended
-      → (then : Option Taken) × Holds setting symbols after then × ReadsMore world ways setting read names then ended
+      → Holds setting symbols before read → ReadsFiles world setting before names after ended
+      → (then : Option Taken) × Holds setting symbols after then × ReadsMore world setting read names then ended
   reading_more (Case before) read (Case after) ended holds adds =
       let now = case_then before after read (found world names) ended holds (known_texts world names) adds in
       (now.0, now.1, record { sources = adds.sources; reads = adds.reads; leads = now.2 })

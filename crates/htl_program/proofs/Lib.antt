@@ -5,7 +5,6 @@ pub mod FirstAbsent
 pub mod PassedOn
 pub mod RanOut
 mod SourcesRead
-mod RunEnds
 pub mod NamesRead
 pub mod LoadLaws
 pub mod FoldLaws

@@ -1,7 +1,7 @@
 -- What is said of what was loaded is said of runs of their own over all inputs, also once files are added.
-use Rattle.std.proofs.Common.{◌≡◌, ◌⊎◌, ◌∙◌, ℕ, Bool, List, [], ◌∷◌, ◌++◌, Option, None, Some, map, refl, sym, ap, subst, inl, inr}
+use Rattle.std.proofs.Common.{◌≡◌, ◌⊎◌, ◌∙◌, ℕ, List, [], ◌∷◌, ◌++◌, Option, None, Some, map, refl, sym, ap, subst, inl, inr}
 use Rattle.std.proofs.Common.{append_assoc, length, ◌+◌}
-use Rattle.std.specs.Prelude.{IfErr, IfOk, Result, Ok, Err, Vec}
+use Rattle.std.specs.Prelude.{IfOk, Result, Ok, Err, Vec}
 use Rattle.std.proofs.lemmas.List.Elements.{Contains-append_cases, Contains-append_left, Contains-append_right}
 use Rattle.htl_case.specs.Cases.{IsCaseOf}
 use Rattle.htl_segment.specs.Content.{Content}
@@ -10,42 +10,34 @@ use Rattle.htl_symbols.specs.Ranges.{Range}
 use Rattle.htl_command.specs.declared.question.InputForm.{InputForm}
 use Rattle.htl_command.specs.declared.question.Job.{Job}
 use Rattle.htl_command.specs.declared.question.Setting.{Setting}
+use Rattle.htl_device.specs.States.{SourceState}
 use Rattle.htl_main.specs.Coverages.{IsCoverage}
-use Rattle.htl_main.specs.CutInputs.{AreCut}
-use Rattle.htl_main.specs.Adding.{IsAdded, IsAddingRefused}
+use Rattle.htl_main.specs.CutInputs.{decoding}
 use Rattle.htl_main.specs.Inputs.{DecodeAll}
 use Rattle.htl_main.specs.Loading.{AreLoadedOf}
 use Rattle.htl_main.specs.Origins.{by_fault}
 use Rattle.htl_main.specs.Printed.{HasSymbols, IsText}
-use Rattle.htl_main.specs.Readings.{AreRead}
+use Rattle.htl_main.specs.Runs.{AddsAs}
 use Rattle.htl_main.specs.Subjects.{HasAbsence}
 use Rattle.htl_main.specs.declared.adding.Added.{Added}
 use Rattle.htl_main.specs.declared.completed.Absence.{Absence}
-use Rattle.htl_main.specs.declared.coverage.Coverage.{Coverage}
-use Rattle.htl_main.specs.declared.cut_inputs.CutInputs.{CutInputs}
 use Rattle.htl_main.specs.declared.loading.Loaded.{Loaded}
 use Rattle.htl_main.specs.declared.printing.AnswerText.{AnswerText}
 use Rattle.htl_main.specs.declared.origin.Between.TheVariants.{Nothing}
 use Rattle.htl_main.specs.declared.refused.Refused.{Refused}
-use Rattle.htl_main.specs.CutInputs.{decoding}
 use Rattle.htl_main.proofs.AfterLoading.{as_of, runs_absence, runs_remarks, runs_text}
 use Rattle.htl_main.proofs.CompleteLaws.{complete_both}
 use Rattle.htl_main.proofs.CutLaws.{ends_both, ends_moved}
-use Rattle.htl_program.specs.Asking.{AddsTo, AreRunsRemarks, IsAdding, IsAnswerText, IsRunsAbsence, IsRunsText, Opens, own_run}
+use Rattle.htl_program.specs.Asking.{AddsTo, AreRunsRemarks, IsAnswerText, IsRunsAbsence, IsRunsText, own_run}
 use Rattle.htl_program.specs.Endings.{RunsOut}
-use Rattle.htl_program.specs.Openings.{IsUnopenedFor}
-use Rattle.htl_program.specs.Opened.{Known, Opened, ends, lefts}
 use Rattle.htl_program.specs.Loads.{AddsFiles}
+use Rattle.htl_program.specs.Readings.{IsUnopenedFor}
+use Rattle.htl_program.specs.Worlds.{Known}
 use Rattle.htl_program.proofs.FirstAbsent.{held_memory}
 use Rattle.htl_program.proofs.NamesRead.{AreOpenedBy, all_read, none_read}
 
 module _ (setting : Setting) (inputs : List (List ℕ)) (symbols : Option (List ℕ)) (T : Trace) (table : List Range)
     (loaded : AreLoadedOf inputs symbols setting None T table) where
-  -- what is told of what was loaded, its coverage and its cut inputs, is that of the inputs
-  pub loaded_opens : (coverage : Coverage) (cut : Option CutInputs) → IsCoverage T coverage → AreCut setting.form.hex inputs cut
-      → Opens setting.form inputs (record { coverage = coverage; cut = cut })
-  loaded_opens coverage cut is are = record { coverage = (loaded.given.segments, loaded.decoded.segments, (T, loaded.loaded.case, is)); cut = are }
-
   -- a text over what was loaded is one of a run of its own
   loaded_text : (job : Job) (text : List ℕ) → IsText T table job text → IsRunsText setting symbols inputs job text
   loaded_text job text is =
@@ -99,11 +91,11 @@ case_both segments more T after case then = record {
 }
 
 -- Files were added to what was loaded of inputs, or were not.
-module _ {R : Type 0} (world : Known) (ways : Opened R) (setting : Setting) (symbols : Option (List ℕ)) (before after : Loaded)
+module _ (world : Known) (setting : Setting) (symbols : Option (List ℕ)) (before after : Loaded)
     (names : List (List ℕ)) (inputs : List (List ℕ)) (old : AreLoadedOf inputs symbols setting None before.case before.symbols) where
   -- what is loaded once files were added is loaded of the inputs and these files
   pub loaded_then : (texts : List (List ℕ)) (added : Added) → map world.holds names ≡ map (λ t. Some t) texts
-      → AddsFiles world ways setting before names after (Ok added)
+      → AddsFiles world setting before names after (Ok added)
       → AreLoadedOf (inputs ++ texts) symbols setting None after.case after.symbols
   loaded_then texts added held adds =
       let new = only_added (adds.adds texts held) in
@@ -128,10 +120,9 @@ module _ {R : Type 0} (world : Known) (ways : Opened R) (setting : Setting) (sym
       only_added (inr is) = absurd is
 
   -- what came of adding files is an addition of their texts to the inputs, or memory ran out
-  pub adds_to : (texts : List (List ℕ)) (ended : Result Added Refused) (adds : AddsFiles world ways setting before names after ended)
+  pub adds_to : (texts : List (List ℕ)) (ended : Result Added Refused) (adds : AddsFiles world setting before names after ended)
       → map world.holds names ≡ map (λ t. Some t) texts
-      → AddsTo setting inputs texts (lefts (record ways { files = adds.sources })) (ends (record ways { files = adds.sources })) ended
-      ⊎ RunsOut ended
+      → AddsTo setting inputs texts adds.sources ended ⊎ RunsOut ended
   adds_to texts ended adds held =
       elim (adds.adds texts held) [
         | inl is ↦ inl (record {
@@ -147,13 +138,13 @@ module _ {R : Type 0} (world : Known) (ways : Opened R) (setting : Setting) (sym
 
 -- ---- how files are added
 
-module _ {R : Type 0} (world : Known) (ways : Opened R) (setting : Setting) (before : Loaded) (names : List (List ℕ)) where
+module _ (world : Known) (setting : Setting) (before : Loaded) (names : List (List ℕ)) where
   -- Files were not opened, and nothing was added.
   pub not_opened : (refused : Refused) → IsUnopenedFor (map world.holds names) (map world.is_absent names) refused.fault
-      → refused.between ≡ Nothing → AddsFiles world ways setting before names before (Err refused)
+      → refused.between ≡ Nothing → AddsFiles world setting before names before (Err refused)
   not_opened refused unopened alone = record {
     sources = [];
-    reads = none_read world ways setting.form.hex names refused.fault unopened;
+    reads = none_read world setting.form.hex names refused.fault unopened;
     adds = λ texts held. inr (held_memory (map world.holds names) (map world.is_absent names) texts refused.fault held unopened, alone);
     coverage = tt;
     symbols = refl;
@@ -161,32 +152,18 @@ module _ {R : Type 0} (world : Known) (ways : Opened R) (setting : Setting) (bef
   }
 
   -- Files were opened, and what was added is what came of them.
-  pub opened_and_added : {A : Type 0} (after : Loaded) (sources : Vec R A) (now : List R) (ended : Result Added Refused)
-      → AreOpenedBy world ways names (Ok sources)
-      → ((texts : List (List ℕ)) → map ways.remaining sources.items ≡ map (λ t. Some t) texts
-      → IfOk ended (IsAdded setting.form setting.complete before.case.segments texts after.case))
-      → ((texts : List (List ℕ)) → map ways.remaining sources.items ≡ map (λ t. Some t) texts
-      → IfErr ended (IsAddingRefused setting before.case.segments texts (map ways.remaining now) (map ways.has_ended now)))
-      → IfOk ended (λ added. (after.coverage ≡ added.coverage) × IsCoverage after.case after.coverage)
-      → IfErr ended (λ refused. after ≡ before) → after.symbols ≡ before.symbols
-      → AreRead setting.form.hex ways.has_failed ways.has_ended ways.good_reads ways.remaining sources.items now (by_fault ended)
-      → AddsFiles world ways setting before names after ended
-  opened_and_added after sources now ended are ok err covered same symbols read = record {
-    sources = now;
-    reads = all_read world ways setting.form.hex names sources now (by_fault ended) are read;
-    adds = λ texts held. inl (adding ended texts (ok texts (are.bytes ∙ held)) (err texts (are.bytes ∙ held)));
-    coverage = known_coverage ended covered;
-    symbols = symbols;
-    same = same;
+  pub opened_and_added : {R A : Type 0} (state : R → SourceState) (after : Loaded) (sources : Vec R A) (now : List R)
+      (ended : Result Added Refused) → AreOpenedBy state world names (Ok sources) → length now ≡ length sources.items
+      → AddsAs setting (map state sources.items) (map state now) before after ended → AddsFiles world setting before names after ended
+  opened_and_added state after sources now ended are all is = record {
+    sources = map state now;
+    reads = all_read world setting.form.hex names state sources now (by_fault ended) are all is.reading;
+    adds = λ texts held. inl (is.outcome texts (are.bytes ∙ held));
+    coverage = known_coverage ended is.coverage;
+    symbols = is.symbols;
+    same = is.same;
   }
     where
-      adding : (ended : Result Added Refused) (texts : List (List ℕ))
-          → IfOk ended (IsAdded setting.form setting.complete before.case.segments texts after.case)
-          → IfErr ended (IsAddingRefused setting before.case.segments texts (map ways.remaining now) (map ways.has_ended now))
-          → IsAdding setting before.case.segments texts (map ways.remaining now) (map ways.has_ended now) after.case ended
-      adding (Ok added) texts ok err = ok
-      adding (Err refused) texts ok err = err
-
       known_coverage : (ended : Result Added Refused)
           → IfOk ended (λ added. (after.coverage ≡ added.coverage) × IsCoverage after.case after.coverage)
           → IfOk ended (λ added. IsCoverage after.case after.coverage)

@@ -1,56 +1,125 @@
 -- Names aren't read at all where one could not be opened, and otherwise as any run reads its sources.
-use Rattle.std.proofs.Common.{◌≡◌, ◌∙◌, ℕ, Bool, List, [], ◌∷◌, ap, inl, inr, map, refl, sym}
-use Rattle.std.specs.Prelude.{Result, Ok, Err, String, Vec, string_bytes}
-use Rattle.std.proofs.lemmas.List.Elements.{All-nil}
+use Rattle.std.proofs.Common.{◌≡◌, ◌⊎◌, ◌∙◌, ℕ, Bool, List, [], ◌∷◌, ap, inl, inr, length, map, refl, sym}
+use Rattle.std.specs.Prelude.{Option, Result, Ok, Err, String, Vec, string_bytes}
+use Rattle.std.proofs.lemmas.List.{length-map}
+use Rattle.htl_command.specs.declared.command.Run.{Run}
+use Rattle.htl_device.specs.States.{AreOpen, SinkState, SourceState, lefts}
+use Rattle.htl_main.specs.Origins.{by_fault}
 use Rattle.htl_main.specs.Readings.{AreRead}
+use Rattle.htl_main.specs.Runs.{IsRun}
+use Rattle.htl_main.specs.declared.completed.Completed.{Completed}
 use Rattle.htl_main.specs.declared.fault.RunFault.{RunFault}
-use Rattle.htl_main.specs.declared.fault.RunFault.TheVariants.{Read}
+use Rattle.htl_main.specs.declared.fault.RunFault.TheVariants.{Memory, Read, SymbolsRead}
+use Rattle.htl_main.specs.declared.refused.Refused.{Refused}
 use Rattle.htl_program.specs.Asking.{ReadsNames}
-use Rattle.htl_program.specs.Opened.{Known, Opened}
-use Rattle.htl_program.specs.Openings.{AreOpened, IsUnopenedFor}
-use Rattle.htl_program.specs.Worlds.{IsFirstRefused, of_each}
+use Rattle.htl_program.specs.Openings.{AreOpened}
+use Rattle.htl_program.specs.Outcomes.{ReadsInputs}
+use Rattle.htl_program.specs.Readings.{AreUnread, IsUnopenedFor}
+use Rattle.htl_program.specs.Runs.{IsRunOfNames}
+use Rattle.htl_program.specs.Worlds.{IsFirstRefused, Known, of_each, of_inputs}
 use Rattle.htl_program.proofs.PassedOn.{same_fault}
 use Rattle.htl_program.proofs.FirstAbsent.{first_or_memory, none_absent}
 
 same_place : (one other : ℕ) → Read one ≡ Read other → one ≡ other
 same_place one other is = cc is
 
+-- where a name was refused, it is the first one
+first_refused : (holds : List (Option (List ℕ))) (absences : List Bool) (fault : RunFault) (place : ℕ) → fault ≡ Read place
+    → IsUnopenedFor holds absences fault → IsFirstRefused holds absences place
+first_refused holds absences fault place told (inl memory) = absurd (cc (memory, told))
+first_refused holds absences fault place told (inr (at, is, unopened)) = rw (← same_place at place (sym is ∙ told)) unopened
+
+-- where none was read, a failed read is reported of the first name that was refused
+unread_first : (known holds : List (Option (List ℕ))) (absences : List Bool) (now : List SourceState) (fault : RunFault) (place : ℕ)
+    → fault ≡ Read place → AreUnread known holds absences now fault → IsFirstRefused holds absences place
+unread_first known holds absences now fault place told (inl unopened) = first_refused holds absences fault place told unopened.1
+unread_first known holds absences now fault place told (inr (ready, bytes, inl symbols)) = absurd (cc (symbols, told))
+unread_first known holds absences now fault place told (inr (ready, bytes, inr memory)) = absurd (cc (memory, told))
+
+-- a table of symbols wasn't read, whose bytes may be unknown
+pub of_table : {X : Type 0} {fault : RunFault} → (fault ≡ Memory) ⊎ ((fault ≡ SymbolsRead) × X)
+    → (fault ≡ SymbolsRead) ⊎ (fault ≡ Memory)
+of_table (inl memory) = inr memory
+of_table (inr symbols) = inl symbols.0
+
 -- what is opened of names that are given by their bytes
-abbrev pub AreOpenedBy : {R A : Type 0} → Known → Opened R → List (List ℕ) → Result (Vec R A) RunFault → Type 0
-AreOpenedBy world ways names =
-    AreOpened ways.remaining ways.has_ended ways.has_failed (map world.holds names) (map world.holds names) (map world.is_absent names)
+abbrev pub AreOpenedBy : {R A : Type 0} → (R → SourceState) → Known → List (List ℕ) → Result (Vec R A) RunFault → Type 0
+AreOpenedBy state world names =
+    AreOpened state (map world.holds names) (map world.holds names) (map world.is_absent names)
+
+-- sources that are all there have as many states
+as_many : {R : Type 0} (state : R → SourceState) (old new : List R) → length new ≡ length old
+    → length (map state new) ≡ length (map state old)
+as_many state old new same = length-map new state ∙ same ∙ sym (length-map old state)
 
 -- names in their order, each by its bytes
 pub by_bytes : {X A : Type 0} (of : List ℕ → X) (names : List (String A)) → of_each of names ≡ map of (map string_bytes names)
 by_bytes of [] = refl
 by_bytes of (name ∷ names) = ap (λ l. of (string_bytes name) ∷ l) (by_bytes of names)
 
-module _ {R S : Type 0} (world : Known) (ways : Opened R) (is_text : Bool) (names : List (List ℕ)) where
+module _ {S : Type 0} (world : Known) (is_text : Bool) (names : List (List ℕ)) where
   -- where a name could not be opened, no source was read
   pub none_read : (fault : RunFault) → IsUnopenedFor (map world.holds names) (map world.is_absent names) fault
-      → ReadsNames {S = S} world is_text names (record ways { files = [] }) (Err fault)
+      → ReadsNames {S = S} world is_text names [] (Err fault)
   none_read fault unopened = record {
     absent = λ place absent. first_or_memory (Err fault) (map world.holds names) (map world.is_absent names) fault place refl unopened absent;
-    reading = inr (refl, record { fresh = All-nil _; inside = All-nil _ });
-    read = λ place told. inl (first place (same_fault fault (Read place) _ refl told) unopened);
+    reading = inr (fault, refl, inl (refl, unopened));
+    read = λ place told.
+        inl (first_refused (map world.holds names) (map world.is_absent names) fault place (same_fault fault (Read place) _ refl told) unopened);
   }
-    where
-      first : (place : ℕ) → fault ≡ Read place → IsUnopenedFor (map world.holds names) (map world.is_absent names) fault
-          → IsFirstRefused (map world.holds names) (map world.is_absent names) place
-      first place told (inl memory) = absurd (cc (memory, told))
-      first place told (inr (at, is, unopened)) = rw (← same_place at place (sym is ∙ told)) unopened
 
   -- where all names were opened, they were read as the sources of a run
-  pub all_read : {A : Type 0} (sources : Vec R A) (now : List R) (result : Result S RunFault) → AreOpenedBy world ways names (Ok sources)
-      → AreRead is_text ways.has_failed ways.has_ended ways.good_reads ways.remaining sources.items now result
-      → ReadsNames world is_text names (record ways { files = now }) result
-  all_read sources now result are read = record {
+  pub all_read : {R A : Type 0} (state : R → SourceState) (sources : Vec R A) (now : List R) (result : Result S RunFault)
+      → AreOpenedBy state world names (Ok sources) → length now ≡ length sources.items
+      → AreRead is_text (map state sources.items) (map state now) result → ReadsNames world is_text names (map state now) result
+  all_read state sources now result are all read = record {
     absent = λ place absent. absurd (none_absent (map world.holds names) (map world.is_absent names) place are.there absent);
     reading = inl (record {
-      opened = sources.items;
-      are = record { fresh = are.fresh; inside = are.inside };
+      opened = map state sources.items;
+      are = are.ready;
       hold = are.bytes;
       read = read;
+      all = as_many state sources.items now all;
     });
     read = λ place told. inr (rw are.bytes at read.read place told);
   }
+
+-- The same of the inputs of a command's names.
+module _ {S A : Type 0} (world : Known) (is_text : Bool) (names : List (String A)) where
+  -- none of them was read
+  pub inputs_unread : (now : List SourceState) (result : Result S RunFault) (fault : RunFault) → result ≡ Err fault
+      → AreUnread (of_inputs world.holds world.standard names) (of_each world.holds names) (of_each world.is_absent names) now fault
+      → ReadsInputs world is_text names now result
+  inputs_unread now result fault is unread = record {
+    reading = inr (fault, is, unread);
+    read = λ place told.
+        inl (unread_first (of_inputs world.holds world.standard names) (of_each world.holds names) (of_each world.is_absent names) now fault place
+        (same_fault fault (Read place) result is told) unread);
+  }
+
+  -- all of them were opened, and read as the sources of a run
+  pub inputs_read : {R : Type 0} (state : R → SourceState) (opened now : List R) (result : Result S RunFault) → AreOpen (map state opened)
+      → lefts (map state opened) ≡ of_inputs world.holds world.standard names → length now ≡ length opened
+      → AreRead is_text (map state opened) (map state now) result → ReadsInputs world is_text names (map state now) result
+  inputs_read state opened now result ready bytes all read = record {
+    reading = inl (record {
+      opened = map state opened;
+      are = ready;
+      hold = bytes;
+      read = read;
+      all = as_many state opened now all;
+    });
+    read = λ place told. inr (rw bytes at read.read place told);
+  }
+
+-- a run over opened inputs is one over their names
+pub run_of_names : {R : Type 0} (state : R → SourceState) (world : Known) (run : Run) (table : Option (List ℕ)) (opened now : List R)
+    (before after : SinkState) (result : Result Completed Refused) → AreOpen (map state opened)
+    → lefts (map state opened) ≡ of_inputs world.holds world.standard run.files.items → length now ≡ length opened
+    → IsRun run.job table (map state opened) (map state now) before after result
+    → IsRunOfNames world (map state now) run table before after result
+run_of_names state world run table opened now before after result ready bytes all is = record {
+  ends = λ texts held. inl (is.outcome texts (bytes ∙ held));
+  reads = inputs_read world run.job.setting.form.hex run.files.items state opened now (by_fault result) ready bytes all is.reading;
+  sink = is.sink;
+}

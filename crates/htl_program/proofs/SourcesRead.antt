@@ -1,9 +1,10 @@
 -- How sources were read doesn't depend on what a run that ended well answers, or on what a run that ended by a fault would have. A fault
 -- that isn't of all segments is about no two of them.
 use Rattle.std.proofs.Common.{◌≢◌, Bool, List, ℕ, ap, refl}
-use Rattle.std.specs.Prelude.{Option, Ok, Err}
+use Rattle.std.specs.Prelude.{Ok, Err}
 use Rattle.htl_case.specs.declared.fault.CaseFault.{CaseFault}
 use Rattle.htl_command.specs.declared.question.InputForm.{InputForm}
+use Rattle.htl_device.specs.States.{SourceState}
 use Rattle.htl_main.specs.Origins.{IsBetween}
 use Rattle.htl_main.specs.Readings.{AreRead}
 use Rattle.htl_main.specs.declared.fault.RunFault.{RunFault}
@@ -12,11 +13,10 @@ use Rattle.htl_main.specs.declared.origin.Between.TheVariants.{Nothing}
 use Rattle.htl_program.proofs.PassedOn.{no_fault, same_fault}
 
 -- sources that a run read that ended well were read so whatever it answers
-pub as_answered : {R S T : Type 0} (is_text : Bool) (has_failed has_ended : R → Bool) (good_reads : R → ℕ)
-    (remaining : R → Option (List ℕ)) (old new : List R) (done : S) (other : T)
-    → AreRead is_text has_failed has_ended good_reads remaining old new (Ok done)
-    → AreRead is_text has_failed has_ended good_reads remaining old new (Ok other)
-as_answered is_text has_failed has_ended good_reads remaining old new done other read = record {
+pub as_answered : {S T : Type 0} (is_text : Bool) (old new : List SourceState) (done : S) (other : T)
+    → AreRead is_text old new (Ok done)
+    → AreRead is_text old new (Ok other)
+as_answered is_text old new done other read = record {
   ended = read.ended;
   in_order = read.in_order;
   reported = λ place failed. absurd (no_fault done _ (read.reported place failed));
@@ -28,11 +28,10 @@ as_answered is_text has_failed has_ended good_reads remaining old new done other
 }
 
 -- sources that a run read that ended for a fault were read so whatever it would have answered
-pub as_refused : {R S T : Type 0} (is_text : Bool) (has_failed has_ended : R → Bool) (good_reads : R → ℕ)
-    (remaining : R → Option (List ℕ)) (old new : List R) (fault : RunFault)
-    → AreRead {S = S} is_text has_failed has_ended good_reads remaining old new (Err fault)
-    → AreRead {S = T} is_text has_failed has_ended good_reads remaining old new (Err fault)
-as_refused is_text has_failed has_ended good_reads remaining old new fault read = record {
+pub as_refused : {S T : Type 0} (is_text : Bool) (old new : List SourceState) (fault : RunFault)
+    → AreRead {S = S} is_text old new (Err fault)
+    → AreRead {S = T} is_text old new (Err fault)
+as_refused is_text old new fault read = record {
   ended = tt;
   in_order = read.in_order;
   reported = λ place failed. ap Err (same_fault _ _ _ refl (read.reported place failed));

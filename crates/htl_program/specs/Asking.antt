@@ -4,24 +4,25 @@
 use Rattle.std.specs.Prelude.{◌≡◌, ◌≢◌, ◌≤◌, ◌⊎◌, ◌++◌, ◌∷◌, [], ⊤, ℕ, Bool, true, false, List, Option, None, Some, Result, Ok, Err}
 use Rattle.std.specs.Prelude.{IfErr, IfSome, is_some, length, map, option_map}
 use Rattle.htl_case.specs.Cases.{IsCaseOf}
-use Rattle.htl_command.specs.declared.question.InputForm.{InputForm}
 use Rattle.htl_command.specs.declared.question.Job.{Job}
 use Rattle.htl_command.specs.declared.question.Setting.{Setting}
-use Rattle.htl_dialogue.specs.Dialogues.{Answers, Gets, answers_by}
+use Rattle.htl_device.specs.States.{SourceState, ends, good_reads, has_failed, lefts}
 use Rattle.htl_device.specs.declared.whole.TheConstants.{MAX_READS}
+use Rattle.htl_dialogue.specs.Dialogues.{Answers, Gets, answers_by}
 use Rattle.htl_dialogue.specs.Notes.{Note, begins}
 use Rattle.htl_dialogue.specs.declared.dialogue.DialogueFault.TheVariants.{Questions, Write}
-use Rattle.htl_main.specs.Adding.{IsAdded, IsAddingRefused}
 use Rattle.htl_main.specs.Completeness.{IsComplete, IsLeastMissing}
-use Rattle.htl_main.specs.Coverages.{Covers}
+use Rattle.htl_main.specs.Coverages.{IsCoverage}
 use Rattle.htl_main.specs.CutInputs.{AreCut}
-use Rattle.htl_main.specs.Folding.{IsAskedOver, IsBeginningRefused, IsCollectionOf, IsFolded, IsFoldingRefused, IsHalfKnown}
+use Rattle.htl_main.specs.Folding.{Folding, IsAskedOver, IsBeginningRefused, IsCollectionOf, IsFolded, IsFoldingRefused, IsHalfKnown}
+use Rattle.htl_main.specs.Folding.{folding}
 use Rattle.htl_main.specs.Inputs.{DecodeAll}
-use Rattle.htl_main.specs.Loading.{in_setting}
+use Rattle.htl_main.specs.Loading.{AreLoadedOf, in_setting}
 use Rattle.htl_main.specs.Origins.{IsBetween, by_fault}
 use Rattle.htl_main.specs.Printed.{HasSymbols, IsText, Printed}
 use Rattle.htl_main.specs.Sources.{IsEndless, IsSourcesCause, IsTrueAt}
 use Rattle.htl_main.specs.Remarks.{RemarksOver, ReportsRemarks}
+use Rattle.htl_main.specs.Runs.{EndsAdding}
 use Rattle.htl_main.specs.Subjects.{ReportsAbsence}
 use Rattle.htl_main.specs.declared.adding.Added.{Added}
 use Rattle.htl_main.specs.declared.completed.Absence.{Absence}
@@ -37,9 +38,8 @@ use Rattle.htl_segment.specs.Content.{Content}
 use Rattle.htl_segment.specs.Traces.{Trace}
 use Rattle.htl_symbols.specs.Ranges.{Range}
 use Rattle.htl_program.specs.Endings.{IsUnopened, RunsOut}
-use Rattle.htl_program.specs.Opened.{Known, Opened, ends, lefts}
 use Rattle.htl_program.specs.Readings.{AreInputs}
-use Rattle.htl_program.specs.Worlds.{IsFirstAbsent, IsFirstRefused}
+use Rattle.htl_program.specs.Worlds.{Known, IsFirstAbsent, IsFirstRefused}
 use Rattle.htl_program.specs.declared.ask_fault.AskFault.{AskFault}
 use Rattle.htl_program.specs.declared.ask_fault.AskFault.TheVariants.{Run, Dialogue}
 
@@ -103,37 +103,28 @@ IsAbsenceOver setting (Some (segments taken)) job absence = absence ≡ None
 
 -- The names were opened and read as any run reads its sources, which these are by now. The first name for which there is nothing is
 -- reported by its place, and a failed read of a name that was refused, or of a source whose read failed or gave bytes too often.
-pub record ReadsNames {R S : Type 0} (world : Known) (is_text : Bool) (names : List (List ℕ)) (sources : Opened R)
+pub record ReadsNames {S : Type 0} (world : Known) (is_text : Bool) (names : List (List ℕ)) (sources : List SourceState)
     (result : Result S RunFault) : Type 0 where
   pub absent : (place : ℕ) → IsFirstAbsent (map world.holds names) (map world.is_absent names) place → IsUnopened place result
-  pub reading : AreInputs is_text sources.has_failed sources.has_ended sources.good_reads sources.remaining (map world.holds names)
-      sources.files result
+  pub reading : AreInputs is_text (map world.holds names) (map world.holds names) (map world.is_absent names) sources result
   pub read : (place : ℕ) → result ≡ Err (Read place)
       → IsFirstRefused (map world.holds names) (map world.is_absent names) place
-      ⊎ (IsTrueAt (map sources.has_failed sources.files) place
-      ⊎ IsEndless (map sources.good_reads sources.files) (map world.holds names) place)
+      ⊎ (IsTrueAt (map has_failed sources) place ⊎ IsEndless (map good_reads sources) (map world.holds names) place)
 
--- what sources of these texts come to that are added to the segments of a case, where this is left of each and these ends were found
-abbrev pub IsAdding : Setting → List Content → List (List ℕ) → List (Option (List ℕ)) → List Bool → Trace → Result Added Refused → Type 0
-IsAdding setting before texts lefts ends after (Ok added) = IsAdded setting.form setting.complete before texts after added
-IsAdding setting before texts lefts ends after (Err refused) = IsAddingRefused setting before texts lefts ends refused
-
--- the same of what was read of inputs
-pub record AddsTo (setting : Setting) (inputs texts : List (List ℕ)) (lefts : List (Option (List ℕ))) (ends : List Bool)
-    (ended : Result Added Refused) : Type 0 where
+-- What came of adding sources of these texts to what was read of inputs.
+pub record AddsTo (setting : Setting) (inputs texts : List (List ℕ)) (sources : List SourceState) (ended : Result Added Refused)
+    : Type 0 where
   pub segments : List Content
   pub decoded : DecodeAll setting.form inputs segments
   pub before : Trace
   pub case : IsCaseOf segments before
   pub after : Trace
-  pub adds : IsAdding setting before.segments texts lefts ends after ended
+  pub adds : EndsAdding setting before.segments texts sources after ended
 
--- what sources of these texts come to that are folded behind segments, where this holds of all that were taken then
-abbrev pub IsFolding : Setting → List Content → List (List ℕ) → List (Option (List ℕ)) → List Bool → (List Content → Type 0)
-    → Result Added Refused → Type 0
-IsFolding setting before texts lefts ends Keeps (Ok added) = IsFolded setting before texts Keeps added
-IsFolding setting before texts lefts ends Keeps (Err refused) =
-    IsFoldingRefused setting before texts lefts ends Keeps refused.fault × IsHalfKnown refused.fault refused.between
+-- what comes of a reading that folds, where this holds of all segments that were taken then
+abbrev pub IsFolding : Folding → (List Content → Type 0) → Result Added Refused → Type 0
+IsFolding of Keeps (Ok added) = IsFolded of.setting of.before of.inputs Keeps added
+IsFolding of Keeps (Err refused) = IsFoldingRefused of Keeps refused.fault × IsHalfKnown refused.fault refused.between
 
 -- What is known of names: they all hold these texts; or there is nothing to open for one of them, and what those before it hold is known;
 -- or it is unknown what one of them holds.
@@ -174,28 +165,27 @@ GoesOn ended = IfErr ended (λ refused. refused.fault ≢ Memory)
 
 -- What was read before leads to what was read then, where files were read, of whose names this is known. If one of them couldn't be opened,
 -- nothing was read of any.
-abbrev pub LeadsTo : Setting → Option Taken → Found → List (Option (List ℕ)) → List Bool → Option Taken → Result Added Refused → Type 0
-LeadsTo setting None more lefts ends after ended = after ≡ None
-LeadsTo setting (Some (inputs before)) more lefts ends after ended =
-    (after ≡ inputs_then before more ended) × IfAllHold more (λ texts. AddsTo setting before texts lefts ends ended ⊎ RunsOut ended)
-LeadsTo setting (Some (segments before)) unknown lefts ends after ended = GoesOn ended × (after ≡ None)
-LeadsTo setting (Some (segments before)) one_is_absent lefts ends after ended = GoesOn ended × (after ≡ Some (segments before))
-LeadsTo setting (Some (segments before)) (all_hold texts) lefts ends after ended =
+abbrev pub LeadsTo : Setting → Option Taken → Found → List SourceState → Option Taken → Result Added Refused → Type 0
+LeadsTo setting None more sources after ended = after ≡ None
+LeadsTo setting (Some (inputs before)) more sources after ended =
+    (after ≡ inputs_then before more ended) × IfAllHold more (λ texts. AddsTo setting before texts sources ended ⊎ RunsOut ended)
+LeadsTo setting (Some (segments before)) unknown sources after ended = GoesOn ended × (after ≡ None)
+LeadsTo setting (Some (segments before)) one_is_absent sources after ended = GoesOn ended × (after ≡ Some (segments before))
+LeadsTo setting (Some (segments before)) (all_hold texts) sources after ended =
     GoesOn ended × (taken : List Content) × (after ≡ Some (segments taken))
-    × IsFolding setting before texts lefts ends (λ all. all ≡ taken) ended
+    × IsFolding (folding setting before texts sources) (λ all. all ≡ taken) ended
 
--- Files of these names were read in a world, and that ended so; the functions say what was read of sources.
-pub record ReadsMore {R : Type 0} (world : Known) (ways : Opened R) (setting : Setting) (before : Option Taken) (names : List (List ℕ))
+-- Files of these names were read in a world, and that ended so.
+pub record ReadsMore (world : Known) (setting : Setting) (before : Option Taken) (names : List (List ℕ))
     (after : Option Taken) (ended : Result Added Refused) : Type 0 where
-  pub sources : List R
-  pub reads : ReadsNames world setting.form.hex names (record ways { files = sources }) (by_fault ended)
-  pub leads : LeadsTo setting before (found world names) (lefts (record ways { files = sources })) (ends (record ways { files = sources }))
-      after ended
+  pub sources : List SourceState
+  pub reads : ReadsNames world setting.form.hex names sources (by_fault ended)
+  pub leads : LeadsTo setting before (found world names) sources after ended
 
 -- Who answers from what was read so far.
-abbrev pub answers_over : {R : Type 0} → Known → Opened R → Setting → Bool → Option (List ℕ) → Answers (Option Taken)
-answers_over world ways setting forgets symbols =
-    answers_by forgets (is_some symbols) (IsOutcomeOver setting symbols) (IsAbsenceOver setting) (ReadsMore world ways setting)
+abbrev pub answers_over : Known → Setting → Bool → Option (List ℕ) → Answers (Option Taken)
+answers_over world setting forgets symbols =
+    answers_by forgets (is_some symbols) (IsOutcomeOver setting symbols) (IsAbsenceOver setting) (ReadsMore world setting)
 
 -- ---- the beginning
 
@@ -204,17 +194,31 @@ pub record Opening : Type 0 where
   pub coverage : Coverage
   pub cut : Option CutInputs
 
--- it holds of these inputs
-pub record Opens (form : InputForm) (inputs : List (List ℕ)) (opening : Opening) : Type 0 where
-  pub coverage : Covers form inputs opening.coverage
-  pub cut : AreCut form.hex inputs opening.cut
+-- All segments of the inputs were loaded, with the names of the table, as a run does before its answer; and what is told holds of them.
+pub record OpensLoaded (setting : Setting) (symbols : Option (List ℕ)) (texts : List (List ℕ)) (opening : Opening) : Type 0 where
+  pub case : Trace
+  pub names : List Range
+  pub loaded : AreLoadedOf texts symbols setting None case names
+  pub coverage : IsCoverage case opening.coverage
+  pub cut : AreCut setting.form.hex texts opening.cut
 
--- What was read before the first line. Where it is folded, it is told how much of their trace the segments have that are a case.
-abbrev pub Begins : Bool → Setting → List (List ℕ) → Taken → Opening → Type 0
-Begins false setting texts (inputs read) opening = (read ≡ texts) × Opens setting.form texts opening
-Begins true setting texts (segments taken) opening =
-    (added : Added) × IsFolded setting [] texts (λ all. all ≡ taken) added × (opening.coverage ≡ added.coverage) × (opening.cut ≡ added.cut)
-Begins folds setting texts read opening = ⊥
+-- All segments of the inputs were taken and folded, and the table has no fault. It is told how much of their trace the segments have that
+-- are a case.
+pub record OpensFolded (setting : Setting) (symbols : Option (List ℕ)) (texts : List (List ℕ)) (taken : List Content) (opening : Opening)
+    : Type 0 where
+  pub added : Added
+  pub folded : IsFolded setting [] texts (λ all. all ≡ taken) added
+  pub names : List Range
+  pub named : HasSymbols symbols names
+  pub coverage : opening.coverage ≡ added.coverage
+  pub cut : opening.cut ≡ added.cut
+
+-- What was read before the first line, of inputs of these texts and of a table of symbols. So no dialogue begins over a table that has a
+-- fault, or over a gap where a complete trace is asked for.
+abbrev pub Begins : Bool → Setting → Option (List ℕ) → List (List ℕ) → Taken → Opening → Type 0
+Begins false setting symbols texts (inputs read) opening = (read ≡ texts) × OpensLoaded setting symbols texts opening
+Begins true setting symbols texts (segments taken) opening = OpensFolded setting symbols texts taken opening
+Begins folds setting symbols texts read opening = ⊥
 
 -- the first note, on files of these names
 abbrev pub opening_note : List (List ℕ) → Coverage → Option CutInputs → Note
@@ -228,14 +232,14 @@ BeginsAndGets names old new told audience after opening replies notes =
     Gets old new told audience after replies (opening_note names opening.coverage opening.cut ∷ notes)
 
 -- why a run of its own over sources of these bytes would end, whatever it is asked of all events
-abbrev pub IsRunsCause : Setting → List (List ℕ) → List (Option (List ℕ)) → List Bool → Option (List ℕ) → RunFault → Type 0
-IsRunsCause setting texts lefts ends symbols fault =
-    (job : Job) → job.until ≡ None → IsSourcesCause (in_setting setting job) texts lefts ends symbols fault
+abbrev pub IsRunsCause : Setting → Option (List ℕ) → List (List ℕ) → List SourceState → RunFault → Type 0
+IsRunsCause setting symbols texts sources fault =
+    (job : Job) → job.until ≡ None → IsSourcesCause (in_setting setting job) texts (lefts sources) (ends sources) symbols fault
 
 -- why nothing can be asked, in each form
-abbrev pub IsBeginsCause : Bool → Setting → List (List ℕ) → List (Option (List ℕ)) → List Bool → Option (List ℕ) → RunFault → Type 0
-IsBeginsCause false setting texts lefts ends symbols fault = IsRunsCause setting texts lefts ends symbols fault
-IsBeginsCause true setting texts lefts ends symbols fault = IsBeginningRefused setting symbols texts lefts ends fault
+abbrev pub IsBeginsCause : Bool → Setting → Option (List ℕ) → List (List ℕ) → List SourceState → RunFault → Type 0
+IsBeginsCause false setting symbols texts sources fault = IsRunsCause setting symbols texts sources fault
+IsBeginsCause true setting symbols texts sources fault = IsBeginningRefused setting symbols texts sources fault
 
 -- which two segments that is about
 abbrev pub IsBeginsBetween : Bool → Setting → List (List ℕ) → RunFault → Between → Type 0

@@ -3,15 +3,17 @@ use Rattle.std.specs.Prelude.{◌≡◌, ◌⊎◌, [], ⊤, ℕ, Bool, true, fa
 use Rattle.htl_command.specs.Needs.{needs_events}
 use Rattle.htl_command.specs.declared.question.Job.{Job}
 use Rattle.htl_command.specs.declared.question.Setting.{Setting}
+use Rattle.htl_device.specs.States.{SourceState}
 use Rattle.htl_dialogue.specs.Dialogues.{Answers, answers_by}
 use Rattle.htl_dialogue.specs.declared.saying.Said.{Said}
 use Rattle.htl_dialogue.specs.declared.saying.Said.TheVariants as said
 use Rattle.htl_main.specs.Completeness.{IsComplete, IsLeastMissing}
 use Rattle.htl_main.specs.Coverages.{IsCoverage}
-use Rattle.htl_main.specs.Folding.{AreFolded, IsAskedOver, IsCollectionOf}
+use Rattle.htl_main.specs.Folding.{AreFolded, IsAskedOver, IsCollectionOf, folding}
 use Rattle.htl_main.specs.Loading.{AreLoadedOf}
 use Rattle.htl_main.specs.Origins.{by_fault}
 use Rattle.htl_main.specs.Printed.{HasSymbols}
+use Rattle.htl_main.specs.Runs.{EndsAdding}
 use Rattle.htl_main.specs.Subjects.{HasAbsence}
 use Rattle.htl_main.specs.declared.adding.Added.{Added}
 use Rattle.htl_main.specs.declared.completed.Absence.{Absence}
@@ -23,10 +25,10 @@ use Rattle.htl_main.specs.declared.printing.AnswerText.{AnswerText}
 use Rattle.htl_main.specs.declared.refused.Refused.{Refused}
 use Rattle.htl_segment.specs.Content.{Content}
 use Rattle.htl_segment.specs.Traces.{Trace}
-use Rattle.htl_program.specs.Asking.{Begins, GoesOn, IsAdding, IsAnswerText, IsFolding, ReadsNames, Taken, found}
+use Rattle.htl_program.specs.Asking.{Begins, GoesOn, IsAnswerText, IsFolding, ReadsNames, Taken, found}
 use Rattle.htl_program.specs.Asking.{inputs, one_is_absent, segments}
 use Rattle.htl_program.specs.Endings.{RunsOut}
-use Rattle.htl_program.specs.Opened.{Known, Opened, ends, lefts}
+use Rattle.htl_program.specs.Worlds.{Known}
 use Rattle.htl_program.specs.declared.kept.Begun.{Begun}
 use Rattle.htl_program.specs.declared.kept.Kept.{Kept}
 use Rattle.htl_program.specs.declared.kept.Kept.TheVariants.{Case, State}
@@ -74,47 +76,44 @@ AreKept setting symbols kept read = ⊥
 -- ---- reading more
 
 -- Files of these names were read in a world and added to what was loaded, and that ended so.
-pub record AddsFiles {R : Type 0} (world : Known) (ways : Opened R) (setting : Setting) (before : Loaded) (names : List (List ℕ))
-    (after : Loaded) (ended : Result Added Refused) : Type 0 where
-  pub sources : List R
-  pub reads : ReadsNames world setting.form.hex names (record ways { files = sources }) (by_fault ended)
+pub record AddsFiles (world : Known) (setting : Setting) (before : Loaded) (names : List (List ℕ)) (after : Loaded)
+    (ended : Result Added Refused) : Type 0 where
+  pub sources : List SourceState
+  pub reads : ReadsNames world setting.form.hex names sources (by_fault ended)
   pub adds : (texts : List (List ℕ)) → map world.holds names ≡ map Some texts
-      → IsAdding setting before.case.segments texts (lefts (record ways { files = sources })) (ends (record ways { files = sources }))
-      after.case ended ⊎ RunsOut ended
+      → EndsAdding setting before.case.segments texts sources after.case ended ⊎ RunsOut ended
   pub coverage : IfOk ended (λ added. IsCoverage after.case after.coverage)
   pub symbols : after.symbols ≡ before.symbols
   pub same : IfErr ended (λ refused. after ≡ before)
 
 -- The same of files that were folded behind what was folded. After refused memory it isn't known how they were read and what was taken.
-pub record FoldsFiles {R : Type 0} (world : Known) (ways : Opened R) (setting : Setting) (before : Folded) (names : List (List ℕ))
-    (after : Folded) (ended : Result Added Refused) : Type 0 where
-  pub sources : List R
-  pub reads : GoesOn ended → ReadsNames world setting.form.hex names (record ways { files = sources }) (by_fault ended)
+pub record FoldsFiles (world : Known) (setting : Setting) (before : Folded) (names : List (List ℕ)) (after : Folded)
+    (ended : Result Added Refused) : Type 0 where
+  pub sources : List SourceState
+  pub reads : GoesOn ended → ReadsNames world setting.form.hex names sources (by_fault ended)
   pub folds : GoesOn ended → (taken : List Content) (texts : List (List ℕ)) → AreFolded before.analyst taken
       → map world.holds names ≡ map Some texts
-      → IsFolding setting taken texts (lefts (record ways { files = sources })) (ends (record ways { files = sources }))
-      (AreFolded after.analyst) ended
+      → IsFolding (folding setting taken texts sources) (AreFolded after.analyst) ended
   pub unopened : found world names ≡ one_is_absent → after ≡ before
   pub symbols : after.symbols ≡ before.symbols
 
-abbrev pub ReadsFiles : {R : Type 0} → Known → Opened R → Setting → Kept → List (List ℕ) → Kept → Result Added Refused → Type 0
-ReadsFiles world ways setting (Case before) names (Case after) ended = AddsFiles world ways setting before names after ended
-ReadsFiles world ways setting (State before) names (State after) ended =
-    FoldsFiles world ways setting before names after ended × GoesOn ended
-ReadsFiles world ways setting before names after ended = ⊥
+abbrev pub ReadsFiles : Known → Setting → Kept → List (List ℕ) → Kept → Result Added Refused → Type 0
+ReadsFiles world setting (Case before) names (Case after) ended = AddsFiles world setting before names after ended
+ReadsFiles world setting (State before) names (State after) ended = FoldsFiles world setting before names after ended × GoesOn ended
+ReadsFiles world setting before names after ended = ⊥
 
 -- ---- a dialogue
 
 -- who answers from what is kept
-abbrev pub answers_from : {R : Type 0} → Known → Opened R → Setting → Bool → Bool → Answers Kept
-answers_from world ways setting forgets has_table =
-    answers_by forgets has_table (HasOutcomeIn setting.complete) HasAbsenceIn (ReadsFiles world ways setting)
+abbrev pub answers_from : Known → Setting → Bool → Bool → Answers Kept
+answers_from world setting forgets has_table =
+    answers_by forgets has_table (HasOutcomeIn setting.complete) HasAbsenceIn (ReadsFiles world setting)
 
 -- What there is before the first line, by what was read.
 pub record IsBegun (folds : Bool) (setting : Setting) (symbols : Option (List ℕ)) (texts : List (List ℕ)) (begun : Begun) : Type 0 where
   pub read : Taken
   pub kept : AreKept setting symbols begun.kept read
-  pub opens : Begins folds setting texts read (record { coverage = begun.coverage; cut = begun.cut })
+  pub opens : Begins folds setting symbols texts read (record { coverage = begun.coverage; cut = begun.cut })
 
 -- how much of its trace a case has is known
 abbrev pub IsCovered : Kept → Type 0

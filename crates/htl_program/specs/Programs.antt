@@ -13,6 +13,7 @@ use Rattle.htl_command.specs.declared.fault.ParseFault.{ParseFault}
 use Rattle.htl_command.specs.declared.fault.ParseFault.TheVariants.{Help, Usage, Memory}
 use Rattle.htl_command.specs.declared.question.InputForm.{InputForm}
 use Rattle.htl_device.specs.Devices.{AppendsPrefix}
+use Rattle.htl_device.specs.States.{SinkState, SourceState, fresh}
 use Rattle.htl_dialogue.specs.Notes.{Note}
 use Rattle.htl_dialogue.specs.declared.dialogue.Conversed.{Conversed}
 use Rattle.htl_dialogue.specs.declared.dialogue.DialogueFault.{DialogueFault}
@@ -24,7 +25,8 @@ use Rattle.htl_main.specs.declared.fault.RunFault.{RunFault}
 use Rattle.htl_main.specs.declared.fault.RunFault.TheVariants as faults
 use Rattle.htl_main.specs.declared.refused.Refused.{Refused}
 use Rattle.htl_program.specs.Asking.{before_dialogue}
-use Rattle.htl_program.specs.Opened.{Known, Opened, files_of}
+use Rattle.htl_program.specs.Opened.{Opened}
+use Rattle.htl_program.specs.Worlds.{Known}
 use Rattle.htl_program.specs.Outcomes.{IsAnswered, IsConversed, IsDumped, IsEncoded, Talk, talk}
 use Rattle.htl_program.specs.Messages.{Hears, HearsAll, HearsRun, Message, alone, cut_noted, fault, fault_said, no_memory, notes_said}
 use Rattle.htl_program.specs.Messages.{stop_said, text, unwritten}
@@ -34,18 +36,15 @@ use Rattle.htl_program.specs.declared.ask_fault.AskFault.{AskFault}
 use Rattle.htl_program.specs.declared.ask_fault.AskFault.TheVariants as asks
 use Rattle.htl_program.specs.declared.console.Console.{Console}
 
--- what was written and said: which bytes the output holds, whether a write to it failed, and whether that is because its reader has gone,
--- and what a person heard
+-- what was written and said: what is known of the output, whether a write to it failed because its reader has gone, and what a person heard
 pub record Told : Type 0 where
-  pub out : Option (List ℕ)
-  pub write_failed : Bool
+  pub out : SinkState
   pub reader_gone : Bool
   pub heard : Option (List Message)
 
-abbrev pub told : {O P : Type 0} → (O → Option (List ℕ)) → (O → Bool) → (O → Bool) → (P → Option (List Message)) → Console O P → Told
-told contents has_failed has_lost_reader heard console = record {
-  out = contents console.out;
-  write_failed = has_failed console.out;
+abbrev pub told : {O P : Type 0} → (O → SinkState) → (O → Bool) → (P → Option (List Message)) → Console O P → Told
+told state has_lost_reader heard console = record {
+  out = state console.out;
   reader_gone = has_lost_reader console.out;
   heard = heard console.person;
 }
@@ -78,10 +77,10 @@ abbrev pub SaysAnswer : Bool → Bool → Option (List Message) → Option (List
 SaysAnswer quiet in_words old new command run (Ok completed) = HearsAll old new (notes_said in_words command run completed)
 SaysAnswer quiet in_words old new command run (Err refused) = SaysFault quiet in_words old new command refused
 
-pub record DoesAnswer {R : Type 0} (watches in_words : Bool) (world : Known) (inputs : Opened R) (old new : Told) (command : Command)
-    (run : Run) (status : ℕ) : Type 0 where
+pub record DoesAnswer (watches in_words : Bool) (world : Known) (inputs : Opened) (old new : Told) (command : Command) (run : Run)
+    (status : ℕ) : Type 0 where
   pub ended : Result Completed Refused
-  pub is : IsAnswered world (files_of inputs) run old.out new.out new.write_failed ended
+  pub is : IsAnswered world inputs.files run old.out new.out ended
   pub status_is : status ≡ end_status run.job.exit_code (by_fault ended)
   pub after_run : Option (List Message)
   pub hears_run : HearsRun command old.heard after_run
@@ -98,19 +97,19 @@ abbrev pub SaysDump : Bool → Bool → Option (List Message) → Option (List M
 SaysDump quiet in_words old new command (Ok cut) = HearsAll old new (cut_noted in_words command cut)
 SaysDump quiet in_words old new command (Err reported) = SaysFault quiet in_words old new command (alone reported)
 
-pub record DoesDump {R A : Type 0} (watches in_words : Bool) (world : Known) (inputs : Opened R) (old new : Told) (command : Command)
+pub record DoesDump {A : Type 0} (watches in_words : Bool) (world : Known) (inputs : Opened) (old new : Told) (command : Command)
     (form : InputForm) (files : List (String A)) (status : ℕ) : Type 0 where
   pub ended : Result (Option CutInputs) RunFault
-  pub is : IsDumped world (files_of inputs) form files old.out new.out new.write_failed ended
+  pub is : IsDumped world inputs.files form files old.out new.out ended
   pub status_is : status ≡ conversion_status ended
   pub after_run : Option (List Message)
   pub hears_run : HearsRun command old.heard after_run
   pub said : SaysDump (is_quiet watches new) in_words after_run new.heard command ended
 
-pub record DoesEncode {R A : Type 0} (watches in_words : Bool) (world : Known) (inputs : Opened R) (old new : Told) (command : Command)
+pub record DoesEncode {A : Type 0} (watches in_words : Bool) (world : Known) (inputs : Opened) (old new : Told) (command : Command)
     (hex : Bool) (files : List (String A)) (status : ℕ) : Type 0 where
   pub ended : Result (Unit {0}) RunFault
-  pub is : IsEncoded world (files_of inputs) hex files old.out new.out new.write_failed ended
+  pub is : IsEncoded world inputs.files hex files old.out new.out ended
   pub status_is : status ≡ conversion_status ended
   pub after_run : Option (List Message)
   pub hears_run : HearsRun command old.heard after_run
@@ -120,8 +119,8 @@ pub record DoesEncode {R A : Type 0} (watches in_words : Bool) (world : Known) (
 -- person watches and the output's reader has gone.
 abbrev pub IsPrinted : Bool → List ℕ → Told → Told → ℕ → Type 0
 IsPrinted watches bytes old new status =
-    ((new.write_failed ≡ false) × (status ≡ 0) × Appends old.out new.out bytes × (new.heard ≡ old.heard))
-    ⊎ ((new.write_failed ≡ true) × (status ≡ 5) × AppendsPrefix old.out new.out bytes
+    ((new.out.failed ≡ false) × (status ≡ 0) × Appends old.out.contents new.out.contents bytes × (new.heard ≡ old.heard))
+    ⊎ ((new.out.failed ≡ true) × (status ≡ 5) × AppendsPrefix old.out.contents new.out.contents bytes
     × HearsUnless (is_quiet watches new) old.heard new.heard (unwritten ∷ []))
 
 -- Where the arguments give no command: help is printed, and all else is said.
@@ -137,7 +136,7 @@ Explains watches old new bytes status =
     ⊎ ((status ≡ 6) × (new.out ≡ old.out) × Hears old.heard new.heard (fault (alone faults.Memory)))
 
 -- Segments are made of text, but their bytes aren't shown to a person.
-abbrev pub EncodesOrRefuses : {R A : Type 0} → Bool → Bool → Bool → Known → Opened R → Told → Told → Command → Bool → List (String A) → ℕ
+abbrev pub EncodesOrRefuses : {A : Type 0} → Bool → Bool → Bool → Known → Opened → Told → Told → Command → Bool → List (String A) → ℕ
     → Type 0
 EncodesOrRefuses true watches in_words world inputs old new command hex files status =
     (why : ParseFault) × IsUsageWith ⊤ why × Refuses watches old new why status
@@ -181,29 +180,22 @@ with_notes notes speaker = record speaker {
 }
 
 -- what these questions, this output and this speaker, who is listening by now, were before the dialogue and are after it
-abbrev pub talk_of : {S R : Type 0} → Opened R → R → Option (List ℕ) → Spoken S → S → Told → Told → Talk S
-talk_of inputs questions bytes speaker listening old new =
-    talk bytes (inputs.remaining questions) (inputs.has_failed questions) old.out new.out new.write_failed speaker.told
-    speaker.wants_absence speaker.before listening
-
--- Nothing was read of the questions, of which these are the bytes.
-pub record IsUnread {R : Type 0} (inputs : Opened R) (questions : R) (bytes : Option (List ℕ)) : Type 0 where
-  pub whole : inputs.remaining questions ≡ bytes
-  pub fresh : inputs.has_failed questions ≡ false
-  pub inside : inputs.has_ended questions ≡ false
+abbrev pub talk_of : {S : Type 0} → SourceState → SourceState → Spoken S → S → Told → Told → Talk S
+talk_of questions left speaker listening old new =
+    talk questions left old.out new.out speaker.told speaker.wants_absence speaker.before listening
 
 -- The lines of standard input get their replies. The speaker is given as they were when the last reply had come.
-pub record DoesConverse {S R : Type 0} (watches in_words : Bool) (speaker : Spoken S) (world : Known) (inputs : Opened R) (old new : Told)
+pub record DoesConverse {S : Type 0} (watches in_words : Bool) (speaker : Spoken S) (world : Known) (inputs : Opened) (old new : Told)
     (command : Command) (of : Dialogue) (status : ℕ) : Type 0 where
   pub ended : Result Conversed AskFault
   pub listening : S
-  pub questions : R
+  pub questions : SourceState
   pub asked : inputs.questions ≡ Some questions
-  pub is : IsConversed world (files_of inputs) of (talk_of inputs questions world.standard speaker listening old new) ended
+  pub is : IsConversed world inputs.files of (talk_of (fresh world.standard) questions speaker listening old new) ended
   -- Before the files are read no line is, and nothing is written or told.
   pub untouched : IfErr (before_dialogue ended) (λ refused.
-      IsUnread inputs questions world.standard × (new.out ≡ old.out) × (listening ≡ speaker.before))
-  pub after : speaker.after ≡ speaker.left listening (inputs.has_ended questions)
+      (questions ≡ fresh world.standard) × (new.out ≡ old.out) × (listening ≡ speaker.before))
+  pub after : speaker.after ≡ speaker.left listening questions.ended
   pub status_is : status ≡ dialogue_status speaker.counts_wrong ended
   pub after_run : Option (List Message)
   pub hears_run : HearsRun command old.heard after_run
@@ -211,7 +203,7 @@ pub record DoesConverse {S R : Type 0} (watches in_words : Bool) (speaker : Spok
 
 -- What is done for a command, and the status with which the program ends. Whether a person sees the output is given first, then
 -- whether one watches what is said, and then whether that is said in words too.
-abbrev pub Does : {S R : Type 0} → Bool → Bool → Bool → Spoken S → Known → Opened R → Told → Told → Command → ℕ → Type 0
+abbrev pub Does : {S : Type 0} → Bool → Bool → Bool → Spoken S → Known → Opened → Told → Told → Command → ℕ → Type 0
 Does sees watches in_words speaker world inputs old new (wish.Question run) status =
     DoesAnswer watches in_words world inputs old new (wish.Question run) run status
 Does sees watches in_words speaker world inputs old new (wish.Explain reported) status =
@@ -234,7 +226,7 @@ SpeaksIn (wish.Ask of) speaker = ⊤
 SpeaksIn command speaker = speaker.after ≡ speaker.before
 
 -- Words are for a person who watches, and for whoever asks for notes.
-abbrev pub DoesParsed : {S R : Type 0} → Bool → Bool → Spoken S → Known → Opened R → Told → Told → Result CommandLine ParseFault → ℕ
+abbrev pub DoesParsed : {S : Type 0} → Bool → Bool → Spoken S → Known → Opened → Told → Told → Result CommandLine ParseFault → ℕ
     → Type 0
 DoesParsed sees watches speaker world inputs old new (Ok line) status =
     Does sees watches (watches || line.notes) (with_notes line.notes speaker) world inputs old new line.command status
@@ -243,7 +235,7 @@ DoesParsed sees watches speaker world inputs old new (Err why) status =
     Refuses watches old new why status × (speaker.after ≡ speaker.before)
 
 -- The program does what its arguments ask for.
-pub record Obeys {S R : Type 0} (sees watches : Bool) (speaker : Spoken S) (world : Known) (inputs : Opened R) (old new : Told)
+pub record Obeys {S : Type 0} (sees watches : Bool) (speaker : Spoken S) (world : Known) (inputs : Opened) (old new : Told)
     (words : List (List ℕ)) (status : ℕ) : Type 0 where
   pub parsed : Result CommandLine ParseFault
   pub is : IsParsed words parsed

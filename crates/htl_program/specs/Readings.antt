@@ -1,36 +1,43 @@
 -- How the inputs of a run were read in a world (this project's own).
-use Rattle.std.specs.Prelude.{◌≡◌, ◌⊎◌, ℕ, Bool, true, false, List, All, map, Option, String, Result, Err, is_err}
+use Rattle.std.specs.Prelude.{◌≡◌, ◌⊎◌, ℕ, Bool, List, [], length, map, Option, String, Result, Err}
+use Rattle.htl_device.specs.States.{AreOpen, SourceState, good_reads, has_failed, lefts}
 use Rattle.htl_main.specs.Readings.{AreRead}
 use Rattle.htl_main.specs.Sources.{IsEndless, IsTrueAt}
 use Rattle.htl_main.specs.declared.fault.RunFault.{RunFault}
-use Rattle.htl_main.specs.declared.fault.RunFault.TheVariants.{Read}
-use Rattle.htl_program.specs.Worlds.{IsFirstRefused, of_each, of_inputs}
+use Rattle.htl_main.specs.declared.fault.RunFault.TheVariants.{Memory, Read, SymbolsRead}
+use Rattle.htl_program.specs.Worlds.{IsFirstRefused, Known, of_each, of_inputs}
 
--- none has failed, and the end of none was found
-pub record AreFresh {R : Type 0} (has_failed has_ended : R → Bool) (inputs : List R) : Type 0 where
-  pub fresh : All (λ input. has_failed input ≡ false) inputs
-  pub inside : All (λ input. has_ended input ≡ false) inputs
+-- They were opened, have these bytes as far as they are known, and were read as any run reads its sources. All of them are still there.
+pub record WereRead {S : Type 0} (is_text : Bool) (known : List (Option (List ℕ))) (now : List SourceState) (result : Result S RunFault)
+    : Type 0 where
+  pub opened : List SourceState
+  pub are : AreOpen opened
+  pub hold : lefts opened ≡ known
+  pub read : AreRead is_text opened now result
+  pub all : length now ≡ length opened
 
--- They were opened, have these bytes as far as they are known, and were read as any run reads its sources.
-pub record WereRead {R S : Type 0} (is_text : Bool) (has_failed has_ended : R → Bool) (good_reads : R → ℕ)
-    (remaining : R → Option (List ℕ)) (known : List (Option (List ℕ))) (now : List R) (result : Result S RunFault) : Type 0 where
-  pub opened : List R
-  pub are : AreFresh has_failed has_ended opened
-  pub hold : map remaining opened ≡ known
-  pub read : AreRead is_text has_failed has_ended good_reads remaining opened now result
+-- why not all were opened: memory was refused, or a name was, and the first one is given
+abbrev pub IsUnopenedFor : List (Option (List ℕ)) → List Bool → RunFault → Type 0
+IsUnopenedFor holds absences fault =
+    (fault ≡ Memory) ⊎ ((place : ℕ) × (fault ≡ Read place) × IsFirstRefused holds absences place)
+
+-- None was read before the run ended for this fault: not all could be opened, and none is there; or all are as they were opened, and then
+-- the table of symbols couldn't be read. It is given what is known of each input, and then of each name: what it holds, and whether there
+-- is nothing to open.
+abbrev pub AreUnread : List (Option (List ℕ)) → List (Option (List ℕ)) → List Bool → List SourceState → RunFault → Type 0
+AreUnread known holds absences now fault =
+    ((now ≡ []) × IsUnopenedFor holds absences fault)
+    ⊎ (AreOpen now × (lefts now ≡ known) × ((fault ≡ SymbolsRead) ⊎ (fault ≡ Memory)))
 
 -- They were read so, or the run ended before any was.
-abbrev pub AreInputs : {R S : Type 0} → Bool → (R → Bool) → (R → Bool) → (R → ℕ) → (R → Option (List ℕ))
-    → List (Option (List ℕ)) → List R → Result S RunFault → Type 0
-AreInputs is_text has_failed has_ended good_reads remaining known now result =
-    WereRead is_text has_failed has_ended good_reads remaining known now result
-    ⊎ ((is_err result ≡ true) × AreFresh has_failed has_ended now)
+abbrev pub AreInputs : {S : Type 0} → Bool → List (Option (List ℕ)) → List (Option (List ℕ)) → List Bool → List SourceState
+    → Result S RunFault → Type 0
+AreInputs is_text known holds absences now result =
+    WereRead is_text known now result ⊎ ((fault : RunFault) × (result ≡ Err fault) × AreUnread known holds absences now fault)
 
--- A failed read is reported of a name that was refused, or of an input whose read failed or gave bytes too often. What names hold, whether
--- there is nothing to open, and what standard input holds is given first.
-abbrev pub ReportsRead : {A R S : Type 0} → (List ℕ → Option (List ℕ)) → (List ℕ → Bool) → Option (List ℕ) → (R → Bool) → (R → ℕ)
-    → List (String A) → List R → Result S RunFault → Type 0
-ReportsRead holds is_absent standard has_failed good_reads names now result =
+-- A failed read is reported of a name that was refused, or of an input whose read failed or gave bytes too often.
+abbrev pub ReportsRead : {A S : Type 0} → Known → List (String A) → List SourceState → Result S RunFault → Type 0
+ReportsRead world names now result =
     (place : ℕ) → result ≡ Err (Read place)
-    → IsFirstRefused (of_each holds names) (of_each is_absent names) place
-    ⊎ (IsTrueAt (map has_failed now) place ⊎ IsEndless (map good_reads now) (of_inputs holds standard names) place)
+    → IsFirstRefused (of_each world.holds names) (of_each world.is_absent names) place
+    ⊎ (IsTrueAt (map has_failed now) place ⊎ IsEndless (map good_reads now) (of_inputs world.holds world.standard names) place)

@@ -3,6 +3,12 @@
 use Rattle.std.specs.Prelude.{◌≡◌, ◌∷◌, [], ℕ, Bool, true, false, List, All, Option, Some, None, String, map, slice_get}
 use Rattle.std.specs.Prelude.{string_bytes, take}
 
+-- what is known of a world: what each name holds, whether there is nothing to open for it, and what standard input holds
+pub record Known : Type 0 where
+  pub holds : List ℕ → Option (List ℕ)
+  pub is_absent : List ℕ → Bool
+  pub standard : Option (List ℕ)
+
 -- of each of the names
 abbrev pub of_each : {X A : Type 0} → (List ℕ → X) → List (String A) → List X
 of_each of names = map (λ name. of (string_bytes name)) names

@@ -1,8 +1,7 @@
 //! Answers a question in a world: opens its files, runs it, and reads files again if it has to.
 
-ghost use Rattle.std.specs.Prelude.{◌≡◌, ◌≢◌, All, IfErr, false, length, map, option_copied, true};
-ghost use Rattle.htl_main.specs.Origins.{by_fault};
-ghost use Rattle.htl_program.specs.Opened.{known, opened_files};
+ghost use Rattle.std.specs.Prelude.{◌≡◌, false, length, map, option_copied, true};
+ghost use Rattle.htl_device.specs.States.{AreOpen, lefts};
 ghost use Rattle.htl_program.specs.Outcomes.{IsAnswered};
 ghost use Rattle.htl_program.specs.Runs.{IsRunOfNames};
 ghost use Rattle.htl_program.specs.Worlds.{of_inputs};
@@ -12,7 +11,7 @@ use crate::running::{pick_opened, run_opened};
 use crate::world::World;
 use htl_command::Run;
 use htl_device::Sink;
-use htl_main::{Completed, Lacking, Refused, RunFault, interest, widened};
+use htl_main::{Completed, Lacking, Refused, interest, widened};
 use std::alloc::Global;
 use std::thread::Threads;
 
@@ -32,12 +31,9 @@ pub fn answer<Rt: Threads + Sync, W: World, O: Sink>(
     inputs: &mut Vec<W::Input>,
     out: &mut O,
 ) -> Result<Completed, Refused>
-    requires { O.has_failed out.old ≡ false }
-    ensures answered { IsAnswered (known W.holds W.is_absent W.standard world.now)
-        (opened_files W.Input.remaining W.Input.has_ended W.Input.has_failed W.Input.good_reads
-        inputs.new.items) run.now (O.contents out.old) (O.contents out.new) (O.has_failed out.new)
-        result }
-    ensures untouched { IfErr (by_fault result) (λ fault. fault ≢ RunFault.Write → out.new ≡ out.old) }
+    requires { (O.state out.old).failed ≡ false }
+    ensures { IsAnswered (W.known world.now) (map W.Input.state inputs.new.items) run.now
+        (O.state out.old) (O.state out.new) result }
 {
     inputs.clear();
     *inputs = open_inputs(alloc, world, &run.files)?;
@@ -56,15 +52,12 @@ fn run_inputs<Rt: Threads + Sync, W: World, O: Sink>(
     inputs: &mut Vec<W::Input>,
     out: &mut O,
 ) -> Result<Completed, Refused>
-    requires fresh { All (λ input. W.Input.has_failed input ≡ false) inputs.old.items }
-    requires inside { All (λ input. W.Input.has_ended input ≡ false) inputs.old.items }
-    requires bytes { map W.Input.remaining inputs.old.items
-        ≡ of_inputs (W.holds world.now) (W.standard world.now) run.now.files.items }
-    requires out { O.has_failed out.old ≡ false }
-    ensures { IsRunOfNames (known W.holds W.is_absent W.standard world.now)
-        (opened_files W.Input.remaining W.Input.has_ended W.Input.has_failed W.Input.good_reads
-        inputs.new.items) run.now (option_copied symbols.entry) O.contents O.has_failed
-        out.old out.new result }
+    requires ready { AreOpen (map W.Input.state inputs.old.items) }
+    requires bytes { lefts (map W.Input.state inputs.old.items)
+        ≡ of_inputs (W.known world.now).holds (W.known world.now).standard run.now.files.items }
+    requires out { (O.state out.old).failed ≡ false }
+    ensures { IsRunOfNames (W.known world.now) (map W.Input.state inputs.new.items) run.now
+        (option_copied symbols.entry) (O.state out.old) (O.state out.new) result }
 {
     if !can_pick(world, run) {
         return run_opened(rt, alloc, &run.job, inputs, symbols, out);
@@ -93,11 +86,9 @@ fn run_again<Rt: Threads + Sync, W: World, O: Sink>(
     inputs: &mut Vec<W::Input>,
     out: &mut O,
 ) -> Result<Completed, Refused>
-    requires { O.has_failed out.old ≡ false }
-    ensures { IsRunOfNames (known W.holds W.is_absent W.standard world.now)
-        (opened_files W.Input.remaining W.Input.has_ended W.Input.has_failed W.Input.good_reads
-        inputs.new.items) run.now (option_copied symbols.entry) O.contents O.has_failed
-        out.old out.new result }
+    requires { (O.state out.old).failed ≡ false }
+    ensures { IsRunOfNames (W.known world.now) (map W.Input.state inputs.new.items) run.now
+        (option_copied symbols.entry) (O.state out.old) (O.state out.new) result }
 {
     inputs.clear();
     *inputs = open_inputs(alloc, world, &run.files)?;

@@ -1,7 +1,7 @@
 //! What the program does: from its arguments, through the command that they give, to its status.
 
 ghost use Rattle.std.specs.Prelude.{◌≡◌, ◌||◌, false, map, string_bytes};
-ghost use Rattle.htl_program.specs.Opened.{known, opened};
+ghost use Rattle.htl_program.specs.Opened.{opened};
 ghost use Rattle.htl_program.specs.Programs.{Does, Obeys, SpeaksIn, spoken, told, with_notes};
 
 use crate::console::Console;
@@ -27,14 +27,13 @@ pub fn program<Rt: Threads + Sync, W: World, O: Output, P: Person, S: Speaker>(
     console: &mut Console<O, P>,
     speaker: &mut S,
 ) -> u8
-    requires { O.has_failed console.old.out ≡ false }
+    requires { (O.state console.old.out).failed ≡ false }
     ensures { Obeys (P.sees_output console.old.person) (P.is_watching console.old.person)
         (spoken S.told S.noted S.left S.wants_absence S.counts speaker.old speaker.new)
-        (known W.holds W.is_absent W.standard world.now)
-        (opened W.Input.remaining W.Input.has_ended W.Input.has_failed W.Input.good_reads
-        inputs.new)
-        (told O.contents O.has_failed O.has_lost_reader P.heard console.old)
-        (told O.contents O.has_failed O.has_lost_reader P.heard console.new)
+        (W.known world.now)
+        (opened W.Input.state inputs.new)
+        (told O.state O.has_lost_reader P.heard console.old)
+        (told O.state O.has_lost_reader P.heard console.new)
         (map string_bytes arguments.items) result }
 {
     match parse(alloc, arguments) {
@@ -53,16 +52,15 @@ fn obey<Rt: Threads + Sync, W: World, O: Output, P: Person, S: Speaker>(
     console: &mut Console<O, P>,
     speaker: &mut S,
 ) -> u8
-    requires { O.has_failed console.old.out ≡ false }
+    requires { (O.state console.old.out).failed ≡ false }
     ensures does { Does (P.sees_output console.old.person) (P.is_watching console.old.person)
         (P.is_watching console.old.person || line.now.notes)
         (with_notes line.now.notes
         (spoken S.told S.noted S.left S.wants_absence S.counts speaker.old speaker.new))
-        (known W.holds W.is_absent W.standard world.now)
-        (opened W.Input.remaining W.Input.has_ended W.Input.has_failed W.Input.good_reads
-        inputs.new)
-        (told O.contents O.has_failed O.has_lost_reader P.heard console.old)
-        (told O.contents O.has_failed O.has_lost_reader P.heard console.new) line.now.command result }
+        (W.known world.now)
+        (opened W.Input.state inputs.new)
+        (told O.state O.has_lost_reader P.heard console.old)
+        (told O.state O.has_lost_reader P.heard console.new) line.now.command result }
     ensures speaks { SpeaksIn line.now.command
         (spoken S.told S.noted S.left S.wants_absence S.counts speaker.old speaker.new) }
 {

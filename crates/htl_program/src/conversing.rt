@@ -1,20 +1,17 @@
 //! A dialogue in a world: the files are read once, and each line of standard input gets its reply.
 
-ghost use Rattle.std.specs.Prelude.{◌≡◌, ℕ, All, Bool, Err, IfErr, IfOk, List, OnOk, Option, Some};
-ghost use Rattle.std.specs.Prelude.{false, map, option_copied, option_map, string_bytes};
+ghost use Rattle.std.specs.Prelude.{◌≡◌, ℕ, Bool, Err, IfErr, IfOk, List, OnOk, Option};
+ghost use Rattle.std.specs.Prelude.{false, length, map, option_copied, option_map};
+ghost use Rattle.htl_device.specs.States.{AreOpen, IfKnown, IsOpen, lefts};
 ghost use Rattle.htl_command.specs.declared.question.Setting.{Setting};
-ghost use Rattle.htl_dialogue.specs.Dialogues.{Converses, DialogueStops};
-ghost use Rattle.htl_dialogue.specs.declared.dialogue.DialogueFault.{DialogueFault};
 ghost use Rattle.htl_main.specs.Origins.{by_fault};
 ghost use Rattle.htl_main.specs.Readings.{AreRead};
-ghost use Rattle.htl_program.specs.Asking.{Begins, BeginsAndGets, IsBeginsBetween, IsBeginsCause};
-ghost use Rattle.htl_program.specs.Asking.{Opening, ReportsDevices, Taken, answers_over};
-ghost use Rattle.htl_program.specs.Asking.{before_dialogue};
+ghost use Rattle.htl_program.specs.Asking.{IsBeginsBetween, ReportsDevices, before_dialogue};
 ghost use Rattle.htl_program.specs.Endings.{IsUnopened, IsUntabled};
-ghost use Rattle.htl_program.specs.Opened.{known, opened_files, ways};
-ghost use Rattle.htl_program.specs.Outcomes.{IsConversed, talk};
-ghost use Rattle.htl_program.specs.Worlds.{IsFirstAbsent, IsFirstRefused, IsTable, IsTableAbsent};
-ghost use Rattle.htl_program.specs.Worlds.{of_each, of_inputs};
+ghost use Rattle.htl_program.specs.Outcomes.{EndsConversing, HaveTexts, IsAbsentAt, IsConversed};
+ghost use Rattle.htl_program.specs.Outcomes.{talk};
+ghost use Rattle.htl_program.specs.Readings.{AreUnread};
+ghost use Rattle.htl_program.specs.Worlds.{IsTable, IsTableAbsent, of_each, of_inputs};
 
 use crate::ask_fault::AskFault;
 use crate::dialogue::converse_lines;
@@ -42,15 +39,12 @@ pub fn converse<Rt: Threads + Sync, W: World, Q: Source, O: Sink, H: Speaker>(
     out: &mut O,
     speaker: &mut H,
 ) -> Result<Conversed, AskFault>
-    requires questions { Q.has_failed questions.old ≡ false }
-    requires open { Q.has_ended questions.old ≡ false }
-    requires out { O.has_failed out.old ≡ false }
-    ensures conversed { IsConversed (known W.holds W.is_absent W.standard files.now.world.now)
-        (opened_files W.Input.remaining W.Input.has_ended W.Input.has_failed W.Input.good_reads
-        inputs.new.items) files.now.dialogue.now
-        (talk (Q.remaining questions.old) (Q.remaining questions.new) (Q.has_failed questions.new)
-        (O.contents out.old) (O.contents out.new) (O.has_failed out.new) H.told
-        (H.wants_absence speaker.old) speaker.old speaker.new) result }
+    requires questions { IsOpen (Q.state questions.old) }
+    requires out { (O.state out.old).failed ≡ false }
+    ensures conversed { IsConversed (W.known files.now.world.now)
+        (map W.Input.state inputs.new.items) files.now.dialogue.now
+        (talk (Q.state questions.old) (Q.state questions.new) (O.state out.old) (O.state out.new)
+        H.told (H.wants_absence speaker.old) speaker.old speaker.new) result }
     ensures untouched { IfErr (before_dialogue result)
         (λ _. (questions.new ≡ questions.old) × (out.new ≡ out.old)
         × (speaker.new ≡ speaker.old)) }
@@ -74,27 +68,28 @@ fn open_all<W: World>(
     of: &Dialogue,
     inputs: &mut Vec<W::Input>,
 ) -> Result<Option<Vec<u8>>, RunFault>
-    ensures fresh { All (λ input. W.Input.has_failed input ≡ false) inputs.new.items }
-    ensures inside { All (λ input. W.Input.has_ended input ≡ false) inputs.new.items }
-    ensures bytes { OnOk result (map W.Input.remaining inputs.new.items
-        ≡ of_inputs (W.holds world.now) (W.standard world.now) of.now.files.items) }
+    ensures ready { OnOk result (AreOpen (map W.Input.state inputs.new.items)) }
+    ensures bytes { OnOk result (lefts (map W.Input.state inputs.new.items)
+        ≡ of_inputs (W.known world.now).holds (W.known world.now).standard of.now.files.items) }
+    ensures unread { IfErr result (AreUnread
+        (of_inputs (W.known world.now).holds (W.known world.now).standard of.now.files.items)
+        (of_each (W.known world.now).holds of.now.files.items)
+        (of_each (W.known world.now).is_absent of.now.files.items)
+        (map W.Input.state inputs.new.items)) }
     ensures table { IfOk result (λ read. (table : Option (List ℕ))
-        → IsTable (W.holds world.now) of.now.symbols table
+        → IsTable (W.known world.now).holds of.now.symbols table
         → table ≡ option_map (λ v. v.items) read) }
     ensures known { (texts : List (List ℕ)) → (table : Option (List ℕ))
-        → of_inputs (W.holds world.now) (W.standard world.now) of.now.files.items ≡ map Some texts
-        → IsTable (W.holds world.now) of.now.symbols table
+        → HaveTexts (W.known world.now) of.now.files.items texts
+        → IsTable (W.known world.now).holds of.now.symbols table
         → IfErr result (λ fault. fault ≡ RunFault.Memory) }
-    ensures absent { (place : ℕ) → IsFirstAbsent (of_each (W.holds world.now) of.now.files.items)
-        (of_each (W.is_absent world.now) of.now.files.items) place → IsUnopened place result }
+    ensures absent { (place : ℕ) → IsAbsentAt (W.known world.now) of.now.files.items place
+        → IsUnopened place result }
     ensures untabled { (texts : List (List ℕ))
-        → of_inputs (W.holds world.now) (W.standard world.now) of.now.files.items ≡ map Some texts
-        → IsTableAbsent (W.is_absent world.now) of.now.symbols → IsUntabled result }
+        → HaveTexts (W.known world.now) of.now.files.items texts
+        → IsTableAbsent (W.known world.now).is_absent of.now.symbols → IsUntabled result }
     ensures alone { (folds : Bool) → (setting : Setting) → (texts : List (List ℕ))
         → IfErr result (λ fault. IsBeginsBetween folds setting texts fault Between.Nothing) }
-    ensures read { (place : ℕ) → result ≡ Err (RunFault.Read place)
-        → IsFirstRefused (of_each (W.holds world.now) of.now.files.items)
-        (of_each (W.is_absent world.now) of.now.files.items) place }
 {
     inputs.clear();
     *inputs = open_inputs(alloc, world, &of.files)?;
@@ -111,49 +106,23 @@ fn ask_opened<Rt: Threads + Sync, W: World, Q: Source, O: Sink, H: Speaker>(
     out: &mut O,
     speaker: &mut H,
 ) -> Result<Conversed, AskFault>
-    requires fresh { All (λ input. W.Input.has_failed input ≡ false) inputs.old.items }
-    requires inside { All (λ input. W.Input.has_ended input ≡ false) inputs.old.items }
-    requires questions { Q.has_failed questions.old ≡ false }
-    requires open { Q.has_ended questions.old ≡ false }
-    requires out { O.has_failed out.old ≡ false }
-    ensures replies { (texts : List (List ℕ)) → (lines : List ℕ)
-        → map W.Input.remaining inputs.old.items ≡ map Some texts
-        → Q.remaining questions.old ≡ Some lines
-        → IfOk result (λ conversed. (read : Taken) × (opening : Opening)
-        × Begins files.now.dialogue.now.folds files.now.dialogue.now.setting texts read opening
-        × Converses (answers_over (known W.holds W.is_absent W.standard files.now.world.now)
-        (ways W.Input.remaining W.Input.has_ended W.Input.has_failed W.Input.good_reads)
-        files.now.dialogue.now.setting files.now.dialogue.now.folds (option_copied symbols.entry))
-        (H.wants_absence speaker.old) (Some read) lines
-        (BeginsAndGets (map string_bytes files.now.dialogue.now.files.items) (O.contents out.old)
-        (O.contents out.new) H.told speaker.old speaker.new opening) conversed) }
-    ensures stops { (texts : List (List ℕ)) → (lines : List ℕ) → (stopped : DialogueFault)
-        → map W.Input.remaining inputs.old.items ≡ map Some texts
-        → Q.remaining questions.old ≡ Some lines
-        → result ≡ Err (AskFault.Dialogue stopped)
-        → (read : Taken) × (opening : Opening)
-        × Begins files.now.dialogue.now.folds files.now.dialogue.now.setting texts read opening
-        × DialogueStops (answers_over (known W.holds W.is_absent W.standard files.now.world.now)
-        (ways W.Input.remaining W.Input.has_ended W.Input.has_failed W.Input.good_reads)
-        files.now.dialogue.now.setting files.now.dialogue.now.folds (option_copied symbols.entry))
-        (H.wants_absence speaker.old) (Some read) lines
-        (Q.remaining questions.new) (Q.has_failed questions.new)
-        (BeginsAndGets (map string_bytes files.now.dialogue.now.files.items) (O.contents out.old)
-        (O.contents out.new) H.told speaker.old speaker.new opening) stopped }
-    ensures devices { ReportsDevices (Q.has_failed questions.new) (Q.remaining questions.old)
-        (O.has_failed out.new) result }
-    ensures cause { (texts : List (List ℕ)) → map W.Input.remaining inputs.old.items ≡ map Some texts
-        → IfErr (by_fault (before_dialogue result))
-        (IsBeginsCause files.now.dialogue.now.folds files.now.dialogue.now.setting texts
-        (map W.Input.remaining inputs.new.items) (map W.Input.has_ended inputs.new.items)
-        (option_copied symbols.entry)) }
-    ensures between { (texts : List (List ℕ)) → map W.Input.remaining inputs.old.items ≡ map Some texts
-        → IfErr (before_dialogue result) (λ refused.
-        IsBeginsBetween files.now.dialogue.now.folds files.now.dialogue.now.setting texts refused.fault
-        refused.between) }
-    ensures reading { AreRead files.now.dialogue.now.setting.form.hex W.Input.has_failed
-        W.Input.has_ended W.Input.good_reads W.Input.remaining inputs.old.items inputs.new.items
+    requires ready { AreOpen (map W.Input.state inputs.old.items) }
+    requires questions { IsOpen (Q.state questions.old) }
+    requires out { (O.state out.old).failed ≡ false }
+    ensures outcome { IfKnown (map W.Input.state inputs.old.items) (λ texts. EndsConversing
+        (W.known files.now.world.now) (map W.Input.state inputs.new.items) files.now.dialogue.now
+        (talk (Q.state questions.old) (Q.state questions.new) (O.state out.old) (O.state out.new)
+        H.told (H.wants_absence speaker.old) speaker.old speaker.new)
+        texts (option_copied symbols.entry) result) }
+    ensures devices { ReportsDevices (Q.state questions.new).failed
+        (Q.state questions.old).remaining (O.state out.new).failed result }
+    ensures between { IfKnown (map W.Input.state inputs.old.items) (λ texts.
+        IfErr (before_dialogue result) (λ refused. IsBeginsBetween files.now.dialogue.now.folds
+        files.now.dialogue.now.setting texts refused.fault refused.between)) }
+    ensures reading { AreRead files.now.dialogue.now.setting.form.hex
+        (map W.Input.state inputs.old.items) (map W.Input.state inputs.new.items)
         (by_fault (before_dialogue result)) }
+    ensures all { length inputs.new.items ≡ length inputs.old.items }
     ensures untouched { IfErr (before_dialogue result)
         (λ _. (questions.new ≡ questions.old) × (out.new ≡ out.old)
         × (speaker.new ≡ speaker.old)) }

@@ -1,10 +1,8 @@
 //! The runs that print the segments of files as text and make segments of texts, in a world.
 
-ghost use Rattle.std.specs.Prelude.{◌≡◌, ◌≢◌, ℕ, All, IfErr, List, Some, false, map, true};
-ghost use Rattle.htl_main.specs.Dumps.{is_failed_write};
-ghost use Rattle.htl_main.specs.Readings.{AreRead};
-ghost use Rattle.htl_program.specs.Endings.{EndsDump, EndsEncoding};
-ghost use Rattle.htl_program.specs.Opened.{known, opened_files};
+ghost use Rattle.std.specs.Prelude.{◌≡◌, ℕ, false, length, map};
+ghost use Rattle.htl_device.specs.States.{AreOpen};
+ghost use Rattle.htl_main.specs.Runs.{IsDumpedFrom, IsEncodedFrom};
 ghost use Rattle.htl_program.specs.Outcomes.{IsAbsentAt, IsDumped, IsEncoded};
 
 use crate::opening::open_inputs;
@@ -26,13 +24,11 @@ pub fn dump<W: World, O: Sink>(
     inputs: &mut Vec<W::Input>,
     out: &mut O,
 ) -> Result<Option<CutInputs>, RunFault>
-    requires { O.has_failed out.old ≡ false }
-    ensures dumped { IsDumped (known W.holds W.is_absent W.standard world.now)
-        (opened_files W.Input.remaining W.Input.has_ended W.Input.has_failed W.Input.good_reads
-        inputs.new.items) form files.now (O.contents out.old) (O.contents out.new)
-        (O.has_failed out.new) result }
-    ensures untouched { (place : ℕ) → IsAbsentAt (known W.holds W.is_absent W.standard world.now)
-        files.now place → out.new ≡ out.old }
+    requires { (O.state out.old).failed ≡ false }
+    ensures dumped { IsDumped (W.known world.now) (map W.Input.state inputs.new.items) form
+        files.now (O.state out.old) (O.state out.new) result }
+    ensures untouched { (place : ℕ) → IsAbsentAt (W.known world.now) files.now place
+        → out.new ≡ out.old }
 {
     inputs.clear();
     *inputs = open_inputs(alloc, world, files)?;
@@ -46,15 +42,11 @@ fn dump_opened<R: Source, O: Sink>(
     inputs: &mut Vec<R>,
     out: &mut O,
 ) -> Result<Option<CutInputs>, RunFault>
-    requires fresh { All (λ input. R.has_failed input ≡ false) inputs.old.items }
-    requires inside { All (λ input. R.has_ended input ≡ false) inputs.old.items }
-    requires out { O.has_failed out.old ≡ false }
-    ensures ends { (texts : List (List ℕ)) → map R.remaining inputs.old.items ≡ map Some texts
-        → EndsDump form texts (map R.remaining inputs.new.items) (map R.has_ended inputs.new.items)
-        (O.contents out.old) (O.contents out.new) result }
-    ensures reading { AreRead form.hex R.has_failed R.has_ended R.good_reads R.remaining
-        inputs.old.items inputs.new.items result }
-    ensures failed { O.has_failed out.new ≡ is_failed_write result }
+    requires ready { AreOpen (map R.state inputs.old.items) }
+    requires out { (O.state out.old).failed ≡ false }
+    ensures dumped { IsDumpedFrom form (map R.state inputs.old.items)
+        (map R.state inputs.new.items) (O.state out.old) (O.state out.new) result }
+    ensures all { length inputs.new.items ≡ length inputs.old.items }
 {
     dump_from(alloc, form, inputs, out)
 }
@@ -71,12 +63,9 @@ pub fn encode<W: World, O: Sink>(
     inputs: &mut Vec<W::Input>,
     out: &mut O,
 ) -> Result<(), RunFault>
-    requires { O.has_failed out.old ≡ false }
-    ensures encoded { IsEncoded (known W.holds W.is_absent W.standard world.now)
-        (opened_files W.Input.remaining W.Input.has_ended W.Input.has_failed W.Input.good_reads
-        inputs.new.items) hex files.now (O.contents out.old) (O.contents out.new)
-        (O.has_failed out.new) result }
-    ensures untouched { IfErr result (λ fault. fault ≢ RunFault.Write → out.new ≡ out.old) }
+    requires { (O.state out.old).failed ≡ false }
+    ensures { IsEncoded (W.known world.now) (map W.Input.state inputs.new.items) hex files.now
+        (O.state out.old) (O.state out.new) result }
 {
     inputs.clear();
     *inputs = open_inputs(alloc, world, files)?;
@@ -90,16 +79,11 @@ fn encode_opened<R: Source, O: Sink>(
     inputs: &mut Vec<R>,
     out: &mut O,
 ) -> Result<(), RunFault>
-    requires fresh { All (λ input. R.has_failed input ≡ false) inputs.old.items }
-    requires inside { All (λ input. R.has_ended input ≡ false) inputs.old.items }
-    requires out { O.has_failed out.old ≡ false }
-    ensures ends { (texts : List (List ℕ)) → map R.remaining inputs.old.items ≡ map Some texts
-        → EndsEncoding hex texts (map R.remaining inputs.new.items)
-        (map R.has_ended inputs.new.items) (O.contents out.old) (O.contents out.new) result }
-    ensures reading { AreRead true R.has_failed R.has_ended R.good_reads R.remaining
-        inputs.old.items inputs.new.items result }
-    ensures failed { O.has_failed out.new ≡ is_failed_write result }
-    ensures untouched { IfErr result (λ fault. fault ≢ RunFault.Write → out.new ≡ out.old) }
+    requires ready { AreOpen (map R.state inputs.old.items) }
+    requires out { (O.state out.old).failed ≡ false }
+    ensures encoded { IsEncodedFrom hex (map R.state inputs.old.items)
+        (map R.state inputs.new.items) (O.state out.old) (O.state out.new) result }
+    ensures all { length inputs.new.items ≡ length inputs.old.items }
 {
     encode_from(alloc, hex, inputs, out)
 }

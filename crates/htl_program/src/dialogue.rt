@@ -4,13 +4,15 @@ ghost use Rattle.std.specs.Prelude.{◌≡◌, ◌≤◌, ◌⊎◌, ℕ, List, 
 ghost use Rattle.std.specs.Prelude.{IfErr, IfOk, IfSome, OnOk, length, string_bytes};
 ghost use Rattle.std.specs.Io.KnownBytes.{Appends};
 ghost use Rattle.htl_device.specs.Devices.{AppendsPrefix};
+ghost use Rattle.htl_device.specs.States.{IsOpen};
 ghost use Rattle.htl_command.specs.Needs.{needs_events};
-ghost use Rattle.htl_dialogue.specs.Dialogues.{Converses, Gets, DialogueStops, is_end, reading_reply};
+ghost use Rattle.htl_dialogue.specs.Dialogues.{Converses, DialogueStops, Gets, is_end};
+ghost use Rattle.htl_dialogue.specs.Dialogues.{reading_reply};
 ghost use Rattle.htl_dialogue.specs.Replying.{IsRefusedReply, Replies, Tells, fault_of};
 ghost use Rattle.htl_dialogue.specs.Notes.{told_of};
 ghost use Rattle.htl_dialogue.specs.Sayings.{saying};
-ghost use Rattle.htl_program.specs.Loads.{HasAbsenceIn, IsOfForm, answers_from, is_memory, is_state};
-ghost use Rattle.htl_program.specs.Opened.{known, ways};
+ghost use Rattle.htl_program.specs.Loads.{HasAbsenceIn, IsOfForm, answers_from, is_memory};
+ghost use Rattle.htl_program.specs.Loads.{is_state};
 
 use crate::files::Files;
 use crate::kept::Kept;
@@ -39,34 +41,30 @@ pub(crate) fn converse_lines<Rt: Threads + Sync, W: World, Q: Source, O: Sink, H
     out: &mut O,
     host: &mut H,
 ) -> Result<Conversed, DialogueFault>
-    requires questions { Q.has_failed questions.old ≡ false }
-    requires inside { Q.has_ended questions.old ≡ false }
-    requires out { O.has_failed out.old ≡ false }
+    requires questions { IsOpen (Q.state questions.old) }
+    requires out { (O.state out.old).failed ≡ false }
     // Each line gets its reply, and the host its notes.
-    ensures ok { (text : List ℕ) → Q.remaining questions.old ≡ Some text → IfOk result
-        (Converses (answers_from (known W.holds W.is_absent W.standard files.now.world.now)
-        (ways W.Input.remaining W.Input.has_ended W.Input.has_failed W.Input.good_reads)
+    ensures ok { (text : List ℕ) → (Q.state questions.old).remaining ≡ Some text → IfOk result
+        (Converses (answers_from (W.known files.now.world.now)
         files.now.dialogue.now.setting (is_state kept.old) has_table) (H.wants_absence host.old)
-        kept.old text
-        (Gets (O.contents out.old) (O.contents out.new) H.told host.old host.new)) }
+        kept.old text (Gets (O.state out.old).contents (O.state out.new).contents H.told host.old
+        host.new)) }
     // After a fault, the lines before it have their replies; if a read failed, these are all that
     // were read.
-    ensures stops { (text : List ℕ) → Q.remaining questions.old ≡ Some text → IfErr result
-        (DialogueStops (answers_from (known W.holds W.is_absent W.standard files.now.world.now)
-        (ways W.Input.remaining W.Input.has_ended W.Input.has_failed W.Input.good_reads)
+    ensures stops { (text : List ℕ) → (Q.state questions.old).remaining ≡ Some text → IfErr result
+        (DialogueStops (answers_from (W.known files.now.world.now)
         files.now.dialogue.now.setting (is_state kept.old) has_table) (H.wants_absence host.old)
-        kept.old text
-        (Q.remaining questions.new) (Q.has_failed questions.new)
-        (Gets (O.contents out.old) (O.contents out.new) H.told host.old host.new)) }
-    ensures fine { OnOk result ((Q.has_failed questions.new ≡ false)
-        × (O.has_failed out.new ≡ false)) }
+        kept.old text (Q.state questions.new).remaining (Q.state questions.new).failed
+        (Gets (O.state out.old).contents (O.state out.new).contents H.told host.old host.new)) }
+    ensures fine { OnOk result (((Q.state questions.new).failed ≡ false)
+        × ((O.state out.new).failed ≡ false)) }
     // What failed is reported, and nothing else is reported as failed.
-    ensures read { Q.has_failed questions.new ≡ true → result ≡ Err DialogueFault.Questions }
+    ensures read { (Q.state questions.new).failed ≡ true → result ≡ Err DialogueFault.Questions }
     ensures questions { result ≡ Err DialogueFault.Questions
-        → (Q.has_failed questions.new ≡ true)
-        ⊎ IfSome (Q.remaining questions.old) (λ text. MAX_READS ≤ length text) }
-    ensures write { O.has_failed out.new ≡ true → result ≡ Err DialogueFault.Write }
-    ensures failed { result ≡ Err DialogueFault.Write → O.has_failed out.new ≡ true }
+        → ((Q.state questions.new).failed ≡ true)
+        ⊎ IfSome (Q.state questions.old).remaining (λ text. MAX_READS ≤ length text) }
+    ensures write { (O.state out.new).failed ≡ true → result ≡ Err DialogueFault.Write }
+    ensures failed { result ≡ Err DialogueFault.Write → (O.state out.new).failed ≡ true }
 {
     let mut held = ReadAhead::new(alloc)?;
     let mut conversed = Conversed::fine();
@@ -103,19 +101,17 @@ fn reply<Rt: Threads + Sync, W: World, O: Sink, H: Host>(
     out: &mut O,
     host: &mut H,
 ) -> Result<Conversed, DialogueFault>
-    requires out { O.has_failed out.old ≡ false }
+    requires out { (O.state out.old).failed ≡ false }
     requires asks { IsOfForm (is_state kept.old) said.now }
-    ensures ok { IfOk result (Replies
-        (answers_from (known W.holds W.is_absent W.standard files.now.world.now)
-        (ways W.Input.remaining W.Input.has_ended W.Input.has_failed W.Input.good_reads)
+    ensures ok { IfOk result (Replies (answers_from (W.known files.now.world.now)
         files.now.dialogue.now.setting (is_state kept.old) has_table) (H.wants_absence host.old)
-        said.now kept.old kept.new (O.contents out.old) (O.contents out.new) H.told host.old host.new) }
-    ensures fine { OnOk result (O.has_failed out.new ≡ false) }
-    ensures err { IfErr result (IsRefusedReply
-        (answers_from (known W.holds W.is_absent W.standard files.now.world.now)
-        (ways W.Input.remaining W.Input.has_ended W.Input.has_failed W.Input.good_reads)
+        said.now kept.old kept.new (O.state out.old).contents (O.state out.new).contents H.told
+        host.old host.new) }
+    ensures fine { OnOk result ((O.state out.new).failed ≡ false) }
+    ensures err { IfErr result (IsRefusedReply (answers_from (W.known files.now.world.now)
         files.now.dialogue.now.setting (is_state kept.old) has_table) said.now kept.old
-        (O.contents out.old) (O.contents out.new) (O.has_failed out.new) H.told host.old host.new) }
+        (O.state out.old).contents (O.state out.new).contents (O.state out.new).failed H.told
+        host.old host.new) }
     ensures same { H.wants_absence host.new ≡ H.wants_absence host.old }
     ensures form { OnOk result (is_state kept.new ≡ is_state kept.old) }
 {
@@ -156,20 +152,17 @@ fn reply_to<Rt: Threads + Sync, W: World, O: Sink, H: Host>(
     out: &mut O,
     host: &mut H,
 ) -> Result<Conversed, DialogueFault>
-    requires out { O.has_failed out.old ≡ false }
+    requires out { (O.state out.old).failed ≡ false }
     requires asks { is_state kept.now ≡ true → needs_events job.now ≡ false }
-    ensures ok { IfOk result (Replies
-        (answers_from (known W.holds W.is_absent W.standard files.now.world.now)
-        (ways W.Input.remaining W.Input.has_ended W.Input.has_failed W.Input.good_reads)
+    ensures ok { IfOk result (Replies (answers_from (W.known files.now.world.now)
         files.now.dialogue.now.setting (is_state kept.now) has_table) (H.wants_absence host.old)
-        (Said.Asks job.now) kept.now kept.now (O.contents out.old) (O.contents out.new) H.told
-        host.old host.new) }
-    ensures fine { OnOk result (O.has_failed out.new ≡ false) }
-    ensures err { IfErr result (IsRefusedReply
-        (answers_from (known W.holds W.is_absent W.standard files.now.world.now)
-        (ways W.Input.remaining W.Input.has_ended W.Input.has_failed W.Input.good_reads)
+        (Said.Asks job.now) kept.now kept.now (O.state out.old).contents (O.state out.new).contents
+        H.told host.old host.new) }
+    ensures fine { OnOk result ((O.state out.new).failed ≡ false) }
+    ensures err { IfErr result (IsRefusedReply (answers_from (W.known files.now.world.now)
         files.now.dialogue.now.setting (is_state kept.now) has_table) (Said.Asks job.now) kept.now
-        (O.contents out.old) (O.contents out.new) (O.has_failed out.new) H.told host.old host.new) }
+        (O.state out.old).contents (O.state out.new).contents (O.state out.new).failed H.told
+        host.old host.new) }
     ensures same { H.wants_absence host.new ≡ H.wants_absence host.old }
 {
     match kept.answer(files.rt, alloc, files.dialogue.setting, job) {
@@ -245,12 +238,13 @@ fn told_of(has_table: bool, remarks: Remarks) -> Remarks
 
 /// Writes a whole reply, or some first part of it where the sink fails.
 fn write<O: Sink>(out: &mut O, reply: &[u8]) -> Result<(), DialogueFault>
-    requires { O.has_failed out.old ≡ false }
-    ensures ok { OnOk result (Appends (O.contents out.old) (O.contents out.new) reply.now) }
-    ensures fine { OnOk result (O.has_failed out.new ≡ false) }
+    requires { (O.state out.old).failed ≡ false }
+    ensures ok { OnOk result
+        (Appends (O.state out.old).contents (O.state out.new).contents reply.now) }
+    ensures fine { OnOk result ((O.state out.new).failed ≡ false) }
     ensures err { IfErr result (λ fault. (fault ≡ DialogueFault.Write)
-        × (O.has_failed out.new ≡ true)
-        × AppendsPrefix (O.contents out.old) (O.contents out.new) reply.now) }
+        × ((O.state out.new).failed ≡ true)
+        × AppendsPrefix (O.state out.old).contents (O.state out.new).contents reply.now) }
 {
     match write_whole(out, reply) {
         Ok(()) => Ok(()),

@@ -2,7 +2,6 @@
 
 ghost use Rattle.std.specs.Prelude.{map, string_bytes, IfOk};
 ghost use Rattle.htl_program.specs.Loads.{AddsFiles, FoldsFiles, ReadsFiles};
-ghost use Rattle.htl_program.specs.Opened.{known, ways};
 ghost use Rattle.htl_program.specs.Openings.{AreOpened};
 
 use crate::kept::Kept;
@@ -34,8 +33,7 @@ impl<Rt: Threads + Sync, W: World> Files<'_, Rt, W> {
         kept: &mut Kept,
         names: &[String],
     ) -> Result<Result<Added, Refused>, NoMemory>
-        ensures { IfOk result (ReadsFiles (known W.holds W.is_absent W.standard self.now.world.now)
-            (ways W.Input.remaining W.Input.has_ended W.Input.has_failed W.Input.good_reads)
+        ensures { IfOk result (ReadsFiles (W.known self.now.world.now)
             self.now.dialogue.now.setting kept.old (map string_bytes names.now) kept.new) }
     {
         match kept {
@@ -54,19 +52,18 @@ impl<Rt: Threads + Sync, W: World> Files<'_, Rt, W> {
 
     /// The files of the names. The first that is refused is reported.
     fn opened(&self, alloc: Global, names: &[String]) -> Result<Vec<W::Input>, RunFault>
-        ensures { AreOpened W.Input.remaining W.Input.has_ended W.Input.has_failed
-            (map (W.holds self.now.world.now) (map string_bytes names.now))
-            (map (W.holds self.now.world.now) (map string_bytes names.now))
-            (map (W.is_absent self.now.world.now) (map string_bytes names.now)) result }
+        ensures { AreOpened W.Input.state
+            (map (W.known self.now.world.now).holds (map string_bytes names.now))
+            (map (W.known self.now.world.now).holds (map string_bytes names.now))
+            (map (W.known self.now.world.now).is_absent (map string_bytes names.now)) result }
     {
         open_files(alloc, self.world, names)
     }
 
     /// Opens files and adds their segments to what was loaded.
     fn add(&self, alloc: Global, loaded: &mut Loaded, names: &[String]) -> Result<Added, Refused>
-        ensures { AddsFiles (known W.holds W.is_absent W.standard self.now.world.now)
-            (ways W.Input.remaining W.Input.has_ended W.Input.has_failed W.Input.good_reads)
-            self.now.dialogue.now.setting loaded.old (map string_bytes names.now) loaded.new result }
+        ensures { AddsFiles (W.known self.now.world.now) self.now.dialogue.now.setting loaded.old
+            (map string_bytes names.now) loaded.new result }
     {
         let mut inputs = self.opened(alloc, names)?;
         add(self.rt, alloc, self.dialogue.setting, loaded, &mut inputs)
@@ -74,9 +71,8 @@ impl<Rt: Threads + Sync, W: World> Files<'_, Rt, W> {
 
     /// Opens files and folds their segments behind what was folded.
     fn fold(&self, alloc: Global, folded: &mut Folded, names: &[String]) -> Result<Added, Refused>
-        ensures { FoldsFiles (known W.holds W.is_absent W.standard self.now.world.now)
-            (ways W.Input.remaining W.Input.has_ended W.Input.has_failed W.Input.good_reads)
-            self.now.dialogue.now.setting folded.old (map string_bytes names.now) folded.new result }
+        ensures { FoldsFiles (W.known self.now.world.now) self.now.dialogue.now.setting folded.old
+            (map string_bytes names.now) folded.new result }
     {
         let mut inputs = self.opened(alloc, names)?;
         fold(self.rt, alloc, self.dialogue.setting, folded, &mut inputs)

@@ -1,7 +1,8 @@
 //! What a dialogue keeps of the segments that were read.
 
-ghost use Rattle.std.specs.Prelude.{◌≡◌, ℕ, All, IfErr, IfOk, List, None, Some, false, map};
+ghost use Rattle.std.specs.Prelude.{◌≡◌, IfErr, IfOk, None, map};
 ghost use Rattle.std.specs.Option.{option_copied};
+ghost use Rattle.htl_device.specs.States.{AreOpen, IfKnown};
 ghost use Rattle.htl_main.specs.Origins.{by_fault};
 ghost use Rattle.htl_main.specs.Readings.{AreRead};
 ghost use Rattle.htl_program.specs.Asking.{IsBeginsBetween, IsBeginsCause};
@@ -90,19 +91,18 @@ pub(crate) fn begin<Rt: Threads + Sync, R: Parted>(
     inputs: &mut [R],
     symbols: Option<&[u8]>,
 ) -> Result<Begun, Refused>
-    requires fresh { All (λ source. R.has_failed source ≡ false) inputs.old }
-    requires inside { All (λ source. R.has_ended source ≡ false) inputs.old }
-    ensures ok { (texts : List (List ℕ)) → map R.remaining inputs.old ≡ map Some texts
-        → IfOk result (IsBegun folds setting (option_copied symbols.entry) texts) }
+    requires ready { AreOpen (map R.state inputs.old) }
+    ensures ok { IfKnown (map R.state inputs.old) (λ texts.
+        IfOk result (IsBegun folds setting (option_copied symbols.entry) texts)) }
     ensures form { IfOk result (λ begun. is_state begun.kept ≡ folds) }
     ensures coverage { IfOk result (λ begun. IsCovered begun.kept) }
-    ensures cause { (texts : List (List ℕ)) → map R.remaining inputs.old ≡ map Some texts
-        → IfErr result (λ refused. IsBeginsCause folds setting texts (map R.remaining inputs.new)
-        (map R.has_ended inputs.new) (option_copied symbols.entry) refused.fault) }
-    ensures between { (texts : List (List ℕ)) → map R.remaining inputs.old ≡ map Some texts
-        → IfErr result (λ refused. IsBeginsBetween folds setting texts refused.fault refused.between) }
-    ensures reading { AreRead setting.form.hex R.has_failed R.has_ended R.good_reads
-        R.remaining inputs.old inputs.new (by_fault result) }
+    ensures cause { IfKnown (map R.state inputs.old) (λ texts.
+        IfErr result (λ refused. IsBeginsCause folds setting (option_copied symbols.entry) texts
+        (map R.state inputs.new) refused.fault)) }
+    ensures between { IfKnown (map R.state inputs.old) (λ texts. IfErr result (λ refused.
+        IsBeginsBetween folds setting texts refused.fault refused.between)) }
+    ensures reading { AreRead setting.form.hex (map R.state inputs.old) (map R.state inputs.new)
+        (by_fault result) }
 {
     if folds {
         let (folded, added) = load_folded(rt, alloc, setting, inputs, symbols)?;

@@ -17,9 +17,10 @@ pub(crate) fn open_inputs<W: World>(
     world: &W,
     names: &[String],
 ) -> Result<Vec<W::Input>, RunFault>
-    ensures { AreOpened W.Input.remaining W.Input.has_ended W.Input.has_failed
-        (of_inputs (W.holds world.now) (W.standard world.now) names.now)
-        (of_each (W.holds world.now) names.now) (of_each (W.is_absent world.now) names.now) result }
+    ensures { AreOpened W.Input.state
+        (of_inputs (W.known world.now).holds (W.known world.now).standard names.now)
+        (of_each (W.known world.now).holds names.now)
+        (of_each (W.known world.now).is_absent names.now) result }
 {
     if names.is_empty() {
         let mut inputs = Vec::new(alloc);
@@ -35,9 +36,9 @@ pub(crate) fn open_files<W: World>(
     world: &W,
     names: &[String],
 ) -> Result<Vec<W::Input>, RunFault>
-    ensures { AreOpened W.Input.remaining W.Input.has_ended W.Input.has_failed
-        (of_each (W.holds world.now) names.now) (of_each (W.holds world.now) names.now)
-        (of_each (W.is_absent world.now) names.now) result }
+    ensures { AreOpened W.Input.state
+        (of_each (W.known world.now).holds names.now) (of_each (W.known world.now).holds names.now)
+        (of_each (W.known world.now).is_absent names.now) result }
 {
     let mut inputs = Vec::new(alloc);
     for (place, name) in names.iter().enumerate() {
@@ -60,13 +61,13 @@ pub(crate) fn read_table<W: World>(
     name: Option<&String>,
 ) -> Result<Option<Vec<u8>>, RunFault>
     ensures bytes { IfOk result (λ read. (table : Option (List ℕ))
-        → IsTable (W.holds world.now) (option_copied name.entry) table
+        → IsTable (W.known world.now).holds (option_copied name.entry) table
         → table ≡ option_map (λ v. v.items) read) }
-    ensures there { OnOk result (IsTableAbsent (W.is_absent world.now) (option_copied name.entry)
-        → ⊥) }
+    ensures there { OnOk result
+        (IsTableAbsent (W.known world.now).is_absent (option_copied name.entry) → ⊥) }
     ensures refused { IfErr result (λ fault. (fault ≡ RunFault.Memory)
         ⊎ ((fault ≡ RunFault.SymbolsRead)
-        × IsTableUnknown (W.holds world.now) (option_copied name.entry))) }
+        × IsTableUnknown (W.known world.now).holds (option_copied name.entry))) }
 {
     let Some(name) = name else {
         return Ok(None);

@@ -14,7 +14,7 @@ pub trait Output: Sink {
     /// Whether a write failed because the reader has gone, as after `head`.
     fn has_lost_reader(&self) -> bool
         ensures is { result ≡ has_lost_reader self.now }
-        ensures failed { result ≡ true → Self.has_failed self.now ≡ true };
+        ensures failed { result ≡ true → (Self.state self.now).failed ≡ true };
 }
 
 impl<W: Write> Output for Writing<W> {

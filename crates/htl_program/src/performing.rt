@@ -2,7 +2,7 @@
 //! status.
 
 ghost use Rattle.std.specs.Prelude.{◌≡◌, ◌&&◌, ◌||◌, false, not};
-ghost use Rattle.htl_program.specs.Opened.{known, opened};
+ghost use Rattle.htl_program.specs.Opened.{opened};
 ghost use Rattle.htl_program.specs.Programs.{DoesAnswer, DoesConverse, DoesDump, DoesEncode};
 ghost use Rattle.htl_program.specs.Programs.{EncodesOrRefuses, spoken, told};
 
@@ -34,14 +34,13 @@ pub(crate) fn do_answer<Rt: Threads + Sync, W: World, O: Output, P: Person>(
     inputs: &mut Inputs<W::Input>,
     console: &mut Console<O, P>,
 ) -> u8
-    requires { O.has_failed console.old.out ≡ false }
+    requires { (O.state console.old.out).failed ≡ false }
     ensures { DoesAnswer (P.is_watching console.old.person)
         (P.is_watching console.old.person || line.now.notes)
-        (known W.holds W.is_absent W.standard world.now)
-        (opened W.Input.remaining W.Input.has_ended W.Input.has_failed W.Input.good_reads
-        inputs.new)
-        (told O.contents O.has_failed O.has_lost_reader P.heard console.old)
-        (told O.contents O.has_failed O.has_lost_reader P.heard console.new)
+        (W.known world.now)
+        (opened W.Input.state inputs.new)
+        (told O.state O.has_lost_reader P.heard console.old)
+        (told O.state O.has_lost_reader P.heard console.new)
         line.now.command run.now result }
 {
     let is_watched = console.person.is_watching();
@@ -71,14 +70,13 @@ pub(crate) fn do_dump<W: World, O: Output, P: Person>(
     inputs: &mut Inputs<W::Input>,
     console: &mut Console<O, P>,
 ) -> u8
-    requires { O.has_failed console.old.out ≡ false }
+    requires { (O.state console.old.out).failed ≡ false }
     ensures { DoesDump (P.is_watching console.old.person)
         (P.is_watching console.old.person || line.now.notes)
-        (known W.holds W.is_absent W.standard world.now)
-        (opened W.Input.remaining W.Input.has_ended W.Input.has_failed W.Input.good_reads
-        inputs.new)
-        (told O.contents O.has_failed O.has_lost_reader P.heard console.old)
-        (told O.contents O.has_failed O.has_lost_reader P.heard console.new)
+        (W.known world.now)
+        (opened W.Input.state inputs.new)
+        (told O.state O.has_lost_reader P.heard console.old)
+        (told O.state O.has_lost_reader P.heard console.new)
         line.now.command form files.now result }
 {
     let is_watched = console.person.is_watching();
@@ -114,15 +112,14 @@ pub(crate) fn do_encode<W: World, O: Output, P: Person>(
     inputs: &mut Inputs<W::Input>,
     console: &mut Console<O, P>,
 ) -> u8
-    requires { O.has_failed console.old.out ≡ false }
+    requires { (O.state console.old.out).failed ≡ false }
     ensures { EncodesOrRefuses (not hex && P.sees_output console.old.person)
         (P.is_watching console.old.person)
         (P.is_watching console.old.person || line.now.notes)
-        (known W.holds W.is_absent W.standard world.now)
-        (opened W.Input.remaining W.Input.has_ended W.Input.has_failed W.Input.good_reads
-        inputs.new)
-        (told O.contents O.has_failed O.has_lost_reader P.heard console.old)
-        (told O.contents O.has_failed O.has_lost_reader P.heard console.new)
+        (W.known world.now)
+        (opened W.Input.state inputs.new)
+        (told O.state O.has_lost_reader P.heard console.old)
+        (told O.state O.has_lost_reader P.heard console.new)
         line.now.command hex files.now result }
 {
     if !hex && console.person.sees_output() {
@@ -141,14 +138,13 @@ fn encode_into<W: World, O: Output, P: Person>(
     inputs: &mut Inputs<W::Input>,
     console: &mut Console<O, P>,
 ) -> u8
-    requires { O.has_failed console.old.out ≡ false }
+    requires { (O.state console.old.out).failed ≡ false }
     ensures { DoesEncode (P.is_watching console.old.person)
         (P.is_watching console.old.person || line.now.notes)
-        (known W.holds W.is_absent W.standard world.now)
-        (opened W.Input.remaining W.Input.has_ended W.Input.has_failed W.Input.good_reads
-        inputs.new)
-        (told O.contents O.has_failed O.has_lost_reader P.heard console.old)
-        (told O.contents O.has_failed O.has_lost_reader P.heard console.new)
+        (W.known world.now)
+        (opened W.Input.state inputs.new)
+        (told O.state O.has_lost_reader P.heard console.old)
+        (told O.state O.has_lost_reader P.heard console.new)
         line.now.command hex files.now result }
 {
     let is_watched = console.person.is_watching();
@@ -183,15 +179,14 @@ pub(crate) fn do_converse<Rt: Threads + Sync, W: World, O: Output, P: Person, S:
     console: &mut Console<O, P>,
     speaker: &mut S,
 ) -> u8
-    requires { O.has_failed console.old.out ≡ false }
+    requires { (O.state console.old.out).failed ≡ false }
     ensures { DoesConverse (P.is_watching console.old.person)
         (P.is_watching console.old.person || line.now.notes)
         (spoken S.told S.noted S.left S.wants_absence S.counts speaker.old speaker.new)
-        (known W.holds W.is_absent W.standard files.now.world.now)
-        (opened W.Input.remaining W.Input.has_ended W.Input.has_failed W.Input.good_reads
-        inputs.new)
-        (told O.contents O.has_failed O.has_lost_reader P.heard console.old)
-        (told O.contents O.has_failed O.has_lost_reader P.heard console.new)
+        (W.known files.now.world.now)
+        (opened W.Input.state inputs.new)
+        (told O.state O.has_lost_reader P.heard console.old)
+        (told O.state O.has_lost_reader P.heard console.new)
         line.now.command files.now.dialogue.now result }
 {
     let is_watched = console.person.is_watching();

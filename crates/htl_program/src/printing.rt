@@ -17,10 +17,10 @@ use std::alloc::Global;
 /// Ends the program if the arguments give no command. Help is written to the output; any other
 /// fault is reported to the person, and keeps its status even if that fails.
 pub fn refuse<O: Output, P: Person>(refused: &ParseFault, console: &mut Console<O, P>) -> u8
-    requires { O.has_failed console.old.out ≡ false }
+    requires { (O.state console.old.out).failed ≡ false }
     ensures { Refuses (P.is_watching console.old.person)
-        (told O.contents O.has_failed O.has_lost_reader P.heard console.old)
-        (told O.contents O.has_failed O.has_lost_reader P.heard console.new) refused.now result }
+        (told O.state O.has_lost_reader P.heard console.old)
+        (told O.state O.has_lost_reader P.heard console.new) refused.now result }
 {
     match refused {
         ParseFault::Help(text) => print(text, console),
@@ -37,10 +37,10 @@ pub(crate) fn do_explain<O: Output, P: Person>(
     fault: PrintedFault,
     console: &mut Console<O, P>,
 ) -> u8
-    requires { O.has_failed console.old.out ≡ false }
+    requires { (O.state console.old.out).failed ≡ false }
     ensures { Explains (P.is_watching console.old.person)
-        (told O.contents O.has_failed O.has_lost_reader P.heard console.old)
-        (told O.contents O.has_failed O.has_lost_reader P.heard console.new) (explained fault) result }
+        (told O.state O.has_lost_reader P.heard console.old)
+        (told O.state O.has_lost_reader P.heard console.new) (explained fault) result }
 {
     let explained = Explained { fault };
     match format!(in alloc; "{explained}") {
@@ -55,10 +55,10 @@ pub(crate) fn do_explain<O: Output, P: Person>(
 /// Writes a text that was asked for, and reports a failed write, unless a person watches and the
 /// output's reader has gone.
 fn print<O: Output, P: Person>(text: &str, console: &mut Console<O, P>) -> u8
-    requires { O.has_failed console.old.out ≡ false }
+    requires { (O.state console.old.out).failed ≡ false }
     ensures { IsPrinted (P.is_watching console.old.person) text.now
-        (told O.contents O.has_failed O.has_lost_reader P.heard console.old)
-        (told O.contents O.has_failed O.has_lost_reader P.heard console.new) result }
+        (told O.state O.has_lost_reader P.heard console.old)
+        (told O.state O.has_lost_reader P.heard console.new) result }
 {
     match write_whole(&mut console.out, text.as_bytes()) {
         Ok(()) => 0,

@@ -1,9 +1,10 @@
 //! The run of a question over opened inputs.
 
-ghost use Rattle.std.specs.Prelude.{◌≡◌, All, IfErr, IfOk, false};
+ghost use Rattle.std.specs.Prelude.{◌≡◌, IfErr, IfOk, false, length, map};
 ghost use Rattle.std.specs.Option.{option_copied};
+ghost use Rattle.htl_device.specs.States.{AreOpen};
 ghost use Rattle.htl_main.specs.Picked.{Serves};
-ghost use Rattle.htl_program.specs.Runs.{IsRun};
+ghost use Rattle.htl_main.specs.Runs.{IsRun};
 
 use htl_command::Job;
 use htl_device::{Parted, Sink};
@@ -20,11 +21,11 @@ pub(crate) fn run_opened<Rt: Threads + Sync, R: Parted, O: Sink>(
     symbols: Option<&[u8]>,
     out: &mut O,
 ) -> Result<Completed, Refused>
-    requires fresh { All (λ input. R.has_failed input ≡ false) inputs.old.items }
-    requires inside { All (λ input. R.has_ended input ≡ false) inputs.old.items }
-    requires out { O.has_failed out.old ≡ false }
-    ensures { IsRun job.now (option_copied symbols.entry) R.has_failed R.has_ended R.good_reads
-        R.remaining O.contents O.has_failed inputs.old.items inputs.new.items out.old out.new result }
+    requires ready { AreOpen (map R.state inputs.old.items) }
+    requires out { (O.state out.old).failed ≡ false }
+    ensures run { IsRun job.now (option_copied symbols.entry) (map R.state inputs.old.items)
+        (map R.state inputs.new.items) (O.state out.old) (O.state out.new) result }
+    ensures all { length inputs.new.items ≡ length inputs.old.items }
 {
     run_from(rt, alloc, job, inputs, symbols, out)
 }
@@ -40,15 +41,15 @@ pub(crate) fn pick_opened<Rt: Threads + Sync, R: Parted, O: Sink>(
     symbols: Option<&[u8]>,
     out: &mut O,
 ) -> Result<Result<Completed, Refused>, Lacking>
-    requires fresh { All (λ input. R.has_failed input ≡ false) inputs.old.items }
-    requires inside { All (λ input. R.has_ended input ≡ false) inputs.old.items }
-    requires out { O.has_failed out.old ≡ false }
+    requires ready { AreOpen (map R.state inputs.old.items) }
+    requires out { (O.state out.old).failed ≡ false }
     requires bytes { job.now.setting.form.hex ≡ false }
     requires serves { Serves job.now.question interest }
-    ensures ended { IfOk result (λ ended. IsRun job.now (option_copied symbols.entry) R.has_failed
-        R.has_ended R.good_reads R.remaining O.contents O.has_failed inputs.old.items
-        inputs.new.items out.old out.new ended) }
-    ensures unwritten { IfErr result (λ _. out.new ≡ out.old) }
+    ensures ended { IfOk result (λ ended. IsRun job.now (option_copied symbols.entry)
+        (map R.state inputs.old.items) (map R.state inputs.new.items)
+        (O.state out.old) (O.state out.new) ended) }
+    ensures all { length inputs.new.items ≡ length inputs.old.items }
+    ensures unwritten { IfErr result (λ _. O.state out.new ≡ O.state out.old) }
 {
     match pick_from(rt, alloc, job, interest, inputs, symbols, out) {
         Ok(Ok(completed)) => Ok(Ok(completed)),

@@ -2,6 +2,7 @@
 use Rattle.std.proofs.Common.{◌≡◌, ◌≢◌, ◌≤◌, ◌+◌, ℕ, Bool, false, true, List, Option, Result, Ok, Err, ap, arith}
 use Rattle.std.specs.Prelude.{OnOk}
 use Rattle.htl_device.specs.declared.source.TheConstants.{MAX_READ_LEN}
+use Rattle.htl_device.specs.States.{SourceState}
 use Rattle.htl_reading.specs.Sources.{IsReadToFault, IsSourceRead}
 use Rattle.htl_reading.specs.declared.fault.SourceFault.{SourceFault}
 use Rattle.htl_reading.specs.declared.fault.SourceFault.TheVariants.{Read}
@@ -15,11 +16,10 @@ ill fault = Err fault
 same_fault : {S T : Type 0} (fault other : SourceFault) → ill {S = S} fault ≡ Err other → ill {S = T} fault ≡ Err other
 same_fault {S} {T} fault other is = ap (ill {S = T}) (cc is)
 
-module _ {R S T : Type 0} (most : ℕ) (has_failed has_ended : R → Bool) (good_reads : R → ℕ) (remaining : R → Option (List ℕ))
-    (given : Option (List ℕ)) (old new : R) where
+module _ {S T : Type 0} (most : ℕ) (given : Option (List ℕ)) (old new : SourceState) where
   -- a source that is read by a call that ends well is read so whatever value the call gives
-  pub read_well : (value : S) (other : T) → IsSourceRead most has_failed has_ended good_reads remaining given old new (well value)
-      → IsSourceRead most has_failed has_ended good_reads remaining given old new (well other)
+  pub read_well : (value : S) (other : T) → IsSourceRead most given old new (well value)
+      → IsSourceRead most given old new (well other)
   read_well value other is = record {
     ended = is.ended;
     reported = λ failed. absurd (cc (is.reported failed));
@@ -30,8 +30,8 @@ module _ {R S T : Type 0} (most : ℕ) (has_failed has_ended : R → Bool) (good
   }
 
   -- a source that is read by a call that ends with a fault is read so by each that ends with this fault
-  pub read_ill : (fault : SourceFault) → IsSourceRead most has_failed has_ended good_reads remaining given old new (ill {S = S} fault)
-      → IsSourceRead most has_failed has_ended good_reads remaining given old new (ill {S = T} fault)
+  pub read_ill : (fault : SourceFault) → IsSourceRead most given old new (ill {S = S} fault)
+      → IsSourceRead most given old new (ill {S = T} fault)
   read_ill fault is = record {
     ended = tt;
     reported = λ failed. same_fault {S = S} {T = T} fault Read (is.reported failed);
@@ -41,12 +41,11 @@ module _ {R S T : Type 0} (most : ℕ) (has_failed has_ended : R → Bool) (good
     to_fault = is.to_fault;
   }
 
-module _ {R S : Type 0} (most : ℕ) (has_failed has_ended : R → Bool) (good_reads : R → ℕ) (remaining : R → Option (List ℕ))
-    (given : Option (List ℕ)) (old new : R) where
+module _ {S : Type 0} (most : ℕ) (given : Option (List ℕ)) (old new : SourceState) where
   -- where no read failed
-  pub read_fine : (result : Result S SourceFault) → result ≢ Err Read → has_failed new ≡ false → OnOk result (has_ended new ≡ true)
-      → good_reads new ≤ good_reads old + most → IsReadToFault MAX_READ_LEN given (remaining new)
-      → IsSourceRead most has_failed has_ended good_reads remaining given old new result
+  pub read_fine : (result : Result S SourceFault) → result ≢ Err Read → new.failed ≡ false → OnOk result (new.ended ≡ true)
+      → new.good_reads ≤ old.good_reads + most → IsReadToFault MAX_READ_LEN given new.remaining
+      → IsSourceRead most given old new result
   read_fine result other fine ended bounded to_fault = record {
     ended = ended;
     reported = λ failed. absurd (cc (failed, fine));
@@ -57,9 +56,9 @@ module _ {R S : Type 0} (most : ℕ) (has_failed has_ended : R → Bool) (good_r
   }
 
   -- where a source had skipped bytes before it was read so
-  pub read_later : (mid : R) (result : Result S SourceFault) → good_reads mid ≤ good_reads old
-      → IsSourceRead most has_failed has_ended good_reads remaining given mid new result
-      → IsSourceRead most has_failed has_ended good_reads remaining given old new result
+  pub read_later : (mid : SourceState) (result : Result S SourceFault) → mid.good_reads ≤ old.good_reads
+      → IsSourceRead most given mid new result
+      → IsSourceRead most given old new result
   read_later mid result fewer is = record {
     ended = is.ended;
     reported = is.reported;

@@ -3,6 +3,7 @@ use Rattle.std.proofs.Common.{◌≡◌, ◌+◌, ◌<◌, ◌≤◌, ◌^◌, �
 use Rattle.std.specs.Prelude.{IfOk}
 use Rattle.std.proofs.lemmas.Option.{IfSome_then}
 use Rattle.htl_device.specs.Devices.{tail_of}
+use Rattle.htl_device.specs.States.{IsOpen, IsSkipped, SourceState}
 use Rattle.htl_device.specs.declared.source.TheConstants.{MAX_READ_LEN}
 use Rattle.htl_segment.specs.Content.{Content}
 use Rattle.htl_segment.specs.Keepers.{Took}
@@ -29,14 +30,12 @@ front_there gathers part keepers len left front =
     IfSome_then left front
     (λ bytes it. (let whole = order_splits gathers part keepers (take len bytes) it.1 in (it.0, whole.0, whole.1)))
 
-module _ {K R E : Type 0} (gathers : K → K → List Content → Type 0) (has_failed has_ended : R → Bool) (good_reads : R → ℕ)
-    (remaining : R → Option (List ℕ)) (old : R) (before : K) (offset : ℕ) (few : offset ≤ 2 ^ 61) where
+module _ {K E : Type 0} (gathers : K → K → List Content → Type 0) (old : SourceState) (before : K) (offset : ℕ) (few : offset ≤ 2 ^ 61) where
   -- where nothing is skipped, the source and the keeper stay as they were
-  pub none_skipped : has_failed old ≡ false → has_ended old ≡ false
-      → Skips {E = E} gathers has_failed has_ended good_reads remaining old old before before offset (skipped offset)
-  none_skipped fresh inside = record {
-    fresh = fresh;
-    inside = inside;
+  pub none_skipped : IsOpen old
+      → Skips {E = E} gathers old old before before offset (skipped offset)
+  none_skipped ready = record {
+    ready = ready;
     counts = omega arith;
     few = (omega arith, omega (arith, few));
     taken = λ start given at. at;
@@ -44,46 +43,41 @@ module _ {K R E : Type 0} (gathers : K → K → List Content → Type 0) (has_f
     to_fault = λ start given at. taken_to_fault at MAX_READ_LEN;
   }
 
-  module _ (new : R) (len : ℕ) (short : len ≤ 2 ^ 61) (fresh : has_failed new ≡ false) (inside : has_ended new ≡ false)
-      (counts : good_reads new ≤ good_reads old) (bytes : remaining new ≡ tail_of len (remaining old)) (there : AreThere len (remaining old))
+  module _ (new : SourceState) (len : ℕ) (short : len ≤ 2 ^ 61) (skips : IsSkipped len old new) (there : AreThere len old.remaining)
       (after : K) where
     -- where the keeper took the segments of so many bytes, the source skips them
-    pub front_skipped : (end : ℕ) → end ≡ offset + len → IfSome (remaining old) (λ bytes. (len ≤ length bytes) × TookAll gathers before after (take len bytes))
-        → Skips {E = E} gathers has_failed has_ended good_reads remaining old new before after offset (skipped end)
+    pub front_skipped : (end : ℕ) → end ≡ offset + len → IfSome old.remaining (λ bytes. (len ≤ length bytes) × TookAll gathers before after (take len bytes))
+        → Skips {E = E} gathers old new before after offset (skipped end)
     front_skipped end is took = rw is (record {
-      fresh = fresh;
-      inside = inside;
-      counts = counts;
+      ready = skips.ready;
+      counts = skips.counts;
       few = (omega arith, omega (arith, few, short));
-      taken = λ start given at. rw bytes (taken_skipped gathers start before offset len after at took);
+      taken = λ start given at. rw skips.bytes (taken_skipped gathers start before offset len after at took);
       memory = λ start given at. tt;
-      to_fault = λ start given at. rw bytes (skipped_read gathers start before offset len MAX_READ_LEN at there);
+      to_fault = λ start given at. rw skips.bytes (skipped_read gathers start before offset len MAX_READ_LEN at there);
     })
 
     -- where memory for the segments was refused, the source skips them, and memory may be asked for there
     pub front_refused : (fault : E) → 0 < len
-        → Skips {E = E} gathers has_failed has_ended good_reads remaining old new before after offset (refused fault)
+        → Skips {E = E} gathers old new before after offset (refused fault)
     front_refused fault some = record {
-      fresh = fresh;
-      inside = inside;
-      counts = counts;
+      ready = skips.ready;
+      counts = skips.counts;
       few = tt;
       taken = λ start given at. tt;
-      memory = λ start given at. rw bytes (skipped_memory gathers start before offset len (has_ended new) some inside at there);
-      to_fault = λ start given at. rw bytes (skipped_read gathers start before offset len MAX_READ_LEN at there);
+      memory = λ start given at. rw skips.bytes (skipped_memory gathers start before offset len new.ended some skips.ready.inside at there);
+      to_fault = λ start given at. rw skips.bytes (skipped_read gathers start before offset len MAX_READ_LEN at there);
     }
 
 -- ---- one round after another
 
-module _ {K R E : Type 0} (gathers : K → K → List Content → Type 0) (has_failed has_ended : R → Bool) (good_reads : R → ℕ)
-    (remaining : R → Option (List ℕ)) (old mid : R) (before between : K) (offset : ℕ)
-    (first : Skips {E = E} gathers has_failed has_ended good_reads remaining old mid before between 0 (skipped offset)) where
+module _ {K E : Type 0} (gathers : K → K → List Content → Type 0) (old mid : SourceState) (before between : K) (offset : ℕ)
+    (first : Skips {E = E} gathers old mid before between 0 (skipped offset)) where
   -- the keeper was called, and took none
   pub still_skipped : (next : K) → Took gathers between next []
-      → Skips {E = E} gathers has_failed has_ended good_reads remaining old mid before next 0 (skipped offset)
+      → Skips {E = E} gathers old mid before next 0 (skipped offset)
   still_skipped next still = record {
-    fresh = first.fresh;
-    inside = first.inside;
+    ready = first.ready;
     counts = first.counts;
     few = first.few;
     taken = λ start given at. taken_still (first.taken start given at) still;
@@ -93,24 +87,22 @@ module _ {K R E : Type 0} (gathers : K → K → List Content → Type 0) (has_f
 
   -- memory for that was refused
   pub still_refused : (next : K) (fault : E) → 0 < offset
-      → Skips {E = E} gathers has_failed has_ended good_reads remaining old mid before next 0 (refused fault)
+      → Skips {E = E} gathers old mid before next 0 (refused fault)
   still_refused next fault some = record {
-    fresh = first.fresh;
-    inside = first.inside;
+    ready = first.ready;
     counts = first.counts;
     few = tt;
     taken = λ start given at. tt;
-    memory = λ start given at. offset_memory (first.taken start given at) (has_ended mid) some first.inside;
+    memory = λ start given at. offset_memory (first.taken start given at) mid.ended some first.ready.inside;
     to_fault = first.to_fault;
   }
 
-  both_skipped : (new : R) (after : K) (result : Result ℕ E)
-      → Skips {E = E} gathers has_failed has_ended good_reads remaining mid new between after offset result
+  both_skipped : (new : SourceState) (after : K) (result : Result ℕ E)
+      → Skips {E = E} gathers mid new between after offset result
       → IfOk result (λ end. (0 ≤ end) × (end ≤ 2 ^ 62))
-      → Skips {E = E} gathers has_failed has_ended good_reads remaining old new before after 0 result
+      → Skips {E = E} gathers old new before after 0 result
   both_skipped new after result second few = record {
-    fresh = second.fresh;
-    inside = second.inside;
+    ready = second.ready;
     counts = (let one = first.counts in let other = second.counts in omega (arith, one, other));
     few = few;
     taken = λ start given at. second.taken start given (first.taken start given at);
@@ -119,15 +111,15 @@ module _ {K R E : Type 0} (gathers : K → K → List Content → Type 0) (has_f
   }
 
   -- what was skipped and then skipped further on was skipped in one
-  pub next_skipped : (new : R) (after : K) (end : ℕ)
-      → Skips {E = E} gathers has_failed has_ended good_reads remaining mid new between after offset (skipped end)
-      → Skips {E = E} gathers has_failed has_ended good_reads remaining old new before after 0 (skipped end)
+  pub next_skipped : (new : SourceState) (after : K) (end : ℕ)
+      → Skips {E = E} gathers mid new between after offset (skipped end)
+      → Skips {E = E} gathers old new before after 0 (skipped end)
   next_skipped new after end second = both_skipped new after (skipped end) second (omega arith, second.few.1)
 
   -- what was skipped before memory was refused further on was refused as one
-  pub next_refused : (new : R) (after : K) (fault : E)
-      → Skips {E = E} gathers has_failed has_ended good_reads remaining mid new between after offset (refused fault)
-      → Skips {E = E} gathers has_failed has_ended good_reads remaining old new before after 0 (refused fault)
+  pub next_refused : (new : SourceState) (after : K) (fault : E)
+      → Skips {E = E} gathers mid new between after offset (refused fault)
+      → Skips {E = E} gathers old new before after 0 (refused fault)
   next_refused new after fault second = both_skipped new after (refused fault) second tt
 
 -- where a round took some bytes

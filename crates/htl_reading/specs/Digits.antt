@@ -1,8 +1,9 @@
 -- How a text in hexadecimal is read: no further than its first foreign byte (this project's own).
-use Rattle.std.specs.Prelude.{◌≡◌, ◌<◌, ◌≤◌, ◌+◌, ◌⊎◌, ℕ, Bool, true, false, List, length, position, Option, Some, None, IfOk, IfSome, OnOk}
+use Rattle.std.specs.Prelude.{◌≡◌, ◌<◌, ◌≤◌, ◌+◌, ◌⊎◌, ℕ, true, false, List, length, position, Option, Some, None, IfOk, IfSome, OnOk}
 use Rattle.std.specs.Global.{Vec}
 use Rattle.std.specs.Prelude.{Result, Err}
 use Rattle.std.specs.Io.KnownBytes.{Consumes}
+use Rattle.htl_device.specs.States.{SourceState}
 use Rattle.htl_device.specs.declared.source.TheConstants.{MAX_READ_LEN}
 use Rattle.htl_segment.specs.Hexadecimal.{is_foreign}
 use Rattle.htl_reading.specs.declared.digits.DigitsFault.{DigitsFault}
@@ -19,15 +20,13 @@ pub record StopsAtForeign (given left : Option (List ℕ)) (place : ℕ) : Type 
   pub consumed : Consumes given left read
   pub few : length read ≤ place + MAX_READ_LEN
 
--- How a source of these bytes is read by a call that ends with this result, and in which at most `most` reads give bytes. The functions
--- say which sources have failed or ended, how many reads of each gave bytes, and which bytes each has left.
-pub record ReadsDigits {R : Type 0} (most : ℕ) (has_failed has_ended : R → Bool) (good_reads : R → ℕ) (remaining : R → Option (List ℕ))
-    (given : Option (List ℕ)) (old new : R) (result : Result (Vec ℕ) DigitsFault) : Type 0 where
+-- How a source of these bytes is read by a call that ends with this result, and in which at most `most` reads give bytes.
+pub record ReadsDigits (most : ℕ) (given : Option (List ℕ)) (old new : SourceState) (result : Result (Vec ℕ) DigitsFault) : Type 0 where
   pub ok : IfOk result (λ text. IsWholeText given text.items)
-  pub ended : OnOk result (has_ended new ≡ true)
-  pub foreign : (place : ℕ) → result ≡ Err (Foreign place) → StopsAtForeign given (remaining new) place
-  pub reported : has_failed new ≡ true → result ≡ Err Read
+  pub ended : OnOk result (new.ended ≡ true)
+  pub foreign : (place : ℕ) → result ≡ Err (Foreign place) → StopsAtForeign given new.remaining place
+  pub reported : new.failed ≡ true → result ≡ Err Read
   -- Memory was refused: some bytes came, and the end was not found.
-  pub memory : result ≡ Err NoMemory → (has_ended new ≡ false) × (read : List ℕ) × (0 < length read) × Consumes given (remaining new) read
-  pub failed : result ≡ Err Read → (has_failed new ≡ true) ⊎ ((most ≤ good_reads new) × IfSome given (λ known. most ≤ length known))
-  pub bounded : good_reads new ≤ good_reads old + most
+  pub memory : result ≡ Err NoMemory → (new.ended ≡ false) × (read : List ℕ) × (0 < length read) × Consumes given new.remaining read
+  pub failed : result ≡ Err Read → (new.failed ≡ true) ⊎ ((most ≤ new.good_reads) × IfSome given (λ known. most ≤ length known))
+  pub bounded : new.good_reads ≤ old.good_reads + most

@@ -4,6 +4,7 @@ use Rattle.std.specs.Io.Take.{take_remaining}
 use Rattle.htl_segment.specs.Content.{Content}
 use Rattle.htl_segment.specs.Bundles.{Splits}
 use Rattle.htl_segment.specs.declared.keeper.Segments.{Segments}
+use Rattle.htl_device.specs.States.{IsOpen, SourceState}
 use Rattle.htl_device.specs.declared.source.TheConstants.{MAX_READ_LEN}
 use Rattle.htl_reading.specs.Keepers.{IsTakenTo}
 use Rattle.htl_reading.specs.Sources.{AsksMemory, IsReadToFault}
@@ -42,16 +43,15 @@ ArePartsOf gathers remaining keeper (part ∷ parts) bytes =
 
 -- a source skips the segments behind an offset, and a keeper took them, up to the offset that is given. Or memory is refused, which
 -- was asked for where a segment begins.
-pub record Skips {S K R E : Type 0} (gathers : S → K → List Content → Type 0) (has_failed has_ended : R → Bool)
-    (good_reads : R → ℕ) (remaining : R → Option (List ℕ)) (old new : R) (before after : K) (offset : ℕ) (result : Result ℕ E)
+pub record Skips {S K E : Type 0} (gathers : S → K → List Content → Type 0) (old new : SourceState) (before after : K) (offset : ℕ)
+    (result : Result ℕ E)
     : Type 0 where
-  pub fresh : has_failed new ≡ false
-  pub inside : has_ended new ≡ false
-  pub counts : good_reads new ≤ good_reads old
+  pub ready : IsOpen new
+  pub counts : new.good_reads ≤ old.good_reads
   pub few : IfOk result (λ end. (offset ≤ end) × (end ≤ 2 ^ 62))
-  pub taken : (start : K) (given : Option (List ℕ)) → IsTakenTo gathers start before given (remaining old) [] offset 0
-      → IfOk result (λ end. IsTakenTo gathers start after given (remaining new) [] end 0)
-  pub memory : (start : K) (given : Option (List ℕ)) → IsTakenTo gathers start before given (remaining old) [] offset 0
-      → OnErr result (IfSome given (AsksMemory (remaining new) (has_ended new)))
-  pub to_fault : (start : K) (given : Option (List ℕ)) → IsTakenTo gathers start before given (remaining old) [] offset 0
-      → IsReadToFault MAX_READ_LEN given (remaining new)
+  pub taken : (start : K) (given : Option (List ℕ)) → IsTakenTo gathers start before given old.remaining [] offset 0
+      → IfOk result (λ end. IsTakenTo gathers start after given new.remaining [] end 0)
+  pub memory : (start : K) (given : Option (List ℕ)) → IsTakenTo gathers start before given old.remaining [] offset 0
+      → OnErr result (IfSome given (AsksMemory new.remaining new.ended))
+  pub to_fault : (start : K) (given : Option (List ℕ)) → IsTakenTo gathers start before given old.remaining [] offset 0
+      → IsReadToFault MAX_READ_LEN given new.remaining

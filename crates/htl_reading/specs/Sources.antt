@@ -3,6 +3,7 @@ use Rattle.std.specs.Prelude.{◌≡◌, ◌<◌, ◌≤◌, ◌+◌, ◌⊎◌,
 use Rattle.std.specs.Prelude.{OnOk, Result, Err, codes, min, nat_eq, nat_lt, take, if◌then◌else◌}
 use Rattle.std.specs.List.{starts_with}
 use Rattle.std.specs.Io.KnownBytes.{Consumes}
+use Rattle.htl_device.specs.States.{SourceState}
 use Rattle.htl_device.specs.declared.source.TheConstants.{MAX_READ_LEN}
 use Rattle.htl_segment.specs.Content.{Content}
 use Rattle.htl_segment.specs.Bundles.{BundleFault, IsRest, RestAt, SegmentAt, Splits, bundle, is_early_end}
@@ -73,16 +74,15 @@ pub record IsReadToFault (most : ℕ) (given left : Option (List ℕ)) : Type 0 
   pub few : length last ≤ most
   pub read : Consumes given left (before ++ last)
 
--- How a source of these bytes is read by a call that ends with this result, and in which at most `most` reads give bytes. The functions
--- say which sources have failed or ended, how many reads of each gave bytes, and which bytes each has left.
-pub record IsSourceRead {R S : Type 0} (most : ℕ) (has_failed has_ended : R → Bool) (good_reads : R → ℕ) (remaining : R → Option (List ℕ))
-    (given : Option (List ℕ)) (old new : R) (result : Result S SourceFault) : Type 0 where
-  -- A call that ends well has found the end.
-  pub ended : OnOk result (has_ended new ≡ true)
-  -- A read that failed is reported.
-  pub reported : has_failed new ≡ true → result ≡ Err Read
-  pub read : FailsOnly (has_failed new) (good_reads new) given most result
-  -- A failed read is reported only where what was read has no fault.
-  pub no_fault : result ≡ Err Read → IsReadToFault 0 given (remaining new)
-  pub bounded : good_reads new ≤ good_reads old + most
-  pub to_fault : IsReadToFault MAX_READ_LEN given (remaining new)
+-- How a source of these bytes is read by a call that ends with this result, and in which at most `most` reads give bytes.
+pub record IsSourceRead {S : Type 0} (most : ℕ) (given : Option (List ℕ)) (old new : SourceState) (result : Result S SourceFault) : Type 0
+  where
+    -- A call that ends well has found the end.
+    pub ended : OnOk result (new.ended ≡ true)
+    -- A read that failed is reported.
+    pub reported : new.failed ≡ true → result ≡ Err Read
+    pub read : FailsOnly new.failed new.good_reads given most result
+    -- A failed read is reported only where what was read has no fault.
+    pub no_fault : result ≡ Err Read → IsReadToFault 0 given new.remaining
+    pub bounded : new.good_reads ≤ old.good_reads + most
+    pub to_fault : IsReadToFault MAX_READ_LEN given new.remaining

@@ -2,6 +2,7 @@
 use Rattle.std.specs.Prelude.{⊤, ℕ, Bool, List, [], IfErr, IfOk, IfSome, OnOk, Option, Result, Some}
 use Rattle.std.specs.Borrow.{MutBor}
 use Rattle.std.specs.Io.KnownBytes.{Consumes}
+use Rattle.htl_device.specs.States.{SourceState}
 use Rattle.htl_segment.specs.Content.{Content}
 use Rattle.htl_segment.specs.Bundles.{IsRest, Splits}
 use Rattle.htl_segment.specs.Keepers.{Took, TookUpTo}
@@ -38,21 +39,21 @@ TookBefore gathers old new left bytes NoMemory = ⊤
 
 -- How a keeper takes the segments of a source of these bytes, of which at most `most` reads give bytes: what it has after a call that
 -- ends well, and after each fault; which fault is reported; and how the source is read.
-pub record TakesSource {S K R : Type 0} (most : ℕ) (gathers : S → K → List Content → Type 0) (has_failed has_ended : R → Bool)
-    (good_reads : R → ℕ) (remaining : R → Option (List ℕ)) (given : Option (List ℕ)) (start after : K) (old new : R)
+pub record TakesSource {S K : Type 0} (most : ℕ) (gathers : S → K → List Content → Type 0) (given : Option (List ℕ)) (start after : K)
+    (old new : SourceState)
     (result : Result (Option EarlyEnd) SourceFault) : Type 0 where
   pub ok : IfOk result (λ early_end. IfSome given (TookToEnd gathers start after early_end))
-  pub err : IfErr result (λ fault. IfSome given (λ bytes. IsReportedOfBundle (remaining new) (has_ended new) bytes fault))
-  pub kept : IfErr result (λ fault. IfSome given (λ bytes. TookBefore gathers start after (remaining new) bytes fault))
-  pub reading : IsSourceRead most has_failed has_ended good_reads remaining given old new result
+  pub err : IfErr result (λ fault. IfSome given (λ bytes. IsReportedOfBundle new.remaining new.ended bytes fault))
+  pub kept : IfErr result (λ fault. IfSome given (λ bytes. TookBefore gathers start after new.remaining bytes fault))
+  pub reading : IsSourceRead most given old new result
 
 -- How the segments of such a source are gathered, by a call that gives back the keeper that takes them.
-pub record GathersSource {S K R : Type 0} (most : ℕ) (gathers : S → K → List Content → Type 0) (has_failed has_ended : R → Bool)
-    (good_reads : R → ℕ) (remaining : R → Option (List ℕ)) (given : Option (List ℕ)) (start : K) (old new : R)
+pub record GathersSource {S K : Type 0} (most : ℕ) (gathers : S → K → List Content → Type 0) (given : Option (List ℕ)) (start : K)
+    (old new : SourceState)
     (result : Result (Bundle K) SourceFault) : Type 0 where
   pub ok : IfOk result (λ bundle. IfSome given (TookToEnd gathers start bundle.segments bundle.early_end))
-  pub err : IfErr result (λ fault. IfSome given (λ bytes. IsReportedOfBundle (remaining new) (has_ended new) bytes fault))
-  pub reading : IsSourceRead most has_failed has_ended good_reads remaining given old new result
+  pub err : IfErr result (λ fault. IfSome given (λ bytes. IsReportedOfBundle new.remaining new.ended bytes fault))
+  pub reading : IsSourceRead most given old new result
 
 -- Between two reads something is done to a keeper. It then has taken what it had, unless memory is refused. What is done is given by
 -- what may come of a call.

@@ -33,7 +33,7 @@ impl Block {
     ghost use Rattle.std.specs.Prelude.{◌≡◌, ◌+◌, ◌<◌, ◌≤◌, ◌^◌, drop, false, length};
     ghost use Rattle.std.specs.Prelude.{IfOk, OnErr, OnOk, is_err};
     ghost use Rattle.std.specs.Io.KnownBytes.{Keeps};
-    ghost use Rattle.htl_device.specs.Devices.{finds_end, reads_after};
+    ghost use Rattle.htl_device.specs.States.{IsOpen, finds_end, reads_after};
     ghost use Rattle.htl_reading.specs.Blocks.{IsReadBehind};
 
     /// A block that holds these bytes.
@@ -92,17 +92,18 @@ impl Block {
 
     /// Reads the next bytes behind those held, and gives their number.
     pub fn read<R: Source>(&mut self, source: &mut R) -> Result<usize, Failed>
-        requires fresh { R.has_failed source.old ≡ false }
-        requires inside { R.has_ended source.old ≡ false }
+        requires ready { IsOpen (R.state source.old) }
         requires room { MAX_READ_LEN ≤ self.old.room }
-        ensures ok { IfOk result (IsReadBehind (R.remaining source.old) (R.remaining source.new)
-            self.old.held self.new.held) }
+        ensures ok { IfOk result (IsReadBehind (R.state source.old).remaining
+            (R.state source.new).remaining self.old.held self.new.held) }
         ensures bound { IfOk result (λ count. count ≤ MAX_READ_LEN) }
-        ensures err { OnErr result (Keeps (R.remaining source.old) (R.remaining source.new)) }
+        ensures err { OnErr result (Keeps (R.state source.old).remaining
+            (R.state source.new).remaining) }
         ensures kept { OnErr result (self.new.held ≡ self.old.held) }
-        ensures fails { R.has_failed source.new ≡ is_err result }
-        ensures counts { R.good_reads source.new ≡ reads_after (R.good_reads source.old) result }
-        ensures ends { R.has_ended source.new ≡ finds_end result }
+        ensures fails { (R.state source.new).failed ≡ is_err result }
+        ensures counts { (R.state source.new).good_reads
+            ≡ reads_after (R.state source.old).good_reads result }
+        ensures ends { (R.state source.new).ended ≡ finds_end result }
     {
         let count = source.read(&mut self.bytes[self.end..self.end + MAX_READ_LEN])?;
         self.end += count;

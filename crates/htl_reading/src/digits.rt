@@ -3,6 +3,7 @@
 ghost use Rattle.std.specs.Prelude.{◌≡◌, ◌<◌, ◌≤◌, ◌+◌, ℕ, List, Option, Some, None, false, length};
 ghost use Rattle.std.specs.Prelude.{position, IfOk};
 ghost use Rattle.std.specs.Io.KnownBytes.{Consumes};
+ghost use Rattle.htl_device.specs.States.{IsOpen};
 ghost use Rattle.htl_segment.specs.Hexadecimal.{is_foreign};
 ghost use Rattle.htl_reading.specs.Digits.{ReadsDigits};
 
@@ -34,21 +35,19 @@ impl From<AllocError> for DigitsFault {
 /// All bytes of a source, which are digits and blanks. Nothing is read after the read that gave
 /// another byte.
 pub fn read_digits<R: Source>(alloc: Global, source: &mut R) -> Result<Vec<u8>, DigitsFault>
-    requires fresh { R.has_failed source.old ≡ false }
-    requires inside { R.has_ended source.old ≡ false }
-    ensures { ReadsDigits MAX_READS R.has_failed R.has_ended R.good_reads R.remaining
-        (R.remaining source.old) source.old source.new result }
+    requires { IsOpen (R.state source.old) }
+    ensures { ReadsDigits MAX_READS (R.state source.old).remaining (R.state source.old)
+        (R.state source.new) result }
 {
     read_within(alloc, source, MAX_READS)
 }
 
 /// The same where at most `most` reads may give bytes.
 fn read_within<R: Source>(alloc: Global, source: &mut R, most: u64) -> Result<Vec<u8>, DigitsFault>
-    requires fresh { R.has_failed source.old ≡ false }
-    requires inside { R.has_ended source.old ≡ false }
+    requires ready { IsOpen (R.state source.old) }
     requires some { 0 < most }
-    ensures { ReadsDigits most R.has_failed R.has_ended R.good_reads R.remaining
-        (R.remaining source.old) source.old source.new result }
+    ensures { ReadsDigits most (R.state source.old).remaining (R.state source.old)
+        (R.state source.new) result }
 {
     let mut first = [0u8; MIN_READ_LEN];
     let Ok(count) = source.read(&mut first) else {
@@ -80,17 +79,16 @@ fn read_on<R: Source>(
     mut text: Vec<u8>,
     most: u64,
 ) -> Result<Vec<u8>, DigitsFault>
-    requires fresh { R.has_failed source.old ≡ false }
-    requires inside { R.has_ended source.old ≡ false }
+    requires ready { IsOpen (R.state source.old) }
     requires whole { length buffer.old ≡ MAX_READ_LEN }
     requires begun { 0 < length text.items }
     requires clean { position is_foreign text.items ≡ None }
     requires some { 0 < most }
-    requires counted { 1 ≤ R.good_reads source.old }
-    ensures read { (given : Option (List ℕ)) → Consumes given (R.remaining source.old) text.items
-        → ReadsDigits most R.has_failed R.has_ended R.good_reads R.remaining
-        given source.old source.new result }
-    ensures bounded { R.good_reads source.new + 1 ≤ R.good_reads source.old + most }
+    requires counted { 1 ≤ (R.state source.old).good_reads }
+    ensures read { (given : Option (List ℕ))
+        → Consumes given (R.state source.old).remaining text.items
+        → ReadsDigits most given (R.state source.old) (R.state source.new) result }
+    ensures bounded { (R.state source.new).good_reads + 1 ≤ (R.state source.old).good_reads + most }
 {
     for _read in 1..most {
         let Ok(count) = source.read(buffer) else {

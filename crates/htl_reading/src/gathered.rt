@@ -2,6 +2,7 @@
 
 ghost use Rattle.std.specs.Prelude.{◌≡◌, ◌≢◌, ◌+◌, ◌*◌, ◌<◌, ◌≤◌, ◌^◌, ℕ, List, Option, Err};
 ghost use Rattle.std.specs.Prelude.{IfOk, IfErr, OnOk, false, length};
+ghost use Rattle.htl_device.specs.States.{IsOpen};
 ghost use Rattle.htl_reading.specs.Blocks.{IsKeptAt, IsRefusedAt, IsTakenIn};
 ghost use Rattle.htl_reading.specs.Keepers.{IsTakenOff, IsTakenTo};
 ghost use Rattle.htl_reading.specs.Taking.{LeavesTaken, TakesSource};
@@ -51,18 +52,18 @@ impl Gathered {
         keeper: &mut K,
         between: &F,
     ) -> Result<Option<EarlyEnd>, SourceFault>
-        requires fresh { R.has_failed source.old ≡ false }
-        requires inside { R.has_ended source.old ≡ false }
+        requires ready { IsOpen (R.state source.old) }
         requires some { 0 < most }
         requires few { self.offset + length self.block.held + most * MAX_READ_LEN < 2 ^ 64 }
-        requires counted { 1 ≤ R.good_reads source.old }
+        requires counted { 1 ≤ (R.state source.old).good_reads }
         requires callable { F.IsAlwaysCallable between.now }
         requires leaves { LeavesTaken K.gathers (F.post between.now) }
         ensures taken { (start : K) (given : Option (List ℕ)) → IsTakenTo K.gathers
-            start keeper.old given (R.remaining source.old) self.block.held self.offset 1
-            → TakesSource most K.gathers R.has_failed R.has_ended R.good_reads R.remaining
-            given start keeper.new source.old source.new result }
-        ensures bounded { R.good_reads source.new + 1 ≤ R.good_reads source.old + most }
+            start keeper.old given (R.state source.old).remaining self.block.held self.offset 1
+            → TakesSource most K.gathers given start keeper.new
+            (R.state source.old) (R.state source.new) result }
+        ensures bounded { (R.state source.new).good_reads + 1
+            ≤ (R.state source.old).good_reads + most }
     {
         for _reads in 1..most {
             between(keeper)?;

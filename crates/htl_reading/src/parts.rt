@@ -1,8 +1,22 @@
 //! Parts of a source's bytes, each of which a worker reads.
 
-ghost use Rattle.std.specs.Prelude.{◌≡◌, ◌≤◌, ◌<◌, ◌^◌, ℕ, All, IfSome, List, OnOk, OnSome, Some, []};
+ghost use Rattle.std.specs.Prelude.{
+  ◌≡◌,
+  ◌≤◌,
+  ◌<◌,
+  ◌^◌,
+  ℕ,
+  All,
+  IfSome,
+  List,
+  OnOk,
+  OnSome,
+  Some,
+  [],
+};
 ghost use Rattle.std.specs.Prelude.{drop, false, length, map, take, true};
 ghost use Rattle.std.specs.Io.Take.{take_remaining};
+ghost use Rattle.htl_device.specs.States.{IsOpen};
 ghost use Rattle.htl_reading.specs.Keepers.{TookAll};
 ghost use Rattle.htl_reading.specs.Parts.{ArePartsOf, IsAnother, IsPartOf, Skips, TookInOrder};
 
@@ -60,10 +74,9 @@ pub fn take_parts<T: Threads + Sync, R: Parted, K: JoiningKeeper + Drop + Send>(
     source: &mut R,
     keeper: &mut K,
 ) -> Result<u64, NoMemory>
-    requires fresh { R.has_failed source.old ≡ false }
-    requires inside { R.has_ended source.old ≡ false }
-    ensures { Skips K.gathers R.has_failed R.has_ended R.good_reads R.remaining
-        source.old source.new keeper.old keeper.new 0 result }
+    requires { IsOpen (R.state source.old) }
+    ensures { Skips K.gathers (R.state source.old) (R.state source.new) keeper.old keeper.new 0
+        result }
 {
     let spare = Vec::new(alloc);
     let Some(front) = gather_front(rt, alloc, workers, u64::MAX, source, keeper, spare) else {
@@ -94,7 +107,7 @@ pub fn gather_front<T: Threads + Sync, R: Parted, K: JoiningKeeper + Drop + Send
     ensures parted { OnSome result (R.is_parted source.now ≡ true) }
     ensures some { IfSome result (λ front. 0 < front.len) }
     ensures few { IfSome result (λ front. front.len ≤ 2 ^ 61) }
-    ensures taken { IfSome result (λ front. IfSome (R.remaining source.now) (λ bytes.
+    ensures taken { IfSome result (λ front. IfSome (R.state source.now).remaining (λ bytes.
         (front.len ≤ length bytes)
         × TookInOrder K.gathers keeper.now front.keepers.items (take front.len bytes))) }
 {
@@ -126,7 +139,7 @@ fn cut<R: Parted, K: JoiningKeeper + Drop>(
     ends: &[u64],
 ) -> Option<(Vec<SourcePart<R::Tail, K>>, u64)>
     requires { All (λ spare. IsAnother K.gathers keeper.now spare []) spare.items }
-    ensures { IfSome result (λ cut. IfSome (R.remaining source.now) (λ bytes.
+    ensures { IfSome result (λ cut. IfSome (R.state source.now).remaining (λ bytes.
         ArePartsOf K.gathers R.Tail.remaining keeper.now cut.0.items (take cut.1 bytes))) }
 {
     let mut parts = Vec::new(alloc);
@@ -151,7 +164,7 @@ fn part_at<R: Parted, K: JoiningKeeper + Drop>(
     len: u64,
 ) -> Option<SourcePart<R::Tail, K>>
     requires { All (λ spare. IsAnother K.gathers keeper.now spare []) spare.old.items }
-    ensures part { IfSome result (λ part. IfSome (R.remaining source.now) (λ bytes.
+    ensures part { IfSome result (λ part. IfSome (R.state source.now).remaining (λ bytes.
         IsPartOf K.gathers R.Tail.remaining keeper.now part (take len (drop from bytes)))) }
     ensures spare { All (λ spare. IsAnother K.gathers keeper.now spare []) spare.new.items }
 {
@@ -175,7 +188,8 @@ fn fresh_keeper<K: JoiningKeeper + Drop>(alloc: Global, keeper: &K, spare: &mut 
 
 /// All keepers, where each part gave one.
 fn all_of<K: Drop>(alloc: Global, gathered: Vec<Option<K>>) -> Option<Vec<K>>
-    ensures { IfSome result (λ keepers. map (λ keeper. Some keeper) keepers.items ≡ gathered.items) }
+    ensures { IfSome result (λ keepers. map (λ keeper. Some keeper) keepers.items ≡
+        gathered.items) }
 {
     let mut keepers = Vec::with_capacity(alloc, gathered.len()).ok()?;
     for keeper in gathered {

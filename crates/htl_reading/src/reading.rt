@@ -3,6 +3,7 @@
 ghost use Rattle.std.specs.Prelude.{◌≡◌, ◌*◌, ◌+◌, ◌<◌, ◌^◌, ℕ, List, Option};
 ghost use Rattle.std.specs.Prelude.{[], IfOk, IfErr, IfSome, false};
 ghost use Rattle.htl_segment.specs.Bundles.{Splits};
+ghost use Rattle.htl_device.specs.States.{IsOpen};
 ghost use Rattle.htl_reading.specs.Keepers.{IsTakenTo};
 ghost use Rattle.htl_reading.specs.Sources.{IsLeft, IsReportedOfBundle, IsSourceRead};
 ghost use Rattle.htl_reading.specs.Taking.{GathersSource, LeavesTaken, TakesSource};
@@ -33,10 +34,9 @@ pub fn gather_bundle<T: Threads + Sync, R: Parted, K: JoiningKeeper + Drop + Sen
     source: &mut R,
     mut keeper: K,
 ) -> Result<Bundle<K>, SourceFault>
-    requires fresh { R.has_failed source.old ≡ false }
-    requires inside { R.has_ended source.old ≡ false }
-    ensures { GathersSource MAX_READS K.gathers R.has_failed R.has_ended R.good_reads R.remaining
-        (R.remaining source.old) keeper source.old source.new result }
+    requires { IsOpen (R.state source.old) }
+    ensures { GathersSource MAX_READS K.gathers (R.state source.old).remaining keeper
+        (R.state source.old) (R.state source.new) result }
 {
     let offset = take_parts(rt, alloc, workers, source, &mut keeper)?;
     gather_on(alloc, MAX_READS, offset, source, keeper)
@@ -49,15 +49,14 @@ pub fn read_bundle<T: Threads + Sync, R: Parted>(
     workers: u32,
     source: &mut R,
 ) -> Result<Bundle<Vec<Segment>>, SourceFault>
-    requires fresh { R.has_failed source.old ≡ false }
-    requires inside { R.has_ended source.old ≡ false }
-    ensures ok { IfOk result (λ bundle. IfSome (R.remaining source.old) (λ bytes.
+    requires { IsOpen (R.state source.old) }
+    ensures ok { IfOk result (λ bundle. IfSome (R.state source.old).remaining (λ bytes.
         (rest : List ℕ) × Splits bytes bundle.segments.items rest
         × IsLeft bundle.segments.items rest bundle.early_end)) }
-    ensures err { IfErr result (λ fault. IfSome (R.remaining source.old) (λ bytes.
-        IsReportedOfBundle (R.remaining source.new) (R.has_ended source.new) bytes fault)) }
-    ensures reading { IsSourceRead MAX_READS R.has_failed R.has_ended R.good_reads R.remaining
-        (R.remaining source.old) source.old source.new result }
+    ensures err { IfErr result (λ fault. IfSome (R.state source.old).remaining (λ bytes.
+        IsReportedOfBundle (R.state source.new).remaining (R.state source.new).ended bytes fault)) }
+    ensures reading { IsSourceRead MAX_READS (R.state source.old).remaining (R.state source.old)
+        (R.state source.new) result }
 {
     let Bundle {
         segments,
@@ -92,12 +91,11 @@ pub fn take_source<
     keeper: &mut K,
     between: &F,
 ) -> Result<Option<EarlyEnd>, SourceFault>
-    requires fresh { R.has_failed source.old ≡ false }
-    requires inside { R.has_ended source.old ≡ false }
+    requires ready { IsOpen (R.state source.old) }
     requires callable { F.IsAlwaysCallable between.now }
     requires leaves { LeavesTaken K.gathers (F.post between.now) }
-    ensures { TakesSource MAX_READS K.gathers R.has_failed R.has_ended R.good_reads R.remaining
-        (R.remaining source.old) keeper.old keeper.new source.old source.new result }
+    ensures { TakesSource MAX_READS K.gathers (R.state source.old).remaining keeper.old keeper.new
+        (R.state source.old) (R.state source.new) result }
 {
     let offset = take_rounds(rt, alloc, workers, source, keeper, between)?;
     take_reads(alloc, MAX_READS, offset, source, keeper, between)
@@ -112,14 +110,13 @@ pub(crate) fn gather_on<R: Source, K: Keeper + Drop>(
     source: &mut R,
     mut keeper: K,
 ) -> Result<Bundle<K>, SourceFault>
-    requires fresh { R.has_failed source.old ≡ false }
-    requires inside { R.has_ended source.old ≡ false }
+    requires ready { IsOpen (R.state source.old) }
     requires some { 0 < most }
     requires few { offset + (most + 1) * MAX_READ_LEN < 2 ^ 64 }
     ensures { (start : K) (given : Option (List ℕ))
-        → IsTakenTo K.gathers start keeper given (R.remaining source.old) [] offset 0
-        → GathersSource most K.gathers R.has_failed R.has_ended R.good_reads R.remaining
-        given start source.old source.new result }
+        → IsTakenTo K.gathers start keeper given (R.state source.old).remaining [] offset 0
+        → GathersSource most K.gathers given start (R.state source.old) (R.state source.new)
+        result }
 {
     let nothing = |keeper: &mut K| -> Result<(), NoMemory>
         ensures { keeper.new ≡ keeper.old }
@@ -143,16 +140,15 @@ fn take_reads<R: Source, K: Keeper, F: Fn(&mut K) -> Result<(), NoMemory>>(
     keeper: &mut K,
     between: &F,
 ) -> Result<Option<EarlyEnd>, SourceFault>
-    requires fresh { R.has_failed source.old ≡ false }
-    requires inside { R.has_ended source.old ≡ false }
+    requires ready { IsOpen (R.state source.old) }
     requires some { 0 < most }
     requires few { offset + (most + 1) * MAX_READ_LEN < 2 ^ 64 }
     requires callable { F.IsAlwaysCallable between.now }
     requires leaves { LeavesTaken K.gathers (F.post between.now) }
     ensures { (start : K) (given : Option (List ℕ))
-        → IsTakenTo K.gathers start keeper.old given (R.remaining source.old) [] offset 0
-        → TakesSource most K.gathers R.has_failed R.has_ended R.good_reads R.remaining
-        given start keeper.new source.old source.new result }
+        → IsTakenTo K.gathers start keeper.old given (R.state source.old).remaining [] offset 0
+        → TakesSource most K.gathers given start keeper.new (R.state source.old)
+        (R.state source.new) result }
 {
     let mut buffer = [0u8; MIN_READ_LEN];
     let Ok(count) = source.read(&mut buffer) else {

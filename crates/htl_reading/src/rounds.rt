@@ -2,6 +2,7 @@
 
 ghost use Rattle.std.specs.Prelude.{◌≡◌, ◌≤◌, ◌^◌, [], ℕ, List, IfOk, OnOk, false};
 ghost use Rattle.htl_segment.specs.Keepers.{Took};
+ghost use Rattle.htl_device.specs.States.{IsOpen};
 ghost use Rattle.htl_reading.specs.Keepers.{TookAll};
 ghost use Rattle.htl_reading.specs.Parts.{AreEmpty, Skips, TookInOrder};
 ghost use Rattle.htl_reading.specs.Taking.{LeavesTaken};
@@ -45,12 +46,11 @@ pub fn take_rounds<
     keeper: &mut K,
     between: &F,
 ) -> Result<u64, NoMemory>
-    requires fresh { R.has_failed source.old ≡ false }
-    requires inside { R.has_ended source.old ≡ false }
+    requires ready { IsOpen (R.state source.old) }
     requires callable { F.IsAlwaysCallable between.now }
     requires leaves { LeavesTaken K.gathers (F.post between.now) }
-    ensures { Skips K.gathers R.has_failed R.has_ended R.good_reads R.remaining
-        source.old source.new keeper.old keeper.new 0 result }
+    ensures { Skips K.gathers (R.state source.old) (R.state source.new) keeper.old keeper.new 0
+        result }
 {
     let mut spare = Vec::new(alloc);
     let mut offset = 0;
@@ -81,12 +81,11 @@ fn take_round<T: Threads + Sync, R: Parted, K: SegmentKeeper>(
     keeper: &mut K,
     spare: &mut Vec<Segments>,
 ) -> Result<u64, NoMemory>
-    requires fresh { R.has_failed source.old ≡ false }
-    requires inside { R.has_ended source.old ≡ false }
+    requires ready { IsOpen (R.state source.old) }
     requires few { offset ≤ 2 ^ 61 }
     requires spare { AreEmpty spare.old.items }
-    ensures skips { Skips K.gathers R.has_failed R.has_ended R.good_reads R.remaining
-        source.old source.new keeper.old keeper.new offset result }
+    ensures skips { Skips K.gathers (R.state source.old) (R.state source.new) keeper.old keeper.new
+        offset result }
     ensures spare { OnOk result (AreEmpty spare.new.items) }
 {
     let none = Segments::new(alloc);

@@ -17,12 +17,12 @@ pub fn write_generated<W: Sink>(
     generated: &RandomTrace,
     out: &mut W,
 ) -> Result<(), MakeFault>
-    requires { W.has_failed out.old ≡ false }
+    requires { (W.state out.old).failed ≡ false }
     ensures ok { OnOk result (WritesKeys (record TRACE { processors = generated.now.processors })
         (turns generated.now.processors generated.now.segments)
-        (W.contents out.old) (W.contents out.new)) }
-    ensures fine { OnOk result (W.has_failed out.new ≡ false) }
-    ensures reported { W.has_failed out.new ≡ true → result ≡ Err MakeFault.Write }
+        (W.state out.old).contents (W.state out.new).contents) }
+    ensures fine { OnOk result ((W.state out.new).failed ≡ false) }
+    ensures reported { (W.state out.new).failed ≡ true → result ≡ Err MakeFault.Write }
 {
     for number in 0..generated.segments {
         write_turn(alloc, generated, number, out)?;
@@ -37,12 +37,12 @@ fn write_turn<W: Sink>(
     number: u32,
     out: &mut W,
 ) -> Result<(), MakeFault>
-    requires { W.has_failed out.old ≡ false }
+    requires { (W.state out.old).failed ≡ false }
     ensures ok { OnOk result (WritesKeys (record TRACE { processors = generated.now.processors })
         (turn generated.now.processors number)
-        (W.contents out.old) (W.contents out.new)) }
-    ensures fine { OnOk result (W.has_failed out.new ≡ false) }
-    ensures reported { W.has_failed out.new ≡ true → result ≡ Err MakeFault.Write }
+        (W.state out.old).contents (W.state out.new).contents) }
+    ensures fine { OnOk result ((W.state out.new).failed ≡ false) }
+    ensures reported { (W.state out.new).failed ≡ true → result ≡ Err MakeFault.Write }
 {
     let trace = Trace {
         processors: generated.processors,
@@ -62,12 +62,12 @@ fn write_segment<W: Sink>(
     segment: &Segment,
     out: &mut W,
 ) -> Result<(), MakeFault>
-    requires fresh { W.has_failed out.old ≡ false }
+    requires fresh { (W.state out.old).failed ≡ false }
     requires of_trace { IsOfTrace trace segment.now }
     ensures ok { OnOk result (Writes trace (segment.now ∷ [])
-        (W.contents out.old) (W.contents out.new)) }
-    ensures fine { OnOk result (W.has_failed out.new ≡ false) }
-    ensures reported { W.has_failed out.new ≡ true → result ≡ Err MakeFault.Write }
+        (W.state out.old).contents (W.state out.new).contents) }
+    ensures fine { OnOk result ((W.state out.new).failed ≡ false) }
+    ensures reported { (W.state out.new).failed ≡ true → result ≡ Err MakeFault.Write }
 {
     let bytes = encode(alloc, segment).map_err(SampleFault::from)?;
     match write_whole(out, &bytes) {

@@ -1,6 +1,7 @@
 //! Sources that several workers read in parts, beside bytes that one worker decodes.
 
-ghost use Rattle.std.specs.Prelude.{◌≡◌, false, true};
+ghost use Rattle.std.specs.Prelude.{None, true};
+ghost use Rattle.htl_device.specs.States.{IsOpen};
 
 use crate::rows::assert_row;
 use htl_device::{Failed, Parted, Reading, Source};
@@ -61,8 +62,7 @@ struct Bytes<'a> {
 
 impl<'a> Bytes<'a> {
     fn new(bytes: &'a [u8]) -> Bytes<'a>
-        ensures fresh { ⟦<Bytes<'a> as Source>⟧.has_failed result ≡ false }
-        ensures inside { ⟦<Bytes<'a> as Source>⟧.has_ended result ≡ false }
+        ensures { IsOpen (⟦<Bytes<'a> as Source>⟧.state result) }
     {
         Bytes {
             bytes,
@@ -74,11 +74,8 @@ impl<'a> Bytes<'a> {
 }
 
 impl<'a> Source for Bytes<'a> {
-    ghost has_failed = { λ s. ⟦<Reading<&'a [u8]> as Source>⟧.has_failed s.reading };
-
-    ghost good_reads = { λ s. ⟦<Reading<&'a [u8]> as Source>⟧.good_reads s.reading };
-
-    ghost has_ended = { λ s. ⟦<Reading<&'a [u8]> as Source>⟧.has_ended s.reading };
+    // What is left isn't told.
+    ghost state = { λ s. record (⟦<Reading<&'a [u8]> as Source>⟧.state s.reading) { remaining = None } };
 
     fn ended(&self) -> bool {
         self.reading.ended()

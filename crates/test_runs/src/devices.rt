@@ -1,6 +1,7 @@
 //! Runs over sources and sinks that give or take a few bytes, and that fail.
 
-ghost use Rattle.std.specs.Prelude.{◌≡◌, All, false};
+ghost use Rattle.std.specs.Prelude.{map};
+ghost use Rattle.htl_device.specs.States.{AreOpen};
 
 use crate::comparison::assert_row;
 use crate::pieces::Pieces;
@@ -53,10 +54,7 @@ pub fn printed_from<'a>(
     sources: &mut [Reading<Pieces<'a>>],
     symbols: Option<&str>,
 ) -> (Vec<u8>, Result<Completed, Refused>)
-    requires fresh { All (λ source. ⟦<Reading<Pieces<'a>> as Source>⟧.has_failed source ≡ false)
-        sources.old }
-    requires inside { All (λ source. ⟦<Reading<Pieces<'a>> as Source>⟧.has_ended source ≡ false)
-        sources.old }
+    requires { AreOpen (map ⟦<Reading<Pieces<'a>> as Source>⟧.state sources.old) }
 {
     let mut written = Vec::new(alloc);
     let ended = run_from(

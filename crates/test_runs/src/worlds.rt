@@ -38,13 +38,12 @@ impl<'a> Memory<'a> {
 impl<'a> World for Memory<'a> {
     type Input = Reading<&'a [u8]>;
 
-    ghost holds = { λ world name. option_map (λ file. file.bytes.items)
-        (find (λ file. bytes_eq file.name.now name) world.files.now) };
-
-    ghost is_absent = { λ world name.
-        is_none (find (λ file. bytes_eq file.name.now name) world.files.now) };
-
-    ghost standard = { λ world. Some world.standard.now };
+    ghost known = { λ world. record {
+      holds = λ name. option_map (λ file. file.bytes.items)
+          (find (λ file. bytes_eq file.name.now name) world.files.now);
+      is_absent = λ name. is_none (find (λ file. bytes_eq file.name.now name) world.files.now);
+      standard = Some world.standard.now;
+    } };
 
     fn open(&self, name: &str) -> Result<Reading<&'a [u8]>, OpenFault> {
         match self.named(name) {

@@ -18,7 +18,7 @@ pub unreachable-requires : goal.unreachable-requires
 unreachable-requires c =
     let there = read_there c.args.case.now.segments c.segments.result.now c.args.place c.index-segments-place.result
     c.in_ok-segment.segment c.requires.there c.segments.ensures.value c.index-segments-place.is c.in_ok-segment.ensures in
-    let told = c.in-Err.ensures.lawful c.args.case.now c.requires.right there.0 in
+    let told = c.in-Err.ensures.takes.lawful c.args.case.now c.requires.right there.0 in
     search (rules, told)
 
 pub returns-clause-ok : goal.returns-clause-ok
@@ -30,8 +30,8 @@ returns-clause-ok c =
         segment = c.in_ok-segment.segment;
         here = there.1;
         took = w.in-Ok.field-0;
-        is_new = w.in-Ok.ensures.new;
-        state = w.in-Ok.ensures.state;
+        is_new = w.in-Ok.ensures.takes.new;
+        state = w.in-Ok.ensures.takes.state;
       })
       | in-Err-NoMemory-default w ↦ rw w.result-is tt
     ]

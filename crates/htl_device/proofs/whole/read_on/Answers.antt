@@ -9,7 +9,7 @@ pub returns-in_err-extend_from_slice-clause-read : goal.returns-in_err-extend_fr
 returns-in_err-extend_from_slice-clause-read g c = λ given start.
     let inv = c.loop-read.invariant in
     let piece = take c.in-Ok.count c.read.new.buffer in
-    let inside : g.R.Source.has_ended c.read.new.self ≡ false = grind (arith, common_steps) in
+    let inside : (g.R.Source.state c.read.new.self).ended ≡ false = grind (arith, common_steps) in
     let some : 0 < length piece = grind (arith, common_steps) in
     record {
       ok = search rules;
@@ -20,7 +20,7 @@ returns-in_err-extend_from_slice-clause-read g c = λ given start.
         inside,
         c.loop-read.bytes.items ++ piece,
         omega (arith, some, length-append c.loop-read.bytes.items piece),
-        Consumes-trans given (g.R.Source.remaining c.loop-read.source) (g.R.Source.remaining c.read.new.self) c.loop-read.bytes.items piece
+        Consumes-trans given (g.R.Source.state c.loop-read.source).remaining (g.R.Source.state c.read.new.self).remaining c.loop-read.bytes.items piece
             (inv.given given start) c.in-Ok.ensures.bytes.0,
       );
       failed = search rules;

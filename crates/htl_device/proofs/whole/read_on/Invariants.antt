@@ -6,12 +6,12 @@ use Rattle.htl_device.proofs.whole.read_on.Given as goal
 
 abbrev pub invariant-loop-read : goal.invariant-loop-read
 invariant-loop-read g l = record {
-  given : (given : Option (List ℕ)) → Consumes given (g.R.Source.remaining l.fn.source) l.fn.bytes.items
-      → Consumes given (g.R.Source.remaining l.source) l.bytes.items;
-  fine : g.R.Source.has_failed l.source ≡ false;
-  inside : g.R.Source.has_ended l.source ≡ false;
+  given : (given : Option (List ℕ)) → Consumes given (g.R.Source.state l.fn.source).remaining l.fn.bytes.items
+      → Consumes given (g.R.Source.state l.source).remaining l.bytes.items;
+  fine : (g.R.Source.state l.source).failed ≡ false;
+  inside : (g.R.Source.state l.source).ended ≡ false;
   each : l._read ≤ length l.bytes.items;
-  counted : l._read ≤ g.R.Source.good_reads l.source;
-  bounded : g.R.Source.good_reads l.source + 1 ≤ g.R.Source.good_reads l.fn.source + l._read;
+  counted : l._read ≤ (g.R.Source.state l.source).good_reads;
+  bounded : (g.R.Source.state l.source).good_reads + 1 ≤ (g.R.Source.state l.fn.source).good_reads + l._read;
   whole : length l.buffer ≡ MAX_READ_LEN;
 }

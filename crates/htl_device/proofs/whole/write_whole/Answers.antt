@@ -11,7 +11,7 @@ loop-sent-preserved g c =
     let whole : take (length text - sent) (drop sent text) ≡ drop sent text = grind (arith, common_steps) in
     record {
       within = grind (arith, common_steps);
-      went = appends-more (g.W.Sink.contents c.args.out.now) (g.W.Sink.contents c.loop-sent.out) (g.W.Sink.contents c.write.new.self)
+      went = appends-more (g.W.Sink.state c.args.out.now).contents (g.W.Sink.state c.loop-sent.out).contents (g.W.Sink.state c.write.new.self).contents
           c.args.text.now c.loop-sent.sent c.in_ok-taken.taken
           c.loop-sent.invariant.went (rw whole at c.in_ok-taken.ensures.bytes);
       fine = grind (arith, common_steps);

@@ -6,8 +6,8 @@ use Rattle.htl_device.proofs.whole.write_whole.Given as goal
 abbrev pub invariant-loop-sent : goal.invariant-loop-sent
 invariant-loop-sent g l = record {
   within : l.sent ≤ length l.text;
-  went : Appends (g.W.Sink.contents l.initial.out) (g.W.Sink.contents l.out) (take l.sent l.text);
-  fine : g.W.Sink.has_failed l.out ≡ false;
+  went : Appends (g.W.Sink.state l.initial.out).contents (g.W.Sink.state l.out).contents (take l.sent l.text);
+  fine : (g.W.Sink.state l.out).failed ≡ false;
 }
 
 abbrev pub decreases-loop-sent : goal.decreases-loop-sent

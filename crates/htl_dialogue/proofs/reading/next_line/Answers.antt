@@ -7,41 +7,41 @@ use Rattle.htl_dialogue.proofs.reading.next_line.Goals as goal
 
 pub loop-read-init : goal.loop-read-init
 loop-read-init g c = record {
-  fine = c.requires.fresh;
-  inside = c.requires.inside;
-  so_far = nothing_taken (prepend_known c.args.held.now (g.R.Source.remaining c.args.source.now)) _ (length c.args.held.now)
+  fine = c.requires.ready.fine;
+  inside = c.requires.ready.inside;
+  so_far = nothing_taken (prepend_known c.args.held.now (g.R.Source.state c.args.source.now).remaining) _ (length c.args.held.now)
       (c.new.ensures.items, omega arith);
 }
 
 pub returns-then-branch-clause-ok : goal.returns-then-branch-clause-ok
 returns-then-branch-clause-ok g c =
-    feed_found (prepend_known c.args.held.now (g.R.Source.remaining c.args.source.now)) (g.R.Source.remaining c.loop-read.source)
+    feed_found (prepend_known c.args.held.now (g.R.Source.state c.args.source.now).remaining) (g.R.Source.state c.loop-read.source).remaining
     c.loop-read.held c.move_to.new.self c.loop-read.line c.move_to.new.line c.loop-read._read c.in_ok-move_to.field-0
     c.loop-read.invariant.so_far c.in_ok-move_to.ensures.ok c.if-branch.true
 
 pub returns-in_default-clause-begun : goal.returns-in_default-clause-begun
 returns-in_default-clause-begun g c =
-    let first = prepend_known c.args.held.now (g.R.Source.remaining c.args.source.now) in
-    let rest = g.R.Source.remaining c.loop-read.source in
+    let first = prepend_known c.args.held.now (g.R.Source.state c.args.source.now).remaining in
+    let rest = (g.R.Source.state c.loop-read.source).remaining in
     let moved = all_moved first rest c.loop-read.held c.move_to.new.self c.loop-read.line c.move_to.new.line c.loop-read._read
     c.in_ok-move_to.field-0 c.loop-read.invariant.so_far c.in_ok-move_to.ensures.ok c.if-branch.false in
-    begun_still first rest (g.R.Source.remaining c.refill.new.source) c.refill.new.self c.move_to.new.line c.loop-read._read moved
+    begun_still first rest (g.R.Source.state c.refill.new.source).remaining c.refill.new.self c.move_to.new.line c.loop-read._read moved
     c.in_default.ensures.err.0 c.in_default.ensures.err.1
 
 pub returns-then-count-eq0-clause-ok : goal.returns-then-count-eq0-clause-ok
 returns-then-count-eq0-clause-ok g c =
-    let first = prepend_known c.args.held.now (g.R.Source.remaining c.args.source.now) in
-    let rest = g.R.Source.remaining c.loop-read.source in
+    let first = prepend_known c.args.held.now (g.R.Source.state c.args.source.now).remaining in
+    let rest = (g.R.Source.state c.loop-read.source).remaining in
     let moved = all_moved first rest c.loop-read.held c.move_to.new.self c.loop-read.line c.move_to.new.line c.loop-read._read
     c.in_ok-move_to.field-0 c.loop-read.invariant.so_far c.in_ok-move_to.ensures.ok c.if-branch.false in
     let read = c.in-Ok.ensures.ok in
-    last_found first rest (g.R.Source.remaining c.refill.new.source) c.refill.new.self c.move_to.new.line c.loop-read._read c.in-Ok.count
+    last_found first rest (g.R.Source.state c.refill.new.source).remaining c.refill.new.self c.move_to.new.line c.loop-read._read c.in-Ok.count
     moved read.0 read.1 read.2 c.if-count-eq0.true
 
 pub loop-read-preserved : goal.loop-read-preserved
 loop-read-preserved g c =
-    let first = prepend_known c.args.held.now (g.R.Source.remaining c.args.source.now) in
-    let rest = g.R.Source.remaining c.loop-read.source in
+    let first = prepend_known c.args.held.now (g.R.Source.state c.args.source.now).remaining in
+    let rest = (g.R.Source.state c.loop-read.source).remaining in
     let moved = all_moved first rest c.loop-read.held c.move_to.new.self c.loop-read.line c.move_to.new.line c.loop-read._read
     c.in_ok-move_to.field-0 c.loop-read.invariant.so_far c.in_ok-move_to.ensures.ok c.if-branch.false in
     let read = c.in-Ok.ensures.ok in
@@ -49,7 +49,7 @@ loop-read-preserved g c =
     record {
       fine = search rules;
       inside = c.in-Ok.ensures.inside some;
-      so_far = goes_on first rest (g.R.Source.remaining c.refill.new.source) c.refill.new.self c.move_to.new.line c.loop-read._read
+      so_far = goes_on first rest (g.R.Source.state c.refill.new.source).remaining c.refill.new.self c.move_to.new.line c.loop-read._read
           c.in-Ok.count moved read.0 read.1 some;
     }
 

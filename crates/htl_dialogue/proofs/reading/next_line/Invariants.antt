@@ -6,8 +6,8 @@ use Rattle.htl_dialogue.proofs.reading.next_line.Given as goal
 
 abbrev pub invariant-loop-read : goal.invariant-loop-read
 invariant-loop-read g l = record {
-  fine : g.R.Source.has_failed l.source ≡ false;
-  inside : g.R.Source.has_ended l.source ≡ false;
-  so_far : SoFar (prepend_known l.initial.held (g.R.Source.remaining l.initial.source))
-      (prepend_known l.held (g.R.Source.remaining l.source)) l.line (length l.held) l._read;
+  fine : (g.R.Source.state l.source).failed ≡ false;
+  inside : (g.R.Source.state l.source).ended ≡ false;
+  so_far : SoFar (prepend_known l.initial.held (g.R.Source.state l.initial.source).remaining)
+      (prepend_known l.held (g.R.Source.state l.source).remaining) l.line (length l.held) l._read;
 }

@@ -21,7 +21,8 @@ returns-in-Err-clause-left c =
 pub returns-in-Ok-absorb-clause-taken : goal.returns-in-Ok-absorb-clause-taken
 returns-in-Ok-absorb-clause-taken c =
     let is : c.args.parcel ≡ parcels.State c.in-State.state = search rules in
-    λ p n. subst (λ (x : Parcel). HasTaken c.absorb.new.self p n ↔ (HasTaken c.args.analyst.now p n ⊎ Brings x p n)) (sym is) (c.in-Ok-absorb.ensures.keys p n)
+    λ p n. subst (λ (x : Parcel). HasTaken c.absorb.new.self p n ↔ (HasTaken c.args.analyst.now p n ⊎ Brings x p n)) (sym is)
+    (c.in-Ok-absorb.ensures.merges.keys p n)
 
 pub take_run-requires : goal.take_run-requires
 take_run-requires c =
@@ -31,7 +32,7 @@ take_run-requires c =
 pub unreachable-requires : goal.unreachable-requires
 unreachable-requires c =
     let is : c.args.parcel ≡ parcels.State c.in-State.state = search rules in
-    let says = c.in-Err-absorb.ensures.lawful c.requires.0 c.requires.1 (subst (IsOf c.requires.0) is c.requires.2) in
+    let says = c.in-Err-absorb.ensures.merges.lawful c.requires.0 c.requires.1 (subst (IsOf c.requires.0) is c.requires.2) in
     search (rules, says)
 
 pub returns-in-Ok-clause-right : goal.returns-in-Ok-clause-right
@@ -47,7 +48,7 @@ returns-in-Err-clause-right c = λ T right of.
 pub returns-in-Ok-absorb-clause-right : goal.returns-in-Ok-absorb-clause-right
 returns-in-Ok-absorb-clause-right c = λ T right of.
     let is : c.args.parcel ≡ parcels.State c.in-State.state = search rules in
-    c.in-Ok-absorb.ensures.right T right (subst (IsOf T) is of)
+    c.in-Ok-absorb.ensures.merges.right T right (subst (IsOf T) is of)
 
 pub returns-in-Ok-absorb-clause-grows : goal.returns-in-Ok-absorb-clause-grows
-returns-in-Ok-absorb-clause-grows c = λ p n h. (c.in-Ok-absorb.ensures.keys p n).1 (inl h)
+returns-in-Ok-absorb-clause-grows c = λ p n h. (c.in-Ok-absorb.ensures.merges.keys p n).1 (inl h)

@@ -13,10 +13,10 @@ use Rattle.htl_exchange.proofs.taking.take_run.Goals as goal
 
 pub returns-in-Err-NoMemory-default-clause-left : goal.returns-in-Err-NoMemory-default-clause-left
 returns-in-Err-NoMemory-default-clause-left c =
-    let same : c.take.new.self ≡ c.loop-segment.analyst = c.in-Err-NoMemory-default.ensures.err.1 in
+    let same : c.take.new.self ≡ c.loop-segment.analyst = c.in-Err-NoMemory-default.ensures.takes.same in
     let left = c.pop.new.self.items in
     let back : c.push_reserved.new.self.items ≡ c.loop-segment.rest.items =
-    c.push_reserved.ensures.items ∙ ap (λ (s : Content). left ++ s ∷ []) c.in-Err-NoMemory-default.ensures.err.0 ∙ sym c.in-Some.ensures.items in
+    c.push_reserved.ensures.items ∙ ap (λ (s : Content). left ++ s ∷ []) c.in-Err-NoMemory-default.ensures.back ∙ sym c.in-Some.ensures.items in
     λ p n.
     subst
     (λ (z : State × List Content). (HasTaken z.0 p n ⊎ HasSegment z.1 p n) ↔ (HasTaken c.args.analyst.now p n ⊎ HasSegment c.args.segments.items p n))
@@ -30,9 +30,9 @@ loop-segment-preserved c =
     let is : was ≡ left ++ c.in-Some.segment ∷ [] = c.in-Some.ensures.items in
     let from = inv.0 c.in-Some.segment (last_member was left c.in-Some.segment is) in (
       (λ s h. inv.0 s (front_member was left c.in-Some.segment s is h)),
-      (λ p n. through (one_taken c.loop-segment.analyst c.take.new.self was left c.in-Some.segment is c.in-Ok.ensures.keys p n) (inv.1 p n)),
-      (λ T right within. c.in-Ok.ensures.right T (inv.2 T right within) (within c.in-Some.segment from)),
-      (λ p n had. (c.in-Ok.ensures.keys p n).1 (inl (inv.3 p n had))),
+      (λ p n. through (one_taken c.loop-segment.analyst c.take.new.self was left c.in-Some.segment is c.in-Ok.ensures.takes.keys p n) (inv.1 p n)),
+      (λ T right within. c.in-Ok.ensures.takes.right T (inv.2 T right within) (within c.in-Some.segment from)),
+      (λ p n had. (c.in-Ok.ensures.takes.keys p n).1 (inl (inv.3 p n had))),
     )
 
 pub returns-clause-taken : goal.returns-clause-taken
@@ -54,13 +54,13 @@ unreachable-requires c =
     let segment = c.in-Some.segment in
     let within = c.requires.2 in
     let there = inv.0 segment (last_member was c.pop.new.self.items segment c.in-Some.ensures.items) in
-    let says = c.in-Err.ensures.lawful c.requires.0 (inv.2 c.requires.0 c.requires.1 within) (within segment there) in
+    let says = c.in-Err.ensures.takes.lawful c.requires.0 (inv.2 c.requires.0 c.requires.1 within) (within segment there) in
     search (rules, says)
 
 pub returns-in-Err-NoMemory-default-clause-right : goal.returns-in-Err-NoMemory-default-clause-right
 returns-in-Err-NoMemory-default-clause-right c = λ T right within.
-    subst (λ (a : State). IsRight a T) (sym c.in-Err-NoMemory-default.ensures.err.1) (c.loop-segment.invariant.2 T right within)
+    subst (λ (a : State). IsRight a T) (sym c.in-Err-NoMemory-default.ensures.takes.same) (c.loop-segment.invariant.2 T right within)
 
 pub returns-in-Err-NoMemory-default-clause-grows : goal.returns-in-Err-NoMemory-default-clause-grows
 returns-in-Err-NoMemory-default-clause-grows c =
-    λ p n h. subst (λ (z : State). HasTaken z p n) (sym c.in-Err-NoMemory-default.ensures.err.1) (c.loop-segment.invariant.3 p n h)
+    λ p n h. subst (λ (z : State). HasTaken z p n) (sym c.in-Err-NoMemory-default.ensures.takes.same) (c.loop-segment.invariant.3 p n h)

@@ -10,22 +10,21 @@ pub returns-in_err-dump_segment-in-Ok-clause-dumped : goal.returns-in_err-dump_s
 returns-in_err-dump_segment-in-Ok-clause-dumped g c =
     let p = err_from_is_err_and c.from_residual.result c.from_residual.ensures.1 in
     let inv = c.loop-segment.invariant in
-    let known = g.W.Sink.contents in
     rw (p.1, p.2) (elim (c.in_err-dump_segment-in-Ok.ensures.err) [
       | inl memory ↦ rw (memory.0, memory.1) (front_memory c.args.place c.args.start c.args.bytes.now c.loop-segment.rest.now
-          (known c.args.out.now) (known c.loop-segment.out) inv.dumped c.in-Ok.ensures.fault)
+          (g.W.Sink.state c.args.out.now).contents (g.W.Sink.state c.loop-segment.out).contents inv.dumped c.in-Ok.ensures.fault)
       | inr part ↦ rw (part.0) (front_unwritten c.args.place c.args.start c.args.bytes.now c.loop-segment.rest.now _ c.in-Ok.segment
-          (known c.args.out.now) (known c.loop-segment.out) (known c.dump_segment.new.out) inv.dumped c.in-Ok.ensures.found part.1)
+          (g.W.Sink.state c.args.out.now).contents (g.W.Sink.state c.loop-segment.out).contents
+          (g.W.Sink.state c.dump_segment.new.out).contents inv.dumped c.in-Ok.ensures.found part.1)
     ])
 
 pub loop-segment-preserved : goal.loop-segment-preserved
 loop-segment-preserved g c =
     let inv = c.loop-segment.invariant in
-    let known = g.W.Sink.contents in
     record {
-      dumped = rw take_rest (front_next c.args.bytes.now c.loop-segment.rest.now _ c.in-Ok.segment (known c.args.out.now)
-          (known c.loop-segment.out) (known c.dump_segment.new.out) inv.dumped (rw (c.byte_len.ensures.value) (c.in-Ok.ensures.found))
-          c.in_ok-dump_segment-in-Ok.ensures.ok);
+      dumped = rw take_rest (front_next c.args.bytes.now c.loop-segment.rest.now _ c.in-Ok.segment (g.W.Sink.state c.args.out.now).contents
+          (g.W.Sink.state c.loop-segment.out).contents (g.W.Sink.state c.dump_segment.new.out).contents inv.dumped
+          (rw (c.byte_len.ensures.value) (c.in-Ok.ensures.found)) c.in_ok-dump_segment-in-Ok.ensures.ok);
       fine = c.in_ok-dump_segment-in-Ok.ensures.failed;
     }
 

@@ -5,8 +5,8 @@ use Rattle.htl_main.proofs.dumping.dump_front.Given as goal
 
 abbrev pub invariant-loop-segment : goal.invariant-loop-segment
 invariant-loop-segment g l = record {
-  dumped : FrontDumped l.bytes l.rest (g.W.Sink.contents l.initial.out) (g.W.Sink.contents l.out);
-  fine : g.W.Sink.has_failed l.out ≡ false;
+  dumped : FrontDumped l.bytes l.rest (g.W.Sink.state l.initial.out).contents (g.W.Sink.state l.out).contents;
+  fine : (g.W.Sink.state l.out).failed ≡ false;
 }
 
 abbrev pub decreases-loop-segment : goal.decreases-loop-segment

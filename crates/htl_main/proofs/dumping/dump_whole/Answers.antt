@@ -6,8 +6,8 @@ use Rattle.htl_main.proofs.dumping.dump_whole.Goals as goal
 pub returns-in_err-rest-clause-stops : goal.returns-in_err-rest-clause-stops
 returns-in_err-rest-clause-stops g c =
     let p = err_from_is_err_and c.from_residual.result c.from_residual.ensures.1 in
-    rw (p.1, p.2) (whole_of_front c.args.form c.args.place c.args.bytes.now (g.W.Sink.contents c.args.out.now)
-    (g.W.Sink.contents c.dump_front.new.out) _ c.in_err-rest.ensures.dumped)
+    rw (p.1, p.2) (whole_of_front c.args.form c.args.place c.args.bytes.now (g.W.Sink.state c.args.out.now).contents
+    (g.W.Sink.state c.dump_front.new.out).contents _ c.in_err-rest.ensures.dumped)
 
 pub returns-clause-ok : goal.returns-clause-ok
 returns-clause-ok g c =

@@ -15,30 +15,30 @@ use Rattle.htl_main.proofs.dumping.dump_within.Goals as goal
 pub returns-in_default-clause-stops : goal.returns-in_default-clause-stops
 returns-in_default-clause-stops g c =
     let failed : is_err c.read.result ≡ true = grind (arith, common_steps) in
-    so_far_unread c.args.form _ _ _ _ _ _ _ _ c.requires.bytes (so_far_failed (g.R.Source.remaining c.args.source.now) (g.R.Source.remaining c.loop-read.source)
-    (g.R.Source.remaining c.read.new.self) c.loop-read.start c.loop-read.held.items c.read.new.buffer _ _ c.read.result failed
-    c.read.ensures.bytes c.loop-read.invariant.so_far)
+    so_far_unread c.args.form _ _ _ _ _ _ _ _ c.requires.bytes (so_far_failed (g.R.Source.state c.args.source.now).remaining
+    (g.R.Source.state c.loop-read.source).remaining (g.R.Source.state c.read.new.self).remaining c.loop-read.start c.loop-read.held.items
+    c.read.new.buffer _ _ c.read.result failed c.read.ensures.bytes c.loop-read.invariant.so_far)
 
 pub returns-in_default-clause-to_fault : goal.returns-in_default-clause-to_fault
 returns-in_default-clause-to_fault g c =
     let failed : is_err c.read.result ≡ true = grind (arith, common_steps) in
-    so_far_read _ _ _ _ _ _ _ (so_far_failed (g.R.Source.remaining c.args.source.now) (g.R.Source.remaining c.loop-read.source)
-    (g.R.Source.remaining c.read.new.self) c.loop-read.start c.loop-read.held.items c.read.new.buffer _ _ c.read.result failed
+    so_far_read _ _ _ _ _ _ _ (so_far_failed (g.R.Source.state c.args.source.now).remaining (g.R.Source.state c.loop-read.source).remaining
+    (g.R.Source.state c.read.new.self).remaining c.loop-read.start c.loop-read.held.items c.read.new.buffer _ _ c.read.result failed
     c.read.ensures.bytes c.loop-read.invariant.so_far)
 
 pub returns-in_default-clause-no_fault : goal.returns-in_default-clause-no_fault
 returns-in_default-clause-no_fault g c = λ at is.
     let failed : is_err c.read.result ≡ true = grind (arith, common_steps) in
-    so_far_read _ _ _ _ _ _ _ (so_far_failed (g.R.Source.remaining c.args.source.now) (g.R.Source.remaining c.loop-read.source)
-    (g.R.Source.remaining c.read.new.self) c.loop-read.start c.loop-read.held.items c.read.new.buffer _ _ c.read.result failed
+    so_far_read _ _ _ _ _ _ _ (so_far_failed (g.R.Source.state c.args.source.now).remaining (g.R.Source.state c.loop-read.source).remaining
+    (g.R.Source.state c.read.new.self).remaining c.loop-read.start c.loop-read.held.items c.read.new.buffer _ _ c.read.result failed
     c.read.ensures.bytes c.loop-read.invariant.so_far)
 
 pub returns-then-count-eq0-clause-ok : goal.returns-then-count-eq0-clause-ok
 returns-then-count-eq0-clause-ok g c =
     let zero : c.in-Ok.count ≡ 0 = grind (arith, common_steps) in
-    let last = g.R.Source.remaining c.read.new.self in
-    let none : Consumes (g.R.Source.remaining c.loop-read.source) last [] =
-    subst (λ (n : ℕ). Consumes (g.R.Source.remaining c.loop-read.source) last (take n c.read.new.buffer)) zero c.in-Ok.ensures.bytes.0 in
+    let last = (g.R.Source.state c.read.new.self).remaining in
+    let none : Consumes (g.R.Source.state c.loop-read.source).remaining last [] =
+    subst (λ (n : ℕ). Consumes (g.R.Source.state c.loop-read.source).remaining last (take n c.read.new.buffer)) zero c.in-Ok.ensures.bytes.0 in
     let end : IsAtEnd last = c.in-Ok.ensures.bytes.1 zero (omega arith) in
     finished c.args.form _ _ _ _ _ _ _ c.finish.result c.requires.bytes c.loop-read.invariant.so_far none end
     (rw (← c.deref.ensures.value) (c.finish.ensures.ok))
@@ -46,9 +46,9 @@ returns-then-count-eq0-clause-ok g c =
 pub returns-then-count-eq0-clause-stops : goal.returns-then-count-eq0-clause-stops
 returns-then-count-eq0-clause-stops g c =
     let zero : c.in-Ok.count ≡ 0 = grind (arith, common_steps) in
-    let last = g.R.Source.remaining c.read.new.self in
-    let none : Consumes (g.R.Source.remaining c.loop-read.source) last [] =
-    subst (λ (n : ℕ). Consumes (g.R.Source.remaining c.loop-read.source) last (take n c.read.new.buffer)) zero c.in-Ok.ensures.bytes.0 in
+    let last = (g.R.Source.state c.read.new.self).remaining in
+    let none : Consumes (g.R.Source.state c.loop-read.source).remaining last [] =
+    subst (λ (n : ℕ). Consumes (g.R.Source.state c.loop-read.source).remaining last (take n c.read.new.buffer)) zero c.in-Ok.ensures.bytes.0 in
     let end : IsAtEnd last = c.in-Ok.ensures.bytes.1 zero (omega arith) in
     finished_cut c.args.form _ _ _ _ _ _ _ _ _ c.finish.result c.requires.bytes c.loop-read.invariant.so_far none end
     (rw (← c.deref.ensures.value) (c.finish.ensures.stops))
@@ -62,7 +62,7 @@ pub returns-in_err-extend_from_slice-clause-stops : goal.returns-in_err-extend_f
 returns-in_err-extend_from_slice-clause-stops g c =
     let p = err_from_is_err_and c.from_residual.result c.from_residual.ensures.1 in
     let some : 0 < length (take c.in-Ok.count c.read.new.buffer) = grind (arith, common_steps) in
-    let inside : g.R.Source.has_ended c.read.new.self ≡ false = grind (arith, common_steps) in
+    let inside : (g.R.Source.state c.read.new.self).ended ≡ false = grind (arith, common_steps) in
     rw (p.1, p.2) (so_far_memory c.args.form _ _ _ _ _ _ _ _ _ _ c.requires.bytes c.loop-read.invariant.so_far c.in-Ok.ensures.bytes.0 inside some)
 
 pub returns-in_err-extend_from_slice-clause-to_fault : goal.returns-in_err-extend_from_slice-clause-to_fault
@@ -92,7 +92,7 @@ returns-in_err-left-clause-no_fault g c =
 pub returns-in_err-left-clause-bounded : goal.returns-in_err-left-clause-bounded
 returns-in_err-left-clause-bounded g c =
     let inv = c.loop-read.invariant in
-    let one : g.R.Source.good_reads c.read.new.self ≤ g.R.Source.good_reads c.loop-read.source + 1 = grind (arith, common_steps) in
+    let one : (g.R.Source.state c.read.new.self).good_reads ≤ (g.R.Source.state c.loop-read.source).good_reads + 1 = grind (arith, common_steps) in
     omega (arith, one, inv.reads)
 
 pub returns-in_err-left-clause-named : goal.returns-in_err-left-clause-named
@@ -125,11 +125,11 @@ loop-read-preserved g c =
     let whole : length c.read.new.buffer ≡ MIN_READ_LEN = grind (arith, common_steps) in
     let all : c.extend_from_slice.new.self.items ≡ c.loop-read.held.items ++ piece = grind (arith, common_steps) in
     let held = c.loop-read.held.items in
-    let dumped : FrontDumped (held ++ piece) rest (g.W.Sink.contents c.loop-read.out) (g.W.Sink.contents c.dump_front.new.out) × IsRest rest =
+    let dumped : FrontDumped (held ++ piece) rest (g.W.Sink.state c.loop-read.out).contents (g.W.Sink.state c.dump_front.new.out).contents × IsRest rest =
     rw (← all, ← c.deref-in-loop-read.ensures.value) (c.in_ok-left.ensures.dumped) in
-    let next = so_far_next (g.R.Source.remaining c.args.source.now) (g.R.Source.remaining c.loop-read.source)
-    (g.R.Source.remaining c.read.new.self) c.loop-read.start held piece rest (g.W.Sink.contents c.args.out.now)
-    (g.W.Sink.contents c.loop-read.out) (g.W.Sink.contents c.dump_front.new.out) inv.so_far c.in-Ok.ensures.bytes.0 dumped.0 dumped.1 in
+    let next = so_far_next (g.R.Source.state c.args.source.now).remaining (g.R.Source.state c.loop-read.source).remaining
+    (g.R.Source.state c.read.new.self).remaining c.loop-read.start held piece rest (g.W.Sink.state c.args.out.now).contents
+    (g.W.Sink.state c.loop-read.out).contents (g.W.Sink.state c.dump_front.new.out).contents inv.so_far c.in-Ok.ensures.bytes.0 dumped.0 dumped.1 in
     let len : c.len.result ≡ length (held ++ piece) = grind (arith, common_steps, all) in
     let joined : length (held ++ piece) ≡ length held + length piece = length-append held piece in
     let inside : length rest ≤ length (held ++ piece) = rest_inside (held ++ piece) rest _ _ dumped.0 in

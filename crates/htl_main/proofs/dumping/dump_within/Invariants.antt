@@ -6,14 +6,14 @@ use Rattle.htl_main.proofs.dumping.dump_within.Given as goal
 
 abbrev pub invariant-loop-read : goal.invariant-loop-read
 invariant-loop-read g l = record {
-  so_far : DumpedSoFar (g.R.Source.remaining l.initial.source) (g.R.Source.remaining l.source) l.start l.held.items
-      (g.W.Sink.contents l.initial.out) (g.W.Sink.contents l.out);
-  fine : g.R.Source.has_failed l.source ≡ false;
-  sound : g.W.Sink.has_failed l.out ≡ false;
+  so_far : DumpedSoFar (g.R.Source.state l.initial.source).remaining (g.R.Source.state l.source).remaining l.start l.held.items
+      (g.W.Sink.state l.initial.out).contents (g.W.Sink.state l.out).contents;
+  fine : (g.R.Source.state l.source).failed ≡ false;
+  sound : (g.W.Sink.state l.out).failed ≡ false;
   each : l._read ≤ l.start + length l.held.items;
-  counted : l._read ≤ g.R.Source.good_reads l.source;
-  reads : g.R.Source.good_reads l.source ≤ g.R.Source.good_reads l.initial.source + l._read;
+  counted : l._read ≤ (g.R.Source.state l.source).good_reads;
+  reads : (g.R.Source.state l.source).good_reads ≤ (g.R.Source.state l.initial.source).good_reads + l._read;
   bounded : l.start + length l.held.items ≤ l._read * MAX_READ_LEN;
-  inside : g.R.Source.has_ended l.source ≡ false;
+  inside : (g.R.Source.state l.source).ended ≡ false;
   whole : length l.buffer ≡ MIN_READ_LEN;
 }

@@ -4,12 +4,10 @@ use Rattle.htl_main.proofs.encoding.encode_input.Goals as goal
 
 pub returns-in-Ok-clause-reading : goal.returns-in-Ok-clause-reading
 returns-in-Ok-clause-reading g c =
-    gathered g.R.Source.has_failed g.R.Source.has_ended g.R.Source.good_reads g.R.Source.remaining c.args.place c.args.source.now
-    c.read_whole.new.source c.encode_text.result c.in-Ok.ensures.ended c.in-Ok.ensures.fine c.in-Ok.ensures.bounded c.encode_text.ensures.no_read
-    c.encode_text.ensures.named
+    gathered c.args.place (g.R.Source.state c.args.source.now) (g.R.Source.state c.read_whole.new.source) c.encode_text.result
+    c.in-Ok.ensures.ended c.in-Ok.ensures.fine c.in-Ok.ensures.bounded c.encode_text.ensures.no_read c.encode_text.ensures.named
 
 pub returns-in-Err-clause-reading : goal.returns-in-Err-clause-reading
 returns-in-Err-clause-reading g c =
-    rw (c.from_read.ensures) (ungathered g.R.Source.has_failed g.R.Source.has_ended g.R.Source.good_reads g.R.Source.remaining
-    c.args.place c.args.source.now c.read_whole.new.source c.in-Err.fault c.in-Err.ensures.reported c.in-Err.ensures.failed
-    c.in-Err.ensures.bounded)
+    rw (c.from_read.ensures) (ungathered c.args.place (g.R.Source.state c.args.source.now) (g.R.Source.state c.read_whole.new.source)
+    c.in-Err.fault c.in-Err.ensures.reported c.in-Err.ensures.failed c.in-Err.ensures.bounded)

@@ -12,12 +12,12 @@ returns-in_err-write_digits-clause-err g c =
     let failed = c.in_err-write_digits.ensures.err in
     rw (p.1, p.2, c.if-hex.true) (
       failed.0,
-      prefix_more (g.W.Sink.contents c.args.out.now) (g.W.Sink.contents c.write_digits.new.out) (encode_lower c.args.bytes.now) (10 ∷ [])
+      prefix_more (g.W.Sink.state c.args.out.now).contents (g.W.Sink.state c.write_digits.new.out).contents (encode_lower c.args.bytes.now) (10 ∷ [])
           failed.1,
     )
 
 pub returns-in_ok-write_digits-clause-err : goal.returns-in_ok-write_digits-clause-err
 returns-in_ok-write_digits-clause-err g c =
-    rw (c.if-hex.true) (feed_cut _ (g.W.Sink.contents c.args.out.now) (g.W.Sink.contents c.write_digits.new.out)
-    (g.W.Sink.contents c.write_lines.new.out) (encode_lower c.args.bytes.now) _ c.write_lines.result c.in_ok-write_digits.ensures.ok
+    rw (c.if-hex.true) (feed_cut _ (g.W.Sink.state c.args.out.now).contents (g.W.Sink.state c.write_digits.new.out).contents
+    (g.W.Sink.state c.write_lines.new.out).contents (encode_lower c.args.bytes.now) _ c.write_lines.result c.in_ok-write_digits.ensures.ok
     c.write_lines.ensures.err)

@@ -5,8 +5,8 @@ use Rattle.htl_main.proofs.encoding.write_digits.Given as goal
 
 abbrev pub invariant-loop-rest : goal.invariant-loop-rest
 invariant-loop-rest g l = record {
-  written : DigitsWritten l.bytes l.rest (g.W.Sink.contents l.initial.out) (g.W.Sink.contents l.out);
-  fine : g.W.Sink.has_failed l.out ≡ false;
+  written : DigitsWritten l.bytes l.rest (g.W.Sink.state l.initial.out).contents (g.W.Sink.state l.out).contents;
+  fine : (g.W.Sink.state l.out).failed ≡ false;
 }
 
 abbrev pub decreases-loop-rest : goal.decreases-loop-rest

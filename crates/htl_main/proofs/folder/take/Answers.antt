@@ -15,44 +15,44 @@ returns-then-is_fallen-clause-keeps c = keeps_same c.args.analyst.now c.args.ana
 
 pub returns-in-Ok-clause-taken : goal.returns-in-Ok-clause-taken
 returns-in-Ok-clause-taken c = λ segments some took.
-    let is = c.in-Ok.ensures in
+    let is = c.in-Ok.ensures.takes in
     takes_one segments c.args.analyst.now c.take.new.self c.args.segment c.in-Ok.field-0 took c.if-is_fallen.ensures.fits is.state is.accepted
     is.new (rw c.if-is_fallen.false at c.is_fallen.ensures.is) is.keys is.right
 
 pub returns-in-Ok-clause-keeps : goal.returns-in-Ok-clause-keeps
 returns-in-Ok-clause-keeps c =
-    let is = c.in-Ok.ensures in
-    keeps_one c.args.analyst.now c.take.new.self c.args.segment c.in-Ok.field-0 is.is_state c.if-is_fallen.ensures.fits is.state is.accepted
+    let is = c.in-Ok.ensures.takes in
+    keeps_one c.args.analyst.now c.take.new.self c.args.segment c.in-Ok.field-0 c.in-Ok.ensures.is_state c.if-is_fallen.ensures.fits is.state is.accepted
     is.one_more
 
 pub returns-in-Err-OtherTrace-default-clause-taken : goal.returns-in-Err-OtherTrace-default-clause-taken
 returns-in-Err-OtherTrace-default-clause-taken c = λ segments some took. (
   of_other_trace segments c.args.analyst.now c.args.segment took some
-      (rw c.in-Err-OtherTrace-default.field-0-0-is at c.in-Err-OtherTrace-default.ensures.refused) c.args.place,
+      (rw c.in-Err-OtherTrace-default.field-0-0-is at c.in-Err-OtherTrace-default.ensures.takes.cause) c.args.place,
   refl,
 )
 
 pub returns-in-Err-OtherTrace-default-clause-keeps : goal.returns-in-Err-OtherTrace-default-clause-keeps
-returns-in-Err-OtherTrace-default-clause-keeps c = keeps_same c.args.analyst.now c.take.new.self c.in-Err-OtherTrace-default.ensures.err.1
+returns-in-Err-OtherTrace-default-clause-keeps c = keeps_same c.args.analyst.now c.take.new.self c.in-Err-OtherTrace-default.ensures.takes.same
 
 pub returns-in-Err-OtherProcessors-default-clause-taken : goal.returns-in-Err-OtherProcessors-default-clause-taken
 returns-in-Err-OtherProcessors-default-clause-taken c = λ segments some took.
-    let is = rw (c.in-Err-OtherProcessors-default).field-0-0-is at (c.in-Err-OtherProcessors-default).ensures.refused in
+    let is = rw (c.in-Err-OtherProcessors-default).field-0-0-is at (c.in-Err-OtherProcessors-default).ensures.takes.cause in
     (of_other_count segments c.args.analyst.now c.args.segment took some is.0 is.1 c.args.place, refl)
 
 pub returns-in-Err-OtherProcessors-default-clause-keeps : goal.returns-in-Err-OtherProcessors-default-clause-keeps
 returns-in-Err-OtherProcessors-default-clause-keeps c =
-    keeps_same c.args.analyst.now c.take.new.self (c.in-Err-OtherProcessors-default).ensures.err.1
+    keeps_same c.args.analyst.now c.take.new.self (c.in-Err-OtherProcessors-default).ensures.takes.same
 
 pub returns-in-Err-Conflict-default-clause-taken : goal.returns-in-Err-Conflict-default-clause-taken
 returns-in-Err-Conflict-default-clause-taken c = λ segments some took.
     let a = c.args.analyst.now in
     let s = c.args.segment in
-    let is = rw c.in-Err-Conflict-default.field-0-0-is at c.in-Err-Conflict-default.ensures.refused in
+    let is = rw c.in-Err-Conflict-default.field-0-0-is at c.in-Err-Conflict-default.ensures.takes.cause in
     let own = c.if-is_fallen.ensures.fits.processor in
     let count = is.0.processors in
     let within : s.processor < a.processors = omega (arith, own, count) in
     (rw (is.1, is.2) (conflicts segments a s took some is.0 is.3 within), tt)
 
 pub returns-in-Err-Conflict-default-clause-keeps : goal.returns-in-Err-Conflict-default-clause-keeps
-returns-in-Err-Conflict-default-clause-keeps c = keeps_same c.args.analyst.now c.take.new.self c.in-Err-Conflict-default.ensures.err.1
+returns-in-Err-Conflict-default-clause-keeps c = keeps_same c.args.analyst.now c.take.new.self c.in-Err-Conflict-default.ensures.takes.same

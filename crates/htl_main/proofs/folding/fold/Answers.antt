@@ -1,69 +1,86 @@
 -- `fold` reads its sources one after another, takes their segments, and ends for a cause of theirs.
-use Rattle.std.proofs.Common.{inl, map}
+use Rattle.std.proofs.Common.{inl, map, refl}
 use Rattle.std.proofs.lemmas.Result.{err_from_is_err_and}
+use Rattle.htl_main.specs.Folding.{folding}
 use Rattle.htl_main.specs.Origins.{by_fault}
-use Rattle.htl_main.proofs.FoldInputs.{is_folded, no_workers, not_added, read_to_fold, read_to_gap}
-use Rattle.htl_main.proofs.ReadingLaws.{read_then, unread, well}
+use Rattle.htl_main.proofs.AfterDecoding.{refused_is}
+use Rattle.htl_main.proofs.FoldInputs.{gap_about_none, gap_no_write, is_folded, no_workers, not_added, read_to_fold, read_to_gap}
+use Rattle.htl_main.proofs.ReadingLaws.{ends_too, read_then, unread, well}
 use Rattle.htl_main.proofs.folding.fold.Goals as goal
 
-pub returns-in_err-check_workers-clause-err : goal.returns-in_err-check_workers-clause-err
-returns-in_err-check_workers-clause-err g c =
+pub returns-in_err-check_workers : goal.returns-in_err-check_workers
+returns-in_err-check_workers g c =
     let p = err_from_is_err_and c.from_residual.result c.from_residual.ensures.1 in
-    λ before texts was all. rw (p.1, p.2.0, c.in_err-check_workers.ensures.err.0)
-    (no_workers c.args.setting before texts _ _ c.args.folded.now.analyst was c.in_err-check_workers.ensures.err.1)
+    let unfit = c.in_err-check_workers.ensures.err in
+    let now = map g.R.Source.state c.args.inputs.now in
+    rw (p.1, refused_is p.0 p.2.0 p.2.1, unfit.0) (record {
+      outcome = λ before was texts all. no_workers (folding c.args.setting before texts now) c.args.folded.now.analyst was unfit.1;
+      between = refl;
+      symbols = refl;
+      reading = inl (unread c.args.setting.form.hex now c.requires.ready);
+      no_write = λ told. cc told;
+    })
 
-pub returns-in_err-check_workers-clause-reading : goal.returns-in_err-check_workers-clause-reading
-returns-in_err-check_workers-clause-reading g c =
-    let p = err_from_is_err_and c.from_residual.result c.from_residual.ensures.1 in
-    rw (p.1, p.2.0, c.in_err-check_workers.ensures.err.0) (inl (unread c.args.setting.form.hex
-    g.R.Source.has_failed g.R.Source.has_ended g.R.Source.good_reads g.R.Source.remaining c.args.inputs.now c.requires.fresh))
-
-pub returns-in_err-far-clause-err : goal.returns-in_err-far-clause-err
-returns-in_err-far-clause-err g c =
+pub returns-in_err-far : goal.returns-in_err-far
+returns-in_err-far g c =
     let p = err_from_is_err_and c.from_residual-in_err-far.result c.from_residual-in_err-far.ensures.1 in
-    λ before texts was all. rw (p.1, p.2.0)
-    (rw c.in_err-far.was at c.take_all-taken.ensures.memory before texts was all c.in_ok-check_workers.ensures.ok)
+    let is = c.take_all-taken.ensures in
+    rw (p.1, refused_is p.0 p.2.0 p.2.1) (record {
+      outcome = λ before was texts all. rw c.in_err-far.was at is.memory before was texts all c.in_ok-check_workers.ensures.ok;
+      between = refl;
+      symbols = is.symbols;
+      reading = read_to_fold c.args.setting.form.hex (map g.R.Source.state c.args.inputs.now)
+          (map g.R.Source.state c.take_all-taken.new.inputs) (by_fault c.take_all-taken.result.0) is.reading;
+      no_write = λ told. cc told;
+    })
 
-pub returns-in_err-far-clause-reading : goal.returns-in_err-far-clause-reading
-returns-in_err-far-clause-reading g c =
-    let p = err_from_is_err_and c.from_residual-in_err-far.result c.from_residual-in_err-far.ensures.1 in
-    rw (p.1, p.2.0) (read_to_fold c.args.setting.form.hex g.R.Source.has_failed g.R.Source.has_ended g.R.Source.good_reads g.R.Source.remaining
-    c.args.inputs.now c.take_all-taken.new.inputs (by_fault c.take_all-taken.result.0) c.take_all-taken.ensures.reading)
-
-pub returns-in_err-taken-clause-err : goal.returns-in_err-taken-clause-err
-returns-in_err-taken-clause-err g c =
+pub returns-in_err-taken : goal.returns-in_err-taken
+returns-in_err-taken g c =
     let p = err_from_is_err_and c.from_residual-in_err-taken.result c.from_residual-in_err-taken.ensures.1 in
-    λ before texts was all. rw (p.1, p.2)
-    (rw (c.in_ok-far.was, c.in_err-taken.was) at c.take_all-taken.ensures.err before texts was all c.in_ok-check_workers.ensures.ok)
+    let is = c.take_all-taken.ensures in
+    rw (p.1, p.2) (record {
+      outcome = λ before was texts all.
+          rw (c.in_ok-far.was, c.in_err-taken.was) at is.err before was texts all c.in_ok-check_workers.ensures.ok;
+      between = rw c.in_err-taken.was at is.between;
+      symbols = is.symbols;
+      reading = inl (ends_too c.args.setting.form.hex (map g.R.Source.state c.args.inputs.now)
+          (map g.R.Source.state c.take_all-taken.new.inputs) c.in_err-taken.field-0.0.fault (rw c.in_err-taken.was at is.reading));
+      no_write = rw c.in_err-taken.was at is.no_write;
+    })
 
-pub returns-in_err-added-clause-err : goal.returns-in_err-added-clause-err
-returns-in_err-added-clause-err g c =
+pub returns-in_err-added : goal.returns-in_err-added
+returns-in_err-added g c =
     let p = err_from_is_err_and c.from_residual-in_err-added.result c.from_residual-in_err-added.ensures.1 in
-    λ before texts was all. rw (p.1, p.2.0) (not_added c.args.setting before texts
-    (map g.R.Source.remaining c.take_all-taken.new.inputs) (map g.R.Source.has_ended c.take_all-taken.new.inputs)
-    c.in_ok-check_workers.ensures.ok c.args.folded.now.analyst c.take_all-taken.new.folded.analyst
-    c.in_ok-taken.taken.segments c.in_ok-taken.taken.cuts.items
-    (rw (c.in_ok-far.was, c.in_ok-taken.was) at c.take_all-taken.ensures.ok before texts was all)
-    c.in_err-added.field-0.0 c.in_err-added.ensures.err)
+    let is = c.take_all-taken.ensures in
+    let now = map g.R.Source.state c.take_all-taken.new.inputs in
+    let after = c.take_all-taken.new.folded.analyst in
+    let taken = c.in_ok-taken.taken in
+    let fault = c.in_err-added.field-0.0 in
+    let told = c.in_err-added.ensures.err in
+    rw (p.1, refused_is p.0 p.2.0 p.2.1) (record {
+      outcome = λ before was texts all. not_added (folding c.args.setting before texts now) c.in_ok-check_workers.ensures.ok
+          c.args.folded.now.analyst after taken.segments taken.cuts.items
+          (rw (c.in_ok-far.was, c.in_ok-taken.was) at is.ok before was texts all) fault told;
+      between = gap_about_none c.args.setting.complete taken.cuts.items after fault told;
+      symbols = is.symbols;
+      reading = inl (read_to_gap c.args.setting.form.hex (map g.R.Source.state c.args.inputs.now) now taken
+          (rw c.in_ok-taken.was at is.reading) c.args.setting.complete taken.cuts.items after fault told);
+      no_write = gap_no_write c.args.setting.complete taken.cuts.items after fault told;
+    })
 
-pub returns-in_err-added-clause-reading : goal.returns-in_err-added-clause-reading
-returns-in_err-added-clause-reading g c =
-    let p = err_from_is_err_and c.from_residual-in_err-added.result c.from_residual-in_err-added.ensures.1 in
-    rw (p.1, p.2.0) (inl (read_to_gap c.args.setting.form.hex g.R.Source.has_failed g.R.Source.has_ended g.R.Source.good_reads g.R.Source.remaining
-    c.args.inputs.now c.take_all-taken.new.inputs c.in_ok-taken.taken (rw c.in_ok-taken.was at c.take_all-taken.ensures.reading)
-    c.args.setting.complete c.in_ok-taken.taken.cuts.items c.take_all-taken.new.folded.analyst c.in_err-added.field-0.0 c.in_err-added.ensures.err))
-
-pub returns-clause-ok : goal.returns-clause-ok
-returns-clause-ok g c =
-    λ before texts was all. is_folded c.args.setting before texts
-    (map g.R.Source.remaining c.take_all-taken.new.inputs) (map g.R.Source.has_ended c.take_all-taken.new.inputs)
-    c.in_ok-check_workers.ensures.ok c.args.folded.now.analyst c.take_all-taken.new.folded.analyst
-    c.in_ok-taken.taken.segments c.in_ok-taken.taken.cuts.items
-    (rw (c.in_ok-far.was, c.in_ok-taken.was) at c.take_all-taken.ensures.ok before texts was all)
-    c.in_ok-added.added was (rw c.number-before.ensures at c.in_ok-added.ensures.ok)
-
-pub returns-clause-reading : goal.returns-clause-reading
-returns-clause-reading g c =
-    inl (read_then c.args.setting.form.hex g.R.Source.has_failed g.R.Source.has_ended g.R.Source.good_reads g.R.Source.remaining
-    c.args.inputs.now c.take_all-taken.new.inputs c.in_ok-taken.taken (well c.in_ok-added.added)
-    (rw c.in_ok-taken.was at c.take_all-taken.ensures.reading) (λ at told. cc told) tt)
+pub returns : goal.returns
+returns g c =
+    let is = c.take_all-taken.ensures in
+    let now = map g.R.Source.state c.take_all-taken.new.inputs in
+    let taken = c.in_ok-taken.taken in
+    record {
+      outcome = λ before was texts all. is_folded (folding c.args.setting before texts now) c.in_ok-check_workers.ensures.ok
+          c.args.folded.now.analyst c.take_all-taken.new.folded.analyst taken.segments taken.cuts.items
+          (rw (c.in_ok-far.was, c.in_ok-taken.was) at is.ok before was texts all)
+          c.in_ok-added.added was (rw c.number-before.ensures at c.in_ok-added.ensures.ok);
+      between = tt;
+      symbols = is.symbols;
+      reading = inl (read_then c.args.setting.form.hex (map g.R.Source.state c.args.inputs.now) now taken (well c.in_ok-added.added)
+          (rw c.in_ok-taken.was at is.reading) (λ at told. cc told) tt);
+      no_write = tt;
+    }

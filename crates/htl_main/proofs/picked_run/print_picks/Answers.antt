@@ -1,33 +1,57 @@
 -- What is printed and reported of picks is that of the case that is made of them.
+use Rattle.std.proofs.Common.{refl}
 use Rattle.std.proofs.lemmas.Result.{err_from_is_err_and}
-use Rattle.htl_main.proofs.AfterPicking.{picked_for}
+use Rattle.htl_main.proofs.AfterPicking.{answer_no_write, ends_printing, picked_for}
 use Rattle.htl_main.proofs.picked_run.print_picks.Goals as goal
 
-pub returns-clause-ok : goal.returns-clause-ok
-returns-clause-ok g c = λ segments are.
-    let for = picked_for c.args.interest c.args.all.picks segments _ c.in-Some.ensures.some are in
+pub returns : goal.returns
+returns g c =
     record {
-      lines = c.in-Some-answered.lines.items;
-      are = rw (← c.deref.ensures.value) ((rw (c.in-Some-answered.is) at c.in_ok-answered.ensures.ok) segments for);
-      written = rw (← c.deref-2.ensures.value) (c.in_ok-write_lines.ensures.ok);
+      outcome = λ segments are.
+          let for = picked_for c.args.interest c.args.all.picks segments _ c.in-Some.ensures.some are in (
+            record {
+              lines = c.in-Some-answered.lines.items;
+              are = rw (← c.deref.ensures.value) ((rw (c.in-Some-answered.is) at c.in_ok-answered.ensures.ok) segments for);
+              written = rw (← c.deref-2.ensures.value) (c.in_ok-write_lines.ensures.ok);
+            },
+            rw (← c.deref.ensures.value) ((rw (c.in-Some-answered.is) at c.in_ok-answered.ensures.reports) segments for),
+          );
+      sink = record { untouched = tt; failed = λ told. absurd (cc told); fine = c.in_ok-write_lines.ensures.fine };
+      unwritten = tt;
+      ends = tt;
     }
 
-pub returns-clause-reports : goal.returns-clause-reports
-returns-clause-reports g c = λ segments are.
-    let for = picked_for c.args.interest c.args.all.picks segments _ c.in-Some.ensures.some are in
-    rw (← c.deref.ensures.value) ((rw (c.in-Some-answered.is) at c.in_ok-answered.ensures.reports) segments for)
+pub returns-in_err-write_lines : goal.returns-in_err-write_lines
+returns-in_err-write_lines g c =
+    let p = err_from_is_err_and c.from_residual-in_err-write_lines.result c.from_residual-in_err-write_lines.ensures.1 in
+    let reported = c.in_err-write_lines.ensures.err in
+    rw (p.1, p.2, reported.0) (record {
+      outcome = λ segments are.
+          let for = picked_for c.args.interest c.args.all.picks segments _ c.in-Some.ensures.some are in (
+            tt,
+            λ other. absurd (other refl),
+            λ told. record {
+              lines = c.in-Some-answered.lines.items;
+              are = rw (← c.deref.ensures.value) ((rw (c.in-Some-answered.is) at c.in_ok-answered.ensures.ok) segments for);
+              written = rw (← c.deref-2.ensures.value) (reported.2);
+            },
+          );
+      sink = record { untouched = λ other. absurd (other refl); failed = λ told. reported.1; fine = tt };
+      unwritten = tt;
+      ends = tt;
+    })
 
-pub returns-in_err-write_lines-clause-write : goal.returns-in_err-write_lines-clause-write
-returns-in_err-write_lines-clause-write g c = λ segments are told.
-    let for = picked_for c.args.interest c.args.all.picks segments _ c.in-Some.ensures.some are in
-    record {
-      lines = c.in-Some-answered.lines.items;
-      are = rw (← c.deref.ensures.value) ((rw (c.in-Some-answered.is) at c.in_ok-answered.ensures.ok) segments for);
-      written = let reported = c.in_err-write_lines.ensures.err in rw (← c.deref-2.ensures.value) (reported.2);
-    }
-
-pub returns-in_err-answered-clause-cause : goal.returns-in_err-answered-clause-cause
-returns-in_err-answered-clause-cause g c = λ segments are.
+pub returns-in_err-answered : goal.returns-in_err-answered
+returns-in_err-answered g c =
     let p = err_from_is_err_and c.from_residual.result c.from_residual.ensures.1 in
-    let for = picked_for c.args.interest c.args.all.picks segments _ c.in-Some.ensures.some are in
-    rw (p.1, p.2, ← c.deref.ensures.value) (λ told. c.in_err-answered.ensures.err segments for)
+    let is = c.in_err-answered.ensures in
+    let fault = c.in_err-answered.field-0.0 in
+    let unwritten = answer_no_write fault is.after in
+    rw (p.1, p.2) (record {
+      outcome = λ segments are.
+          let for = picked_for c.args.interest c.args.all.picks segments _ c.in-Some.ensures.some are in
+          (ends_printing fault is.after, λ told. rw (← c.deref.ensures.value) (is.err segments for), λ told. absurd (unwritten told));
+      sink = record { untouched = λ other. refl; failed = λ told. absurd (unwritten (cc told)); fine = tt };
+      unwritten = tt;
+      ends = ends_printing fault is.after;
+    })

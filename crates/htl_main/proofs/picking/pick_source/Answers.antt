@@ -5,27 +5,27 @@ use Rattle.htl_main.proofs.picking.pick_source.Goals as goal
 
 pub returns-in-Ok-clause-ok : goal.returns-in-Ok-clause-ok
 returns-in-Ok-clause-ok g c =
-    accepted_more c.args.form (g.R.Source.remaining c.args.source.now) c.args.picks c.in-Ok.bundle c.accept.result c.requires.bytes
+    accepted_more c.args.form (g.R.Source.state c.args.source.now).remaining c.args.picks c.in-Ok.bundle c.accept.result c.requires.bytes
     c.in-Ok.ensures.ok c.accept.ensures.segments c.accept.ensures.end
 
 pub returns-in-Ok-clause-err : goal.returns-in-Ok-clause-err
 returns-in-Ok-clause-err g c =
-    refused_more c.args.form (g.R.Source.remaining c.args.source.now) _ _ c.args.place c.args.picks c.in-Ok.bundle c.accept.result c.requires.bytes
+    refused_more c.args.form (g.R.Source.state c.args.source.now).remaining _ _ c.args.place c.args.picks c.in-Ok.bundle c.accept.result c.requires.bytes
     c.in-Ok.ensures.ok c.accept.ensures.refused
 
 pub returns-in-Ok-clause-reading : goal.returns-in-Ok-clause-reading
 returns-in-Ok-clause-reading g c =
-    accepted_read g.R.Source.has_failed g.R.Source.has_ended g.R.Source.good_reads g.R.Source.remaining c.args.place
-    c.args.source.now c.gather_bundle.new.source c.in-Ok.bundle c.accept.result c.accept.ensures.segment c.in-Ok.ensures.reading
+    accepted_read c.args.place (g.R.Source.state c.args.source.now) (g.R.Source.state c.gather_bundle.new.source) c.in-Ok.bundle
+    c.accept.result c.accept.ensures.segment c.in-Ok.ensures.reading
 
 pub returns-in-Err-clause-reading : goal.returns-in-Err-clause-reading
 returns-in-Err-clause-reading g c =
-    rw (c.from_source.ensures) (decoded_ill g.R.Source.has_failed g.R.Source.has_ended g.R.Source.good_reads
-    g.R.Source.remaining c.args.place c.args.source.now c.gather_bundle.new.source c.in-Err.fault c.in-Err.ensures.reading)
+    rw (c.from_source.ensures) (decoded_ill c.args.place (g.R.Source.state c.args.source.now) (g.R.Source.state c.gather_bundle.new.source)
+    c.in-Err.fault c.in-Err.ensures.reading)
 
 pub returns-in-Err-clause-err : goal.returns-in-Err-clause-err
 returns-in-Err-clause-err g c =
-    rw (c.from_source.ensures) (reported_bytes_of c.args.form (g.R.Source.remaining c.args.source.now) _ _ c.args.place c.in-Err.fault
+    rw (c.from_source.ensures) (reported_bytes_of c.args.form (g.R.Source.state c.args.source.now).remaining _ _ c.args.place c.in-Err.fault
     c.requires.bytes c.in-Err.ensures.err)
 
 pub returns-in-Err-clause-no_write : goal.returns-in-Err-clause-no_write

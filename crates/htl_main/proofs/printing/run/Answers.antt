@@ -1,159 +1,120 @@
--- `run` prints and reports what the answer over the case of its inputs says, or ends for a cause that comes after they were decoded.
-use Rattle.std.proofs.Common.{Vec, Global, ℕ, Err, ap, map, refl}
+-- `run` prints and reports what the answer over the case of its inputs says, or ends for a cause of theirs.
+use Rattle.std.proofs.Common.{Vec, Global, ℕ, map, refl}
 use Rattle.std.specs.Io.KnownBytes.{Appends}
-use Rattle.htl_device.specs.Devices.{AppendsPrefix}
 use Rattle.std.specs.Option.{option_copied}
 use Rattle.std.proofs.lemmas.Result.{err_from_is_err_and}
+use Rattle.htl_main.specs.Causes.{IsCause}
 use Rattle.htl_main.specs.CutInputs.{decoding}
-use Rattle.htl_main.proofs.AfterDecoding.{cause_of, not_write}
-use Rattle.htl_main.proofs.AfterLoading.{ends, loaded_of, prints, runs_coverage, runs_remarks, runs_absence}
+use Rattle.htl_main.proofs.AfterDecoding.{refused_is, cause_of, input_about_none, inputs_stop, not_write, stop_no_write}
+use Rattle.htl_main.proofs.AfterLoading.{decoded_as, ends, loaded_of, prints, refused_over, reports_of}
 use Rattle.htl_main.proofs.CaseRefused.{none_after}
 use Rattle.htl_main.proofs.printing.run.Goals as goal
 
-pub returns-in_err-case-clause-cause : goal.returns-in_err-case-clause-cause
-returns-in_err-case-clause-cause g c =
+pub returns-in_err-check_workers : goal.returns-in_err-check_workers
+returns-in_err-check_workers g c =
+    let p = err_from_is_err_and c.from_residual.result c.from_residual.ensures.1 in
+    let unfit = c.in_err-check_workers.ensures.err in
+    rw (p.1, refused_is p.0 p.2.0 p.2.1, unfit.0) (record {
+      outcome = record { cause = unfit.1; between = refl; written = λ told. absurd (cc told) };
+      sink = record { untouched = λ other. refl; failed = λ told. absurd (cc told); fine = tt };
+    })
+
+pub returns-in_err-decoded : goal.returns-in_err-decoded
+returns-in_err-decoded g c =
+    let p = err_from_is_err_and c.from_residual-in_err-decoded.result c.from_residual-in_err-decoded.ensures.1 in
+    let inputs = map (λ (input : Vec ℕ Global). input.items) c.args.inputs.now in
+    let fault = c.in_err-decoded.field-0.0 in
+    let stops = c.in_err-decoded.ensures.err in
+    let form = c.args.job.now.setting.form in
+    rw (p.1, refused_is p.0 p.2.0 p.2.1) (record {
+      outcome = record {
+        cause = inputs_stop c.args.job.now inputs (option_copied c.args.symbols) fault c.in_ok-check_workers.ensures.ok stops;
+        between = input_about_none form inputs inputs fault stops;
+        written = λ told. absurd (stop_no_write form inputs fault stops told);
+      };
+      sink = record { untouched = λ other. refl; failed = λ told. absurd (stop_no_write form inputs fault stops (cc told)); fine = tt };
+    })
+
+pub returns-in_err-case : goal.returns-in_err-case
+returns-in_err-case g c =
     let p = err_from_is_err_and c.from_residual-in_err-case.result c.from_residual-in_err-case.ensures.1 in
+    let job = c.args.job.now in
+    let inputs = map (λ (input : Vec ℕ Global). input.items) c.args.inputs.now in
     let symbols = option_copied c.args.symbols in
-    rw (p.1, p.2) (cause_of c.args.job.now (map (λ (input : Vec ℕ Global). input.items) c.args.inputs.now) symbols
-    (decoding c.in_ok-decoded.decoded.segments.items c.in_ok-decoded.decoded.cuts.items) c.in_err-case.field-0.0.fault c.in_ok-check_workers.ensures.ok
-    (record { segments = c.in_ok-decoded.ensures.ok; cuts = c.in_ok-decoded.ensures.cuts })
-    (c.in_err-case.ensures.err symbols c.args.job.now))
+    let decoded = c.in_ok-decoded.ensures in
+    let given = decoding c.in_ok-decoded.decoded.segments.items c.in_ok-decoded.decoded.cuts.items in
+    let fault = c.in_err-case.field-0.0.fault in
+    let why = c.in_err-case.ensures.err symbols job in
+    rw (p.1, p.2) (record {
+      outcome = record {
+        cause = cause_of job inputs symbols given fault c.in_ok-check_workers.ensures.ok
+            (record { segments = decoded.ok; cuts = decoded.cuts }) why;
+        between = c.in_err-case.ensures.between job.setting.form inputs decoded.ok decoded.spans;
+        written = λ told. absurd (not_write given symbols job fault why told);
+      };
+      sink = record { untouched = λ other. refl; failed = λ told. absurd (not_write given symbols job fault why (cc told)); fine = tt };
+    })
 
-pub returns-in_err-case-clause-write : goal.returns-in_err-case-clause-write
-returns-in_err-case-clause-write g c =
-    let p = err_from_is_err_and c.from_residual-in_err-case.result c.from_residual-in_err-case.ensures.1 in
+pub returns-in_err-loaded : goal.returns-in_err-loaded
+returns-in_err-loaded g c =
+    let p = err_from_is_err_and c.from_residual-in_err-loaded.result c.from_residual-in_err-loaded.ensures.1 in
+    let job = c.args.job.now in
+    let inputs = map (λ (input : Vec ℕ Global). input.items) c.args.inputs.now in
     let symbols = option_copied c.args.symbols in
-    rw (p.1, p.2) (λ told. absurd (not_write (decoding c.in_ok-decoded.decoded.segments.items c.in_ok-decoded.decoded.cuts.items) symbols c.args.job.now
-    c.in_err-case.field-0.0.fault (c.in_err-case.ensures.err symbols c.args.job.now) (cc told)))
-
-pub returns-in_err-loaded-clause-cause : goal.returns-in_err-loaded-clause-cause
-returns-in_err-loaded-clause-cause g c =
-    let p = err_from_is_err_and c.from_residual-in_err-loaded.result c.from_residual-in_err-loaded.ensures.1 in
     let segments = c.in_ok-decoded.decoded.segments.items in
     let given = decoding segments c.deref.result.now in
-    rw (p.1, p.2.0) (cause_of c.args.job.now (map (λ (input : Vec ℕ Global). input.items) c.args.inputs.now)
-    (option_copied c.args.symbols) given c.in_err-loaded.field-0.0 c.in_ok-check_workers.ensures.ok
-    (record { segments = c.in_ok-decoded.ensures.ok; cuts = rw (c.deref.ensures.value, c.in_ok-case.ensures.cuts) c.in_ok-decoded.ensures.cuts })
-    (c.in_err-loaded.ensures.err segments c.args.job.now c.in_ok-case.ensures.ok refl refl))
+    let decoded = decoded_as job.setting.form inputs segments _ _ _ c.in_ok-decoded.ensures.ok c.in_ok-decoded.ensures.cuts
+    c.in_ok-case.ensures.cuts c.deref.ensures.value in
+    let fault = c.in_err-loaded.field-0.0 in
+    let why = c.in_err-loaded.ensures.err segments job c.in_ok-case.ensures.ok refl refl in
+    rw (p.1, refused_is p.0 p.2.0 p.2.1) (record {
+      outcome = record {
+        cause = cause_of job inputs symbols given fault c.in_ok-check_workers.ensures.ok decoded why;
+        between = none_after job.setting.form inputs given c.in_ok-case.case symbols job fault c.in_ok-case.ensures.ok why;
+        written = λ told. absurd (not_write given symbols job fault why told);
+      };
+      sink = record { untouched = λ other. refl; failed = λ told. absurd (not_write given symbols job fault why (cc told)); fine = tt };
+    })
 
-pub returns-in_err-loaded-clause-write : goal.returns-in_err-loaded-clause-write
-returns-in_err-loaded-clause-write g c =
-    let p = err_from_is_err_and c.from_residual-in_err-loaded.result c.from_residual-in_err-loaded.ensures.1 in
-    let segments = c.in_ok-decoded.decoded.segments.items in
-    let given = decoding segments c.deref.result.now in
-    rw (p.1, p.2.0) (λ told. absurd (not_write given (option_copied c.args.symbols) c.args.job.now c.in_err-loaded.field-0.0
-    (c.in_err-loaded.ensures.err segments c.args.job.now c.in_ok-case.ensures.ok refl refl) (cc told)))
-
-pub returns-in_err-loaded-clause-between : goal.returns-in_err-loaded-clause-between
-returns-in_err-loaded-clause-between g c =
-    let p = err_from_is_err_and c.from_residual-in_err-loaded.result c.from_residual-in_err-loaded.ensures.1 in
-    let segments = c.in_ok-decoded.decoded.segments.items in
-    let given = decoding segments c.deref.result.now in
-    rw (p.1, p.2.0, p.2.1) (none_after c.args.job.now.setting.form (map (λ (input : Vec ℕ Global). input.items) c.args.inputs.now) given
-    c.in_ok-case.case (option_copied c.args.symbols) c.args.job.now c.in_err-loaded.field-0.0 c.in_ok-case.ensures.ok
-    (c.in_err-loaded.ensures.err segments c.args.job.now c.in_ok-case.ensures.ok refl refl))
-
-pub returns-in_err-completed-clause-cause : goal.returns-in_err-completed-clause-cause
-returns-in_err-completed-clause-cause g c =
+pub returns-in_err-completed : goal.returns-in_err-completed
+returns-in_err-completed g c =
     let p = err_from_is_err_and c.from_residual-in_err-completed.result c.from_residual-in_err-completed.ensures.1 in
     let job = c.args.job.now in
     let inputs = map (λ (input : Vec ℕ Global). input.items) c.args.inputs.now in
     let symbols = option_copied c.args.symbols in
+    let segments = c.in_ok-decoded.decoded.segments.items in
+    let decoded = decoded_as job.setting.form inputs segments _ _ _ c.in_ok-decoded.ensures.ok c.in_ok-decoded.ensures.cuts
+    c.in_ok-case.ensures.cuts c.deref.ensures.value in
     let loaded = c.in_ok-loaded.loaded in
-    let all = loaded_of job inputs symbols (decoding c.in_ok-decoded.decoded.segments.items c.deref.result.now) loaded.case loaded.symbols
-    c.in_ok-check_workers.ensures.ok (record {
-      segments = c.in_ok-decoded.ensures.ok;
-      cuts = rw
-          (c.deref.ensures.value, c.in_ok-case.ensures.cuts) c.in_ok-decoded.ensures.cuts;
-    })
-    (c.in_ok-loaded.ensures.ok c.in_ok-decoded.decoded.segments.items c.in_ok-case.ensures.ok) in
+    let of = loaded_of job inputs symbols (decoding segments c.deref.result.now) loaded.case loaded.symbols c.in_ok-check_workers.ensures.ok
+    decoded (c.in_ok-loaded.ensures.ok segments c.in_ok-case.ensures.ok) in
     let fault = c.in_err-completed.field-0.0 in
-    rw (p.1, p.2.0) (ends job.setting inputs symbols loaded.case loaded.symbols job all fault c.in_err-completed.ensures.err
-    (λ is. let over = prints job.setting inputs symbols loaded.case loaded.symbols job all
-    (AppendsPrefix (g.W.Sink.contents c.args.out.now) (g.W.Sink.contents c.print_answer.new.out))
-    (c.in_err-completed.ensures.write (ap (λ f. Err f) is)).0 in (over.0, over.1)))
+    let is = c.in_err-completed.ensures in
+    rw (p.1, refused_is p.0 p.2.0 p.2.1) (record {
+      outcome = refused_over job inputs symbols loaded of (IsCause job inputs symbols) (g.W.Sink.state c.args.out.now).contents
+          (g.W.Sink.state c.print_answer.new.out).contents fault
+          (ends job.setting inputs symbols loaded.case loaded.symbols job of fault is.outcome.0) is.outcome.0 is.outcome.1;
+      sink = record { untouched = is.sink.untouched; failed = λ told. is.sink.failed (cc told); fine = tt };
+    })
 
-pub returns-in_err-completed-clause-write : goal.returns-in_err-completed-clause-write
-returns-in_err-completed-clause-write g c =
-    let p = err_from_is_err_and c.from_residual-in_err-completed.result c.from_residual-in_err-completed.ensures.1 in
+pub returns : goal.returns
+returns g c =
     let job = c.args.job.now in
     let inputs = map (λ (input : Vec ℕ Global). input.items) c.args.inputs.now in
     let symbols = option_copied c.args.symbols in
+    let segments = c.in_ok-decoded.decoded.segments.items in
+    let decoded = decoded_as job.setting.form inputs segments _ _ _ c.in_ok-decoded.ensures.ok c.in_ok-decoded.ensures.cuts
+    c.in_ok-case.ensures.cuts c.deref.ensures.value in
     let loaded = c.in_ok-loaded.loaded in
-    let all = loaded_of job inputs symbols (decoding c.in_ok-decoded.decoded.segments.items c.deref.result.now) loaded.case loaded.symbols
-    c.in_ok-check_workers.ensures.ok (record {
-      segments = c.in_ok-decoded.ensures.ok;
-      cuts = rw
-          (c.deref.ensures.value, c.in_ok-case.ensures.cuts) c.in_ok-decoded.ensures.cuts;
-    })
-    (c.in_ok-loaded.ensures.ok c.in_ok-decoded.decoded.segments.items c.in_ok-case.ensures.ok) in
-    rw (p.1, p.2.0) (λ told.
-    let written = c.in_err-completed.ensures.write (cc told) in (
-      prints job.setting inputs symbols loaded.case loaded.symbols job all
-          (AppendsPrefix (g.W.Sink.contents c.args.out.now) (g.W.Sink.contents c.print_answer.new.out)) written.0,
-      written.1,
-    ))
-
-pub returns-clause-ok : goal.returns-clause-ok
-returns-clause-ok g c =
-    let job = c.args.job.now in
-    let inputs = map (λ (input : Vec ℕ Global). input.items) c.args.inputs.now in
-    let symbols = option_copied c.args.symbols in
-    let loaded = c.in_ok-loaded.loaded in
-    let all = loaded_of job inputs symbols (decoding c.in_ok-decoded.decoded.segments.items c.deref.result.now) loaded.case loaded.symbols
-    c.in_ok-check_workers.ensures.ok (record {
-      segments = c.in_ok-decoded.ensures.ok;
-      cuts = rw
-          (c.deref.ensures.value, c.in_ok-case.ensures.cuts) c.in_ok-decoded.ensures.cuts;
-    })
-    (c.in_ok-loaded.ensures.ok c.in_ok-decoded.decoded.segments.items c.in_ok-case.ensures.ok) in
-    prints job.setting inputs symbols loaded.case loaded.symbols job all
-    (Appends (g.W.Sink.contents c.args.out.now) (g.W.Sink.contents c.print_answer.new.out)) c.in_ok-completed.ensures.ok
-
-pub returns-clause-coverage : goal.returns-clause-coverage
-returns-clause-coverage g c =
-    let job = c.args.job.now in
-    let inputs = map (λ (input : Vec ℕ Global). input.items) c.args.inputs.now in
-    let symbols = option_copied c.args.symbols in
-    let loaded = c.in_ok-loaded.loaded in
-    let all = loaded_of job inputs symbols (decoding c.in_ok-decoded.decoded.segments.items c.deref.result.now) loaded.case loaded.symbols
-    c.in_ok-check_workers.ensures.ok (record {
-      segments = c.in_ok-decoded.ensures.ok;
-      cuts = rw
-          (c.deref.ensures.value, c.in_ok-case.ensures.cuts) c.in_ok-decoded.ensures.cuts;
-    })
-    (c.in_ok-loaded.ensures.ok c.in_ok-decoded.decoded.segments.items c.in_ok-case.ensures.ok) in
-    rw (c.in_ok-completed.ensures.coverage) (runs_coverage job.setting inputs symbols loaded.case loaded.symbols job all
-    loaded.coverage c.in_ok-loaded.ensures.coverage)
-
-pub returns-clause-absence : goal.returns-clause-absence
-returns-clause-absence g c =
-    let job = c.args.job.now in
-    let inputs = map (λ (input : Vec ℕ Global). input.items) c.args.inputs.now in
-    let symbols = option_copied c.args.symbols in
-    let loaded = c.in_ok-loaded.loaded in
-    let all = loaded_of job inputs symbols (decoding c.in_ok-decoded.decoded.segments.items c.deref.result.now) loaded.case loaded.symbols
-    c.in_ok-check_workers.ensures.ok (record {
-      segments = c.in_ok-decoded.ensures.ok;
-      cuts = rw
-          (c.deref.ensures.value, c.in_ok-case.ensures.cuts) c.in_ok-decoded.ensures.cuts;
-    })
-    (c.in_ok-loaded.ensures.ok c.in_ok-decoded.decoded.segments.items c.in_ok-case.ensures.ok) in
-    runs_absence job.setting inputs symbols loaded.case loaded.symbols job all c.in_ok-completed.completed.absence
-    c.in_ok-completed.ensures.absence
-
-pub returns-clause-remarks : goal.returns-clause-remarks
-returns-clause-remarks g c =
-    let job = c.args.job.now in
-    let inputs = map (λ (input : Vec ℕ Global). input.items) c.args.inputs.now in
-    let symbols = option_copied c.args.symbols in
-    let loaded = c.in_ok-loaded.loaded in
-    let all = loaded_of job inputs symbols (decoding c.in_ok-decoded.decoded.segments.items c.deref.result.now) loaded.case loaded.symbols
-    c.in_ok-check_workers.ensures.ok (record {
-      segments = c.in_ok-decoded.ensures.ok;
-      cuts = rw
-          (c.deref.ensures.value, c.in_ok-case.ensures.cuts) c.in_ok-decoded.ensures.cuts;
-    })
-    (c.in_ok-loaded.ensures.ok c.in_ok-decoded.decoded.segments.items c.in_ok-case.ensures.ok) in
-    runs_remarks job.setting inputs symbols loaded.case loaded.symbols job all c.in_ok-completed.completed.remarks
-    c.in_ok-completed.ensures.remarks
+    let of = loaded_of job inputs symbols (decoding segments c.deref.result.now) loaded.case loaded.symbols c.in_ok-check_workers.ensures.ok
+    decoded (c.in_ok-loaded.ensures.ok segments c.in_ok-case.ensures.ok) in
+    let is = c.in_ok-completed.ensures in
+    record {
+      outcome = (
+        prints job.setting inputs symbols loaded.case loaded.symbols job of
+            (Appends (g.W.Sink.state c.args.out.now).contents (g.W.Sink.state c.print_answer.new.out).contents) is.outcome.0,
+        reports_of job inputs symbols loaded of c.in_ok-completed.completed c.in_ok-loaded.ensures.coverage
+            (c.in_ok-loaded.ensures.cut job.setting.form.hex inputs decoded.cuts) is.outcome.1,
+      );
+      sink = record { untouched = tt; failed = λ told. absurd (cc told); fine = is.sink.fine };
+    }

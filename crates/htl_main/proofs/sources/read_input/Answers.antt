@@ -6,38 +6,35 @@ use Rattle.htl_main.proofs.sources.read_input.Goals as goal
 
 pub returns-in-Err-clause-err : goal.returns-in-Err-clause-err
 returns-in-Err-clause-err g c =
-    rw (c.from_digits.ensures) (digits_reported g.R.Source.has_failed g.R.Source.has_ended g.R.Source.good_reads g.R.Source.remaining
-    c.args.source.now c.read_digits.new.source c.args.form c.args.place (g.R.Source.remaining c.args.source.now) c.in-Err.fault
-    c.if-form.true c.in-Err.ensures)
+    rw (c.from_digits.ensures) (digits_reported (g.R.Source.state c.args.source.now) (g.R.Source.state c.read_digits.new.source) c.args.form
+    c.args.place (g.R.Source.state c.args.source.now).remaining c.in-Err.fault c.if-form.true c.in-Err.ensures)
 
 pub returns-in-Err-clause-reading : goal.returns-in-Err-clause-reading
 returns-in-Err-clause-reading g c =
-    rw (c.from_digits.ensures) (digits_read g.R.Source.has_failed g.R.Source.has_ended g.R.Source.good_reads g.R.Source.remaining
-    c.args.source.now c.read_digits.new.source c.args.form c.args.place c.in-Err.fault c.if-form.true c.in-Err.ensures)
+    rw (c.from_digits.ensures) (digits_read (g.R.Source.state c.args.source.now) (g.R.Source.state c.read_digits.new.source) c.args.form c.args.place
+    c.in-Err.fault c.if-form.true c.in-Err.ensures)
 
 pub returns-in-Ok-read_bundle-clause-ok : goal.returns-in-Ok-read_bundle-clause-ok
 returns-in-Ok-read_bundle-clause-ok g c =
-    accepted_source c.args.form (g.R.Source.remaining c.args.source.now) c.in-Ok-read_bundle.bundle c.accept.result c.if-form.false
+    accepted_source c.args.form (g.R.Source.state c.args.source.now).remaining c.in-Ok-read_bundle.bundle c.accept.result c.if-form.false
     c.in-Ok-read_bundle.ensures.ok c.accept.ensures.segments c.accept.ensures.end
 
 pub returns-in-Ok-read_bundle-clause-err : goal.returns-in-Ok-read_bundle-clause-err
 returns-in-Ok-read_bundle-clause-err g c =
-    refused_source c.args.form (g.R.Source.remaining c.args.source.now) _ _ c.args.place c.in-Ok-read_bundle.bundle c.accept.result
+    refused_source c.args.form (g.R.Source.state c.args.source.now).remaining _ _ c.args.place c.in-Ok-read_bundle.bundle c.accept.result
     c.if-form.false c.in-Ok-read_bundle.ensures.ok c.accept.ensures.refused
 
 pub returns-in-Ok-read_bundle-clause-reading : goal.returns-in-Ok-read_bundle-clause-reading
 returns-in-Ok-read_bundle-clause-reading g c =
-    rw (c.if-form.false) (accepted_read g.R.Source.has_failed g.R.Source.has_ended g.R.Source.good_reads g.R.Source.remaining c.args.place
-    c.args.source.now c.read_bundle.new.source c.in-Ok-read_bundle.bundle c.accept.result c.accept.ensures.segment
-    c.in-Ok-read_bundle.ensures.reading)
+    rw (c.if-form.false) (accepted_read c.args.place (g.R.Source.state c.args.source.now) (g.R.Source.state c.read_bundle.new.source)
+    c.in-Ok-read_bundle.bundle c.accept.result c.accept.ensures.segment c.in-Ok-read_bundle.ensures.reading)
 
 pub returns-in-Err-read_bundle-clause-err : goal.returns-in-Err-read_bundle-clause-err
 returns-in-Err-read_bundle-clause-err g c =
-    rw (c.from_source.ensures) (reported_bytes_of c.args.form (g.R.Source.remaining c.args.source.now) _ _ c.args.place
+    rw (c.from_source.ensures) (reported_bytes_of c.args.form (g.R.Source.state c.args.source.now).remaining _ _ c.args.place
     c.in-Err-read_bundle.fault c.if-form.false c.in-Err-read_bundle.ensures.err)
 
 pub returns-in-Err-read_bundle-clause-reading : goal.returns-in-Err-read_bundle-clause-reading
 returns-in-Err-read_bundle-clause-reading g c =
-    rw (c.if-form.false, c.from_source.ensures) (decoded_ill g.R.Source.has_failed g.R.Source.has_ended
-    g.R.Source.good_reads g.R.Source.remaining c.args.place c.args.source.now c.read_bundle.new.source c.in-Err-read_bundle.fault
-    c.in-Err-read_bundle.ensures.reading)
+    rw (c.if-form.false, c.from_source.ensures) (decoded_ill c.args.place (g.R.Source.state c.args.source.now)
+    (g.R.Source.state c.read_bundle.new.source) c.in-Err-read_bundle.fault c.in-Err-read_bundle.ensures.reading)

@@ -7,63 +7,60 @@ use Rattle.htl_main.proofs.taking.read_input.Goals as goal
 
 pub returns-in-Ok-clause-ok : goal.returns-in-Ok-clause-ok
 returns-in-Ok-clause-ok g c =
-    known_ok folds_of c.args.folder.now c.take_text.new.folder c.args.setting.form c.args.place (g.R.Source.remaining c.args.source.now)
+    known_ok folds_of c.args.folder.now c.take_text.new.folder c.args.setting.form c.args.place (g.R.Source.state c.args.source.now).remaining
     c.in-Ok.text.items c.take_text.result c.in-Ok.ensures.ok.0 (rw (← c.deref.ensures.value) (c.take_text.ensures.ok))
 
 pub returns-in-Ok-clause-kept : goal.returns-in-Ok-clause-kept
 returns-in-Ok-clause-kept g c =
-    known_kept folds_of c.args.folder.now c.take_text.new.folder c.args.setting.form c.args.place (g.R.Source.remaining c.args.source.now) _
+    known_kept folds_of c.args.folder.now c.take_text.new.folder c.args.setting.form c.args.place (g.R.Source.state c.args.source.now).remaining _
     c.in-Ok.text.items c.take_text.result c.if-setting.true c.in-Ok.ensures.ok.0 (rw (← c.deref.ensures.value) (c.take_text.ensures.kept))
 
 pub returns-in-Err-clause-err : goal.returns-in-Err-clause-err
 returns-in-Err-clause-err g c =
-    rw (c.from_digits.ensures) (digits_reported g.R.Source.has_failed g.R.Source.has_ended g.R.Source.good_reads g.R.Source.remaining
-    c.args.source.now c.read_digits.new.source c.args.setting.form c.args.place (g.R.Source.remaining c.args.source.now) c.in-Err.fault
-    c.if-setting.true c.in-Err.ensures)
+    rw (c.from_digits.ensures) (digits_reported (g.R.Source.state c.args.source.now) (g.R.Source.state c.read_digits.new.source)
+    c.args.setting.form c.args.place (g.R.Source.state c.args.source.now).remaining c.in-Err.fault c.if-setting.true c.in-Err.ensures)
 
 pub returns-in-Err-clause-reading : goal.returns-in-Err-clause-reading
 returns-in-Err-clause-reading g c =
-    rw (c.from_digits.ensures) (digits_read g.R.Source.has_failed g.R.Source.has_ended g.R.Source.good_reads g.R.Source.remaining
-    c.args.source.now c.read_digits.new.source c.args.setting.form c.args.place c.in-Err.fault c.if-setting.true c.in-Err.ensures)
+    rw (c.from_digits.ensures) (digits_read (g.R.Source.state c.args.source.now) (g.R.Source.state c.read_digits.new.source)
+    c.args.setting.form c.args.place c.in-Err.fault c.if-setting.true c.in-Err.ensures)
 
 pub returns-in-Err-clause-kept : goal.returns-in-Err-clause-kept
 returns-in-Err-clause-kept g c =
-    rw (c.from_digits.ensures) (unread_kept folds_of c.args.folder.now c.args.setting.form c.args.place (g.R.Source.remaining c.args.source.now) _
+    rw (c.from_digits.ensures) (unread_kept folds_of c.args.folder.now c.args.setting.form c.args.place (g.R.Source.state c.args.source.now).remaining _
     c.in-Err.fault c.if-setting.true)
 
 pub returns-in-Ok-take_source-clause-ok : goal.returns-in-Ok-take_source-clause-ok
 returns-in-Ok-take_source-clause-ok g c =
-    source_ok folds_of c.args.folder.now c.take_source.new.keeper c.args.setting.form c.args.place (g.R.Source.remaining c.args.source.now)
+    source_ok folds_of c.args.folder.now c.take_source.new.keeper c.args.setting.form c.args.place (g.R.Source.state c.args.source.now).remaining
     c.in-Ok-take_source.end c.check_end.result c.if-setting.false c.in-Ok-take_source.ensures.ok c.check_end.ensures.end
 
 pub returns-in-Ok-take_source-clause-err : goal.returns-in-Ok-take_source-clause-err
 returns-in-Ok-take_source-clause-err g c =
-    source_err folds_of c.args.folder.now c.take_source.new.keeper c.args.setting.form c.args.place (g.R.Source.remaining c.args.source.now) _ _
+    source_err folds_of c.args.folder.now c.take_source.new.keeper c.args.setting.form c.args.place (g.R.Source.state c.args.source.now).remaining _ _
     c.in-Ok-take_source.end c.check_end.result c.if-setting.false c.in-Ok-take_source.ensures.ok c.check_end.ensures.refused
 
 pub returns-in-Ok-take_source-clause-kept : goal.returns-in-Ok-take_source-clause-kept
 returns-in-Ok-take_source-clause-kept g c =
-    source_kept folds_of c.args.folder.now c.take_source.new.keeper c.args.setting.form c.args.place (g.R.Source.remaining c.args.source.now) _
+    source_kept folds_of c.args.folder.now c.take_source.new.keeper c.args.setting.form c.args.place (g.R.Source.state c.args.source.now).remaining _
     c.in-Ok-take_source.end c.check_end.result c.if-setting.false c.in-Ok-take_source.ensures.ok c.check_end.ensures.refused
 
 pub returns-in-Ok-take_source-clause-reading : goal.returns-in-Ok-take_source-clause-reading
 returns-in-Ok-take_source-clause-reading g c =
-    rw (c.if-setting.false) (accepted_read g.R.Source.has_failed g.R.Source.has_ended g.R.Source.good_reads g.R.Source.remaining c.args.place
-    c.args.source.now c.take_source.new.source c.in-Ok-take_source.end c.check_end.result c.check_end.ensures.segment
-    c.in-Ok-take_source.ensures.reading)
+    rw (c.if-setting.false) (accepted_read c.args.place (g.R.Source.state c.args.source.now) (g.R.Source.state c.take_source.new.source)
+    c.in-Ok-take_source.end c.check_end.result c.check_end.ensures.segment c.in-Ok-take_source.ensures.reading)
 
 pub returns-in-Err-take_source-clause-err : goal.returns-in-Err-take_source-clause-err
 returns-in-Err-take_source-clause-err g c =
-    rw (c.from_source.ensures) (reported_bytes_of c.args.setting.form (g.R.Source.remaining c.args.source.now) _ _ c.args.place
+    rw (c.from_source.ensures) (reported_bytes_of c.args.setting.form (g.R.Source.state c.args.source.now).remaining _ _ c.args.place
     c.in-Err-take_source.fault c.if-setting.false c.in-Err-take_source.ensures.err)
 
 pub returns-in-Err-take_source-clause-kept : goal.returns-in-Err-take_source-clause-kept
 returns-in-Err-take_source-clause-kept g c =
     rw (c.from_source.ensures) (fault_kept folds_of c.args.folder.now c.take_source.new.keeper c.args.setting.form c.args.place
-    (g.R.Source.remaining c.args.source.now) _ c.in-Err-take_source.fault c.if-setting.false c.in-Err-take_source.ensures.kept)
+    (g.R.Source.state c.args.source.now).remaining _ c.in-Err-take_source.fault c.if-setting.false c.in-Err-take_source.ensures.kept)
 
 pub returns-in-Err-take_source-clause-reading : goal.returns-in-Err-take_source-clause-reading
 returns-in-Err-take_source-clause-reading g c =
-    rw (c.if-setting.false, c.from_source.ensures) (decoded_ill g.R.Source.has_failed g.R.Source.has_ended
-    g.R.Source.good_reads g.R.Source.remaining c.args.place c.args.source.now c.take_source.new.source c.in-Err-take_source.fault
-    c.in-Err-take_source.ensures.reading)
+    rw (c.if-setting.false, c.from_source.ensures) (decoded_ill c.args.place (g.R.Source.state c.args.source.now)
+    (g.R.Source.state c.take_source.new.source) c.in-Err-take_source.fault c.in-Err-take_source.ensures.reading)

@@ -4,6 +4,7 @@ use Rattle.std.proofs.lemmas.Result.{on_err_weaker}
 use Rattle.htl_analyst.specs.States.{State}
 use Rattle.htl_case.specs.declared.fault.CaseFault.{CaseFault}
 use Rattle.htl_main.specs.Folders.{Folds}
+use Rattle.htl_main.specs.Folding.{folding}
 use Rattle.htl_main.proofs.FoldInputs.{all_taken, refused_fold, refused_read, refused_unfit, since}
 use Rattle.htl_main.proofs.taking.take_all.Goals as goal
 
@@ -14,8 +15,8 @@ returns-in-Err-clause-err g c =
     let now = c.fold_by-far.new.self in
     let is = c.replace-analyst.ensures.value in
     let none = subst (λ (a : Option State). Folds a old.analyst old.unfit old.segments []) is c.new-folder.ensures.none in
-    λ before texts was all fit. rw (c.from.ensures.0) (refused_read c.args.setting before texts
-    (map g.R.Source.remaining c.read_all-read.new.sources) (map g.R.Source.has_ended c.read_all-read.new.sources) fit first was c.fold_by-far.result
+    λ before was texts all fit. rw (c.from.ensures.0) (refused_read
+    (folding c.args.setting before texts (map g.R.Source.state c.read_all-read.new.sources)) fit first was c.fold_by-far.result
     old c.read_all-read.new.folder none (c.new-folder.ensures.same ∙ is) now.analyst now.unfit now.segments c.in-Err.fault
     c.fold_by-far.ensures.kept (λ given folds. c.fold_by-far.ensures.far first given folds was.far) (c.in-Err.ensures.err texts all)
     c.in-Err.ensures.of_input (c.in-Err.ensures.kept texts all))
@@ -26,8 +27,8 @@ returns-in-Err-clause-memory g c =
     let old = c.new-folder.result in
     let is = c.replace-analyst.ensures.value in
     let none = subst (λ (a : Option State). Folds a old.analyst old.unfit old.segments []) is c.new-folder.ensures.none in
-    λ before texts was all fit. on_err_weaker c.fold_by-far.result (λ some. refused_fold c.args.setting before texts
-    (map g.R.Source.remaining c.read_all-read.new.sources) (map g.R.Source.has_ended c.read_all-read.new.sources) fit first was c.fold_by-far.result
+    λ before was texts all fit. on_err_weaker c.fold_by-far.result (λ some. refused_fold
+    (folding c.args.setting before texts (map g.R.Source.state c.read_all-read.new.sources)) fit first was c.fold_by-far.result
     old c.read_all-read.new.folder none (c.new-folder.ensures.same ∙ is) c.read_all-read.result some (c.read_all-read.ensures.ok texts all)
     (c.read_all-read.ensures.err texts all) (c.read_all-read.ensures.kept texts all))
     c.fold_by-far.ensures.some
@@ -39,11 +40,11 @@ returns-in-Some-clause-err g c =
     let now = c.fold_by-far.new.self in
     let is = c.replace-analyst.ensures.value in
     let none = subst (λ (a : Option State). Folds a old.analyst old.unfit old.segments []) is c.new-folder.ensures.none in
-    λ before texts was all fit.
+    λ before was texts all fit.
     let own = c.in-Ok.ensures.ok texts all in
     let folds = since first old c.read_all-read.new.folder own.0 none (c.new-folder.ensures.same ∙ is) own.2 in
-    rw (c.half_known.ensures.fault) (refused_unfit c.args.setting before texts
-    (map g.R.Source.remaining c.read_all-read.new.sources) (map g.R.Source.has_ended c.read_all-read.new.sources) fit first was c.fold_by-far.result
+    rw (c.half_known.ensures.fault) (refused_unfit
+    (folding c.args.setting before texts (map g.R.Source.state c.read_all-read.new.sources)) fit first was c.fold_by-far.result
     now.analyst now.segments own.0 c.in-Some.fault
     (subst (λ (u : Option CaseFault). Folds first now.analyst u now.segments own.0) c.in-Some.is (c.fold_by-far.ensures.kept first own.0 folds))
     (c.fold_by-far.ensures.far first own.0 folds was.far) own.1)
@@ -54,8 +55,8 @@ returns-in-Some-clause-memory g c =
     let old = c.new-folder.result in
     let is = c.replace-analyst.ensures.value in
     let none = subst (λ (a : Option State). Folds a old.analyst old.unfit old.segments []) is c.new-folder.ensures.none in
-    λ before texts was all fit. on_err_weaker c.fold_by-far.result (λ some. refused_fold c.args.setting before texts
-    (map g.R.Source.remaining c.read_all-read.new.sources) (map g.R.Source.has_ended c.read_all-read.new.sources) fit first was c.fold_by-far.result
+    λ before was texts all fit. on_err_weaker c.fold_by-far.result (λ some. refused_fold
+    (folding c.args.setting before texts (map g.R.Source.state c.read_all-read.new.sources)) fit first was c.fold_by-far.result
     old c.read_all-read.new.folder none (c.new-folder.ensures.same ∙ is) c.read_all-read.result some (c.read_all-read.ensures.ok texts all)
     (c.read_all-read.ensures.err texts all) (c.read_all-read.ensures.kept texts all))
     c.fold_by-far.ensures.some
@@ -67,7 +68,7 @@ returns-clause-ok g c =
     let now = c.fold_by-far.new.self in
     let is = c.replace-analyst.ensures.value in
     let none = subst (λ (a : Option State). Folds a old.analyst old.unfit old.segments []) is c.new-folder.ensures.none in
-    λ before texts was all.
+    λ before was texts all.
     let own = c.in-Ok.ensures.ok texts all in
     let folds = since first old c.read_all-read.new.folder own.0 none (c.new-folder.ensures.same ∙ is) own.2 in
     all_taken first now.analyst now.segments own.0 before was c.fold_by-far.result
@@ -80,8 +81,8 @@ returns-clause-memory g c =
     let old = c.new-folder.result in
     let is = c.replace-analyst.ensures.value in
     let none = subst (λ (a : Option State). Folds a old.analyst old.unfit old.segments []) is c.new-folder.ensures.none in
-    λ before texts was all fit. on_err_weaker c.fold_by-far.result (λ some. refused_fold c.args.setting before texts
-    (map g.R.Source.remaining c.read_all-read.new.sources) (map g.R.Source.has_ended c.read_all-read.new.sources) fit first was c.fold_by-far.result
+    λ before was texts all fit. on_err_weaker c.fold_by-far.result (λ some. refused_fold
+    (folding c.args.setting before texts (map g.R.Source.state c.read_all-read.new.sources)) fit first was c.fold_by-far.result
     old c.read_all-read.new.folder none (c.new-folder.ensures.same ∙ is) c.read_all-read.result some (c.read_all-read.ensures.ok texts all)
     (c.read_all-read.ensures.err texts all) (c.read_all-read.ensures.kept texts all))
     c.fold_by-far.ensures.some

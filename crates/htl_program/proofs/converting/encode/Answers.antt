@@ -1,31 +1,37 @@
 -- An encoding whose name could not be opened ends for the first that is absent, and where all are known for want of memory.
-use Rattle.std.proofs.Common.{◌≡◌, ◌∙◌, Err, ap, inr, refl, rules}
+use Rattle.std.proofs.Common.{◌≡◌, ◌∙◌, Err, ap, inl, inr, map, rules}
 use Rattle.htl_program.specs.Worlds.{of_each}
 use Rattle.htl_program.proofs.FirstAbsent.{first_or_memory, none_absent, only_memory}
+use Rattle.htl_program.proofs.NamesRead.{inputs_read, inputs_unread}
 use Rattle.htl_program.proofs.converting.encode.Goals as goal
 
-pub returns-in_err-inputs-clause-encoded : goal.returns-in_err-inputs-clause-encoded
-returns-in_err-inputs-clause-encoded g c =
+pub returns-in_err-inputs : goal.returns-in_err-inputs
+returns-in_err-inputs g c =
+    let world = g.W.World.known c.args.world.now in
+    let names = c.args.files.now in
+    let fault = c.in_err-inputs.field-0.0 in
+    let refused = c.in_err-inputs.ensures.refused in
     let is : c.from_residual.result ≡ Err c.in_err-inputs.field-0.0 = search rules in
     record {
-      ends = λ texts all. rw (is ∙ ap Err (
-          only_memory (g.W.World.holds c.args.world.now) (g.W.World.standard c.args.world.now) c.args.files.now texts
-          (of_each (g.W.World.is_absent c.args.world.now) c.args.files.now) c.in_err-inputs.field-0.0 all c.in_err-inputs.ensures.refused)) (inr refl);
+      ends = λ texts all. inr (is ∙ ap Err
+          (only_memory world.holds world.standard names texts (of_each world.is_absent names) fault all refused));
       absent = λ place absent.
-          first_or_memory c.from_residual.result (of_each (g.W.World.holds c.args.world.now) c.args.files.now)
-          (of_each (g.W.World.is_absent c.args.world.now) c.args.files.now) c.in_err-inputs.field-0.0 place is
-          c.in_err-inputs.ensures.refused absent;
-      reads = search rules;
+          first_or_memory c.from_residual.result (of_each world.holds names) (of_each world.is_absent names) fault place is refused absent;
+      reads = inputs_unread world _ names _ _ fault is (inl (ap (map g.W.Input.Source.state) c.clear.ensures.items, refused));
       failed = search rules;
       untouched = search rules;
     }
 
-pub returns-clause-encoded : goal.returns-clause-encoded
-returns-clause-encoded g c = record {
-  ends = search rules;
-  absent = λ place absent. absurd (none_absent (of_each (g.W.World.holds c.args.world.now) c.args.files.now)
-      (of_each (g.W.World.is_absent c.args.world.now) c.args.files.now) place c.in_ok-inputs.ensures.there absent);
-  reads = search rules;
-  failed = search rules;
-  untouched = search rules;
-}
+pub returns : goal.returns
+returns g c =
+    let world = g.W.World.known c.args.world.now in
+    let names = c.args.files.now in
+    record {
+      ends = λ texts all. inl (c.encode_opened.ensures.encoded.outcome texts (c.in_ok-inputs.ensures.bytes ∙ all));
+      absent = λ place absent. absurd (none_absent (of_each world.holds names) (of_each world.is_absent names) place
+          c.in_ok-inputs.ensures.there absent);
+      reads = inputs_read world _ names _ _ _ _ c.in_ok-inputs.ensures.ready c.in_ok-inputs.ensures.bytes c.encode_opened.ensures.all
+          c.encode_opened.ensures.encoded.reading;
+      failed = search rules;
+      untouched = search rules;
+    }

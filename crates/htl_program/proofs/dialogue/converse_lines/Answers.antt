@@ -14,13 +14,13 @@ use Rattle.htl_program.proofs.dialogue.converse_lines.Goals as goal
 
 pub loop-line-init : goal.loop-line-init
 loop-line-init g c = record {
-  readable = c.requires.questions;
-  inside = c.requires.inside;
+  readable = c.requires.questions.fine;
+  inside = c.requires.questions.inside;
   writable = c.requires.out;
   form = refl;
   wants = refl;
   so_far = λ text known. begins c.fine-conversed.result
-      (rw (c.in_ok-held.ensures, prepend_known-nil (g.Q.Source.remaining c.args.questions.now)) known)
+      (rw (c.in_ok-held.ensures, prepend_known-nil (g.Q.Source.state c.args.questions.now).remaining) known)
       c.fine-conversed.ensures.wrong c.fine-conversed.ensures.first;
 }
 
@@ -76,7 +76,7 @@ returns-then-ends-clause-ok g c =
     let inv = c.loop-line.invariant in
     let alike : c.forgets.result ≡ is_state c.args.kept.now = c.forgets.ensures ∙ inv.form in
     let ends : is_end (saying c.in_ok-said.said) ≡ true = sym (c.ends.ensures) ∙ c.if-ends.true in
-    λ text known. ended {after = prepend_known c.next_line.new.held (g.Q.Source.remaining c.next_line.new.source)}
+    λ text known. ended {after = prepend_known c.next_line.new.held (g.Q.Source.state c.next_line.new.source).remaining}
     (inv.so_far text known) c.awaits.ensures.told
     (record { found = c.in_ok-next.ensures.ok; says = rw alike at c.in_ok-said.ensures.said; keeps = rw alike at c.in_ok-said.ensures.fault }) ends
 
@@ -84,14 +84,14 @@ pub returns-in_err-held-clause-stops : goal.returns-in_err-held-clause-stops
 returns-in_err-held-clause-stops g c =
     let p = err_from_is_err_and c.from_residual.result c.from_residual.ensures.1 in
     λ text known. rw (p.1, p.2) (stopped_between (begins (record { has_wrong = false; first_fault = None }) known refl refl)
-    (g.Q.Source.remaining c.args.questions.now) (g.Q.Source.has_failed c.args.questions.now) _ tt c.requires.questions)
+    (g.Q.Source.state c.args.questions.now).remaining (g.Q.Source.state c.args.questions.now).failed _ tt c.requires.questions.fine)
 
 pub returns-in_err-next-clause-stops : goal.returns-in_err-next-clause-stops
 returns-in_err-next-clause-stops g c =
     let p = err_from_is_err_and c.from_residual-in_err-next.result c.from_residual-in_err-next.ensures.1 in
     let inv = c.loop-line.invariant in
-    let left = g.Q.Source.remaining c.next_line.new.source in
-    let failed = g.Q.Source.has_failed c.next_line.new.source in
+    let left = (g.Q.Source.state c.next_line.new.source).remaining in
+    let failed = (g.Q.Source.state c.next_line.new.source).failed in
     λ text known.
     let so_far = inv.so_far text known in
     let in_time : failed ≡ true → AreRead text left so_far.lines = λ fails. all_read so_far left
@@ -105,15 +105,15 @@ returns-in_err-next-clause-questions g c =
     let failed = read_failed c.in_err-next.field-0.0 (let same = sym p.1 ∙ is in sym p.2 ∙ cc) in
     elim (c.in_err-next.ensures.failed (ap (λ f. Err f) failed)) [
       | inl bad ↦ inl bad
-      | inr many ↦ inr (endless (g.Q.Source.remaining c.args.questions.now) MAX_READS c.loop-line.invariant.so_far many)
+      | inr many ↦ inr (endless (g.Q.Source.state c.args.questions.now).remaining MAX_READS c.loop-line.invariant.so_far many)
     ]
 
 pub returns-in_err-said-clause-stops : goal.returns-in_err-said-clause-stops
 returns-in_err-said-clause-stops g c =
     let p = err_from_is_err_and c.from_residual-in_err-said.result c.from_residual-in_err-said.ensures.1 in
-    let failed = g.Q.Source.has_failed c.next_line.new.source in
+    let failed = (g.Q.Source.state c.next_line.new.source).failed in
     let fine : failed ≡ false = search rules in
-    λ text known. rw (p.1, p.2) (stopped (c.loop-line.invariant.so_far text known) (g.Q.Source.remaining c.next_line.new.source)
+    λ text known. rw (p.1, p.2) (stopped (c.loop-line.invariant.so_far text known) (g.Q.Source.state c.next_line.new.source).remaining
     c.awaits.new.self failed _ c.awaits.ensures.told tt (λ fails. absurd (let bad = sym fine ∙ fails in cc)))
 
 pub returns-in_err-line-clause-stops : goal.returns-in_err-line-clause-stops
@@ -122,10 +122,10 @@ returns-in_err-line-clause-stops g c =
     let inv = c.loop-line.invariant in
     let alike : c.forgets.result ≡ is_state c.args.kept.now = c.forgets.ensures ∙ inv.form in
     let goes_on : is_end (saying c.in_ok-said.said) ≡ false = sym (c.ends.ensures) ∙ c.if-ends.false in
-    let failed = g.Q.Source.has_failed c.next_line.new.source in
+    let failed = (g.Q.Source.state c.next_line.new.source).failed in
     let fine : failed ≡ false = search rules in
-    λ text known. rw (p.1, p.2) (unreplied (c.loop-line.invariant.so_far text known) (g.Q.Source.remaining c.next_line.new.source)
-    (g.O.Sink.contents c.reply.new.out) c.awaits.new.self c.reply.new.host failed (g.O.Sink.has_failed c.reply.new.out)
+    λ text known. rw (p.1, p.2) (unreplied (c.loop-line.invariant.so_far text known) (g.Q.Source.state c.next_line.new.source).remaining
+    (g.O.Sink.state c.reply.new.out).contents c.awaits.new.self c.reply.new.host failed (g.O.Sink.state c.reply.new.out).failed
     c.in_err-line.field-0.0 c.awaits.ensures.told
     (record { found = c.in_ok-next.ensures.ok; says = rw alike at c.in_ok-said.ensures.said; keeps = rw alike at c.in_ok-said.ensures.fault }) goes_on
     (rw inv.form at c.in_err-line.ensures.err) fine)
@@ -133,9 +133,9 @@ returns-in_err-line-clause-stops g c =
 pub returns-clause-stops : goal.returns-clause-stops
 returns-clause-stops g c =
     let inv = c.loop-line.invariant in
-    λ text known. stopped_between (inv.so_far text known) (g.Q.Source.remaining c.loop-line.questions)
-    (g.Q.Source.has_failed c.loop-line.questions) _ tt inv.readable
+    λ text known. stopped_between (inv.so_far text known) (g.Q.Source.state c.loop-line.questions).remaining
+    (g.Q.Source.state c.loop-line.questions).failed _ tt inv.readable
 
 pub returns-clause-questions : goal.returns-clause-questions
 returns-clause-questions g c =
-    λ _. inr (too_many (g.Q.Source.remaining c.args.questions.now) MAX_READS c.loop-line.invariant.so_far c.loop-line-test.false)
+    λ _. inr (too_many (g.Q.Source.state c.args.questions.now).remaining MAX_READS c.loop-line.invariant.so_far c.loop-line-test.false)

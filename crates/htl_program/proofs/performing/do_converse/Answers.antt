@@ -1,5 +1,7 @@
 -- A dialogue's end is said, and what its speaker heard is what the dialogue told.
-use Rattle.std.proofs.Common.{rules}
+use Rattle.std.proofs.Common.{◌∙◌, ap, rules}
+use Rattle.std.proofs.lemmas.Result.{IfErr-weaker}
+use Rattle.htl_program.specs.Asking.{before_dialogue}
 use Rattle.htl_program.proofs.Told.{run_told}
 use Rattle.htl_program.proofs.performing.do_converse.Goals as goal
 
@@ -7,10 +9,12 @@ pub returns : goal.returns
 returns g c = record {
   ended = c.converse-ended.result;
   listening = c.converse-ended.new.speaker;
-  questions = c.converse-ended.new.questions;
+  questions = g.W.Input.Source.state c.converse-ended.new.questions;
   asked = search rules;
-  is = rw c.questions-questions.ensures.bytes at c.converse-ended.ensures.conversed;
-  untouched = search rules;
+  is = rw c.questions-questions.ensures at c.converse-ended.ensures.conversed;
+  untouched = IfErr-weaker (before_dialogue c.converse-ended.result) _ _
+      (λ refused same. (ap g.W.Input.Source.state same.0 ∙ c.questions-questions.ensures, ap g.O.Sink.state same.1, same.2))
+      c.converse-ended.ensures.untouched;
   after = search rules;
   status_is = search rules;
   after_run = g.P.Person.heard c.ends.new.self;

@@ -10,30 +10,30 @@ returns-in-Err-clause-ended g c =
     let kept : length c.pick_from.new.inputs ≡ c.args.inputs.now.len = search rules in
     let back = take_front c.pick_from.new.inputs (drop (length c.pick_from.new.inputs) c.args.inputs.now.items) c.args.inputs.now.len kept in
     let same = c.from.ensures.0 in
+    let is = c.in-Err.ensures in
     rw (back, ← c.deref_mut.ensures.value) record {
-      ends = λ texts all. record {
-        cause = rw (same) (c.in-Err.ensures.cause texts all);
-        between = rw (same, c.from.ensures.1) (about_none c.args.job.now.setting.form texts c.in-Err.fault c.in-Err.ensures.no_case);
-        written = λ is. c.in-Err.ensures.write texts all (ap Err (sym same ∙ is));
+      outcome = λ texts all.
+          let why = is.outcome texts all in
+          record {
+            cause = rw same (why.0);
+            between = rw (same, c.from.ensures.1) (about_none c.args.job.now.setting.form texts c.in-Err.fault is.no_case);
+            written = λ told. why.1 (sym same ∙ told);
+          };
+      reading = rw (same, c.requires.bytes) (as_refused false _ _ _ is.reading);
+      sink = record {
+        untouched = rw same (is.sink.untouched);
+        failed = λ told. is.sink.failed (ap Err (sym same ∙ same_fault _ _ _ refl told));
+        fine = tt;
       };
-      reading = rw (same, c.requires.bytes) (as_refused false _ _ _ _ _ _ _ c.in-Err.ensures.reading);
-      untouched = rw (same) c.in-Err.ensures.untouched;
-      failed = λ is. c.in-Err.ensures.failed (ap Err (sym same ∙ same_fault _ _ _ refl is));
-      fine = tt;
     }
 
 pub returns-in-Ok-Ok-clause-ended : goal.returns-in-Ok-Ok-clause-ended
 returns-in-Ok-Ok-clause-ended g c =
     let kept : length c.pick_from.new.inputs ≡ c.args.inputs.now.len = search rules in
     let back = take_front c.pick_from.new.inputs (drop (length c.pick_from.new.inputs) c.args.inputs.now.items) c.args.inputs.now.len kept in
+    let is = c.in-Ok-Ok.ensures in
     rw (back, ← c.deref_mut.ensures.value) record {
-      ends = λ texts all. (
-        rw c.in-Ok-Ok.field-0-is at (c.in-Ok-Ok.ensures.ok texts all),
-        rw c.in-Ok-Ok.field-0-is at (c.in-Ok-Ok.ensures.reports texts all),
-      );
-      reading = rw (c.requires.bytes)
-          (as_answered false _ _ _ _ _ _ _ _ c.in-Ok-Ok.ensures.reading);
-      untouched = tt;
-      failed = λ is. absurd (no_fault _ _ is);
-      fine = c.in-Ok-Ok.ensures.fine;
+      outcome = λ texts all. rw c.in-Ok-Ok.field-0-is at (is.outcome texts all);
+      reading = rw (c.requires.bytes) (as_answered false _ _ _ _ is.reading);
+      sink = record { untouched = tt; failed = λ told. absurd (no_fault _ _ told); fine = is.sink.fine };
     }

@@ -13,8 +13,8 @@ returns-in-Some-clause-read g c = λ given start.
     let inv = c.loop-read.invariant in
     let text = c.loop-read.text.items in
     let piece = take c.in-Ok.count c.read.new.buffer in
-    let left = g.R.Source.remaining c.read.new.self in
-    let read = Consumes-trans given (g.R.Source.remaining c.loop-read.source) left text piece (inv.given given start) c.in-Ok.ensures.bytes.0 in
+    let left = (g.R.Source.state c.read.new.self).remaining in
+    let read = Consumes-trans given (g.R.Source.state c.loop-read.source).remaining left text piece (inv.given given start) c.in-Ok.ensures.bytes.0 in
     let here : position is_foreign piece ≡ Some c.in-Some.place = sym c.first_foreign.ensures ∙ c.in-Some.is in
     let long : c.len.result ≡ length text = grind (arith, common_steps) in
     let far : length (text ++ piece) ≤ c.len.result + c.in-Some.place + 65536 = grind (arith, common_steps) in
@@ -38,7 +38,7 @@ pub returns-in_err-extend_from_slice-clause-read : goal.returns-in_err-extend_fr
 returns-in_err-extend_from_slice-clause-read g c = λ given start.
     let inv = c.loop-read.invariant in
     let piece = take c.in-Ok.count c.read.new.buffer in
-    let inside : g.R.Source.has_ended c.read.new.self ≡ false = grind (arith, common_steps) in
+    let inside : (g.R.Source.state c.read.new.self).ended ≡ false = grind (arith, common_steps) in
     let some : 0 < length piece = grind (arith, common_steps) in
     record {
       ok = search rules;
@@ -49,7 +49,7 @@ returns-in_err-extend_from_slice-clause-read g c = λ given start.
         inside,
         c.loop-read.text.items ++ piece,
         omega (arith, some, length-append c.loop-read.text.items piece),
-        Consumes-trans given (g.R.Source.remaining c.loop-read.source) (g.R.Source.remaining c.read.new.self) c.loop-read.text.items piece
+        Consumes-trans given (g.R.Source.state c.loop-read.source).remaining (g.R.Source.state c.read.new.self).remaining c.loop-read.text.items piece
             (inv.given given start) c.in-Ok.ensures.bytes.0,
       );
       failed = search rules;
@@ -64,11 +64,10 @@ loop-read-preserved g c =
     let none : position is_foreign piece ≡ None = sym c.first_foreign.ensures ∙ c.in-None.is in
     let items = c.in_ok-extend_from_slice.ensures.items in
     record {
-      given = λ given start. rw items (Consumes-trans given (g.R.Source.remaining c.loop-read.source)
-          (g.R.Source.remaining c.read.new.self) text piece (inv.given given start) c.in-Ok.ensures.bytes.0);
+      given = λ given start. rw items (Consumes-trans given (g.R.Source.state c.loop-read.source).remaining
+          (g.R.Source.state c.read.new.self).remaining text piece (inv.given given start) c.in-Ok.ensures.bytes.0);
       clean = rw items (clean_more is_foreign text piece inv.clean none);
-      fine = grind (arith, common_steps);
-      inside = grind (arith, common_steps);
+      ready = search rules;
       each = grind (arith, common_steps);
       counted = grind (arith, common_steps);
       bounded = grind (arith, common_steps);

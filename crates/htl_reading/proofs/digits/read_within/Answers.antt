@@ -9,8 +9,8 @@ use Rattle.htl_reading.proofs.digits.read_within.Goals as goal
 
 pub returns-in-Some : goal.returns-in-Some
 returns-in-Some g c =
-    let given = g.R.Source.remaining c.args.source.now in
-    let left = g.R.Source.remaining c.read.new.self in
+    let given = (g.R.Source.state c.args.source.now).remaining in
+    let left = (g.R.Source.state c.read.new.self).remaining in
     let piece = take c.in-Ok.count c.read.new.buffer in
     let read : Consumes given left piece = c.in-Ok.ensures.bytes.0 in
     let here : position is_foreign piece ≡ Some c.in-Some.place = sym c.first_foreign.ensures ∙ c.in-Some.is in
@@ -33,8 +33,8 @@ returns-in-Some g c =
 
 pub returns : goal.returns
 returns g c =
-    let given = g.R.Source.remaining c.args.source.now in
-    let start : Consumes given (g.R.Source.remaining c.read.new.self) c.in_ok-text.text.items =
+    let given = (g.R.Source.state c.args.source.now).remaining in
+    let start : Consumes given (g.R.Source.state c.read.new.self).remaining c.in_ok-text.text.items =
     rw c.in_ok-text.ensures.items c.in-Ok.ensures.bytes.0 in
     let is = c.read_on.ensures.read given start in
     record {

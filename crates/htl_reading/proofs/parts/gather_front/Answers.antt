@@ -15,7 +15,7 @@ each g c i part outcome inside =
     rw (job.job_is part) (job.call.met)
 
 pub returns-clause-taken : goal.returns-clause-taken
-returns-clause-taken g c = in_order (g.R.Source.remaining c.args.source.now) c.in_ok-len.ensures.len c.in_ok-parts.ensures
+returns-clause-taken g c = in_order (g.R.Source.state c.args.source.now).remaining c.in_ok-len.ensures.len c.in_ok-parts.ensures
   where
     inside : c.in_ok-parts.end ≤ min c.in_ok-len.field-0 2305843009213693952
     inside = grind (arith, common_steps)

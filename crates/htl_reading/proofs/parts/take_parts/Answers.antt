@@ -7,26 +7,24 @@ use Rattle.htl_reading.proofs.parts.take_parts.Goals as goal
 
 pub returns-in_default : goal.returns-in_default
 returns-in_default g c =
-    none_skipped g.K.Keeper.gathers g.R.Source.has_failed g.R.Source.has_ended g.R.Source.good_reads g.R.Source.remaining c.args.source.now
-    c.args.keeper.now 0 (omega arith) c.requires.fresh c.requires.inside
+    none_skipped g.K.Keeper.gathers (g.R.Source.state c.args.source.now)
+    c.args.keeper.now 0 (omega arith) c.requires
 
 pub returns-in_err-append_all : goal.returns-in_err-append_all
 returns-in_err-append_all g c =
     let p = err_from_is_err_and c.from_residual.result c.from_residual.ensures.1 in
     let skipped = c.skip.ensures in
-    rw (p.1, p.2) (front_refused g.K.Keeper.gathers g.R.Source.has_failed g.R.Source.has_ended g.R.Source.good_reads g.R.Source.remaining
-    c.args.source.now c.args.keeper.now 0 (omega arith) c.skip.new.self c.in-Some.front.len c.in-Some.ensures.few skipped.fresh skipped.inside
-    skipped.counts skipped.bytes
-    (front_there g.K.Keeper.gathers c.args.keeper.now c.in-Some.front.keepers.items c.in-Some.front.len (g.R.Source.remaining c.args.source.now)
+    rw (p.1, p.2) (front_refused g.K.Keeper.gathers (g.R.Source.state c.args.source.now) c.args.keeper.now 0 (omega arith) (g.R.Source.state c.skip.new.self)
+    c.in-Some.front.len c.in-Some.ensures.few skipped
+    (front_there g.K.Keeper.gathers c.args.keeper.now c.in-Some.front.keepers.items c.in-Some.front.len (g.R.Source.state c.args.source.now).remaining
     c.in-Some.ensures.taken) _ _ c.in-Some.ensures.some)
 
 pub returns : goal.returns
 returns g c =
     let skipped = c.skip.ensures in
-    front_skipped g.K.Keeper.gathers g.R.Source.has_failed g.R.Source.has_ended g.R.Source.good_reads g.R.Source.remaining
-    c.args.source.now c.args.keeper.now 0 (omega arith) c.skip.new.self c.in-Some.front.len c.in-Some.ensures.few skipped.fresh skipped.inside
-    skipped.counts skipped.bytes
-    (front_there g.K.Keeper.gathers c.args.keeper.now c.in-Some.front.keepers.items c.in-Some.front.len (g.R.Source.remaining c.args.source.now)
+    front_skipped g.K.Keeper.gathers (g.R.Source.state c.args.source.now) c.args.keeper.now 0 (omega arith) (g.R.Source.state c.skip.new.self)
+    c.in-Some.front.len c.in-Some.ensures.few skipped
+    (front_there g.K.Keeper.gathers c.args.keeper.now c.in-Some.front.keepers.items c.in-Some.front.len (g.R.Source.state c.args.source.now).remaining
     c.in-Some.ensures.taken) _ c.in-Some.front.len (omega arith)
-    (IfSome_then (g.R.Source.remaining c.args.source.now) c.in-Some.ensures.taken
+    (IfSome_then (g.R.Source.state c.args.source.now).remaining c.in-Some.ensures.taken
     (λ bytes it. (it.0, c.in_ok-append_all.ensures (take c.in-Some.front.len bytes) it.1)))

@@ -10,8 +10,7 @@ returns-in_err-early_end g c = λ start given at.
     rw (p.1, p.2) (record {
       ok = tt;
       err = takes.err;
-      reading = read_ill c.args.most g.R.Source.has_failed g.R.Source.has_ended g.R.Source.good_reads g.R.Source.remaining
-          given c.args.source.now c.take_reads.new.source _ takes.reading;
+      reading = read_ill c.args.most given (g.R.Source.state c.args.source.now) (g.R.Source.state c.take_reads.new.source) _ takes.reading;
     })
 
 pub returns : goal.returns
@@ -20,6 +19,5 @@ returns g c = λ start given at.
     record {
       ok = takes.ok;
       err = tt;
-      reading = read_well c.args.most g.R.Source.has_failed g.R.Source.has_ended g.R.Source.good_reads g.R.Source.remaining
-          given c.args.source.now c.take_reads.new.source _ _ takes.reading;
+      reading = read_well c.args.most given (g.R.Source.state c.args.source.now) (g.R.Source.state c.take_reads.new.source) _ _ takes.reading;
     }

@@ -39,16 +39,16 @@ pub returns-then-count-eq0 : goal.returns-then-count-eq0
 returns-then-count-eq0 g c =
     let zero : c.in-Ok.count ≡ 0 = grind (arith, common_steps) in
     let few : c.in-Ok.count ≤ MAX_READ_LEN = grind (arith, common_steps) in
-    let fine : g.R.Source.has_failed c.read.new.self ≡ false = grind (arith, common_steps) in
-    let ended : g.R.Source.has_ended c.read.new.self ≡ true = grind (arith, common_steps) in
+    let fine : (g.R.Source.state c.read.new.self).failed ≡ false = grind (arith, common_steps) in
+    let ended : (g.R.Source.state c.read.new.self).ended ≡ true = grind (arith, common_steps) in
     let got = first_behind c.read.new.buffer c.in-Ok.count c.in-Ok.ensures.bound (grind (arith, common_steps)) c.in-Ok.ensures.bytes in
     let end = rw zero at got in
     λ start given at. record {
       ok = taken_to_end (taken_ended at end) None (end.end refl) (λ segments is rest. refl);
       err = tt;
       kept = tt;
-      reading = read_fine c.args.most g.R.Source.has_failed g.R.Source.has_ended g.R.Source.good_reads
-          g.R.Source.remaining given c.args.source.now c.read.new.self _ (λ is. cc is) fine ended (grind (arith, common_steps))
+      reading = read_fine c.args.most given (g.R.Source.state c.args.source.now) (g.R.Source.state c.read.new.self) _ (λ is. cc is) fine ended
+          (grind (arith, common_steps))
           (taken_and_more at MAX_READ_LEN got few);
     }
 
@@ -58,14 +58,14 @@ pub returns-in_err-len : goal.returns-in_err-len
 returns-in_err-len g c =
     let p = err_from_is_err_and c.from_residual.result c.from_residual.ensures.1 in
     let few : c.in-Ok.count ≤ MAX_READ_LEN = grind (arith, common_steps) in
-    let fine : g.R.Source.has_failed c.read.new.self ≡ false = grind (arith, common_steps) in
+    let fine : (g.R.Source.state c.read.new.self).failed ≡ false = grind (arith, common_steps) in
     let got = first_behind c.read.new.buffer c.in-Ok.count c.in-Ok.ensures.bound (grind (arith, common_steps)) c.in-Ok.ensures.bytes in
     λ start given at. rw (p.1, p.2) (record {
       ok = tt;
       err = taken_refused at _ _ got c.in_err-len.ensures.err;
       kept = taken_before_refused at _ got c.in_err-len.ensures.kept;
-      reading = read_fine c.args.most g.R.Source.has_failed g.R.Source.has_ended g.R.Source.good_reads
-          g.R.Source.remaining given c.args.source.now c.read.new.self _ (λ is. c.in_err-len.ensures.no_read (cc is)) fine tt (grind (arith, common_steps))
+      reading = read_fine c.args.most given (g.R.Source.state c.args.source.now) (g.R.Source.state c.read.new.self) _
+          (λ is. c.in_err-len.ensures.no_read (cc is)) fine tt (grind (arith, common_steps))
           (taken_and_more at MAX_READ_LEN got few);
     })
 
@@ -75,8 +75,8 @@ pub returns-in_err-new : goal.returns-in_err-new
 returns-in_err-new g c =
     let some : 0 < c.in-Ok.count = grind (arith, common_steps) in
     let p = err_from_is_err_and c.from_residual-in_err-new.result c.from_residual-in_err-new.ensures.1 in
-    let inside : g.R.Source.has_ended c.read.new.self ≡ false = grind (arith, common_steps) in
-    let fine : g.R.Source.has_failed c.read.new.self ≡ false = grind (arith, common_steps) in
+    let inside : (g.R.Source.state c.read.new.self).ended ≡ false = grind (arith, common_steps) in
+    let fine : (g.R.Source.state c.read.new.self).failed ≡ false = grind (arith, common_steps) in
     let got = first_behind c.read.new.buffer c.in-Ok.count c.in-Ok.ensures.bound (grind (arith, common_steps)) c.in-Ok.ensures.bytes in
     λ start given at.
     let taken = taken_more at c.in-Ok.count c.in_ok-len.len got some c.in_ok-len.ensures.ok c.in_ok-len.ensures.inside in
@@ -84,14 +84,14 @@ returns-in_err-new g c =
       ok = tt;
       err = taken_memory taken _ (omega arith) inside;
       kept = kept_nothing given;
-      reading = read_fine c.args.most g.R.Source.has_failed g.R.Source.has_ended g.R.Source.good_reads
-          g.R.Source.remaining given c.args.source.now c.read.new.self _ (λ is. cc is) fine tt (grind (arith, common_steps))
+      reading = read_fine c.args.most given (g.R.Source.state c.args.source.now) (g.R.Source.state c.read.new.self) _ (λ is. cc is) fine tt
+          (grind (arith, common_steps))
           (taken_to_fault taken MAX_READ_LEN);
     })
 
 began : (g : _) (c : goal.After-read_on g) (start : _) (given : Option (List ℕ))
-    → IsTakenTo g.K.Keeper.gathers start c.args.keeper.now given (g.R.Source.remaining c.args.source.now) [] c.args.offset 0
-    → IsTakenTo g.K.Keeper.gathers start c.take_front.new.keeper given (g.R.Source.remaining c.read.new.self) c.in_ok-new.field-0.held
+    → IsTakenTo g.K.Keeper.gathers start c.args.keeper.now given (g.R.Source.state c.args.source.now).remaining [] c.args.offset 0
+    → IsTakenTo g.K.Keeper.gathers start c.take_front.new.keeper given (g.R.Source.state c.read.new.self).remaining c.in_ok-new.field-0.held
     (c.args.offset + c.in_ok-len.len) 1
 began g c start given at =
     let some : 0 < c.in-Ok.count = grind (arith, common_steps) in

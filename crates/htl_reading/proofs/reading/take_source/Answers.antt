@@ -10,21 +10,21 @@ use Rattle.htl_reading.proofs.reading.take_source.Goals as goal
 pub returns-in_err-offset : goal.returns-in_err-offset
 returns-in_err-offset g c =
     let p = err_from_is_err_and c.from_residual.result c.from_residual.ensures.1 in
-    let given = g.R.Source.remaining c.args.source.now in
+    let given = (g.R.Source.state c.args.source.now).remaining in
     let none = taken_none g.K.Keeper.gathers c.args.keeper.now given in
     let skips = c.in_err-offset.ensures in
     rw (p.1, p.2) (record {
       ok = tt;
       err = skips.memory c.args.keeper.now given none;
       kept = kept_nothing given;
-      reading = read_fine MAX_READS g.R.Source.has_failed g.R.Source.has_ended g.R.Source.good_reads g.R.Source.remaining given
-          c.args.source.now c.take_rounds.new.source _ (λ is. cc is) skips.fresh tt (omega (arith, skips.counts))
+      reading = read_fine MAX_READS given
+          (g.R.Source.state c.args.source.now) (g.R.Source.state c.take_rounds.new.source) _ (λ is. cc is) skips.ready.fine tt (omega (arith, skips.counts))
           (skips.to_fault c.args.keeper.now given none);
     })
 
 pub returns : goal.returns
 returns g c =
-    let given = g.R.Source.remaining c.args.source.now in
+    let given = (g.R.Source.state c.args.source.now).remaining in
     let skips = c.in_ok-offset.ensures in
     let on = c.take_reads.ensures c.args.keeper.now given
     (skips.taken c.args.keeper.now given (taken_none g.K.Keeper.gathers c.args.keeper.now given)) in
@@ -32,6 +32,7 @@ returns g c =
       ok = on.ok;
       err = on.err;
       kept = on.kept;
-      reading = read_later MAX_READS g.R.Source.has_failed g.R.Source.has_ended g.R.Source.good_reads g.R.Source.remaining given
-          c.args.source.now c.take_reads.new.source c.take_rounds.new.source c.take_reads.result skips.counts on.reading;
+      reading = read_later MAX_READS given
+          (g.R.Source.state c.args.source.now) (g.R.Source.state c.take_reads.new.source) (g.R.Source.state c.take_rounds.new.source) c.take_reads.result
+          skips.counts on.reading;
     }

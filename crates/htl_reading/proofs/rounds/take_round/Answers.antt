@@ -8,26 +8,24 @@ use Rattle.htl_reading.proofs.rounds.take_round.Goals as goal
 
 pub returns-in_default-clause-skips : goal.returns-in_default-clause-skips
 returns-in_default-clause-skips g c =
-    none_skipped g.K.Keeper.gathers g.R.Source.has_failed g.R.Source.has_ended g.R.Source.good_reads g.R.Source.remaining c.args.source.now
-    c.args.keeper.now c.args.offset c.requires.few c.requires.fresh c.requires.inside
+    none_skipped g.K.Keeper.gathers (g.R.Source.state c.args.source.now)
+    c.args.keeper.now c.args.offset c.requires.few c.requires.ready
 
 pub returns-in_err-spare-clause-skips : goal.returns-in_err-spare-clause-skips
 returns-in_err-spare-clause-skips g c =
     let p = err_from_is_err_and c.from_residual.result c.from_residual.ensures.1 in
     let skipped = c.skip.ensures in
-    rw (p.1, p.2) (front_refused g.K.Keeper.gathers g.R.Source.has_failed g.R.Source.has_ended g.R.Source.good_reads g.R.Source.remaining
-    c.args.source.now c.args.keeper.now c.args.offset c.requires.few c.skip.new.self c.in-Some.front.len c.in-Some.ensures.few skipped.fresh
-    skipped.inside skipped.counts skipped.bytes
-    (front_there lists_of c.new-none.result c.in-Some.front.keepers.items c.in-Some.front.len (g.R.Source.remaining c.args.source.now)
+    rw (p.1, p.2) (front_refused g.K.Keeper.gathers (g.R.Source.state c.args.source.now) c.args.keeper.now c.args.offset c.requires.few
+    (g.R.Source.state c.skip.new.self) c.in-Some.front.len c.in-Some.ensures.few skipped
+    (front_there lists_of c.new-none.result c.in-Some.front.keepers.items c.in-Some.front.len (g.R.Source.state c.args.source.now).remaining
     c.in-Some.ensures.taken) _ _ c.in-Some.ensures.some)
 
 pub returns-clause-skips : goal.returns-clause-skips
 returns-clause-skips g c =
     let skipped = c.skip.ensures in
-    front_skipped g.K.Keeper.gathers g.R.Source.has_failed g.R.Source.has_ended g.R.Source.good_reads g.R.Source.remaining
-    c.args.source.now c.args.keeper.now c.args.offset c.requires.few c.skip.new.self c.in-Some.front.len c.in-Some.ensures.few skipped.fresh
-    skipped.inside skipped.counts skipped.bytes
-    (front_there lists_of c.new-none.result c.in-Some.front.keepers.items c.in-Some.front.len (g.R.Source.remaining c.args.source.now)
+    front_skipped g.K.Keeper.gathers (g.R.Source.state c.args.source.now) c.args.keeper.now c.args.offset c.requires.few (g.R.Source.state c.skip.new.self)
+    c.in-Some.front.len c.in-Some.ensures.few skipped
+    (front_there lists_of c.new-none.result c.in-Some.front.keepers.items c.in-Some.front.len (g.R.Source.state c.args.source.now).remaining
     c.in-Some.ensures.taken) _ _ refl
-    (IfSome_then (g.R.Source.remaining c.args.source.now) c.in-Some.ensures.taken
+    (IfSome_then (g.R.Source.state c.args.source.now).remaining c.in-Some.ensures.taken
     (λ bytes it. (it.0, c.in_ok-spare.ensures.taken c.new-none.result (take c.in-Some.front.len bytes) c.new-none.ensures it.1)))

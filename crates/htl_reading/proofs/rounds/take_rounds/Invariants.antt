@@ -7,8 +7,7 @@ use Rattle.htl_reading.proofs.rounds.take_rounds.Given as goal
 
 abbrev pub invariant-loop : goal.invariant-loop
 invariant-loop g l = record {
-  skips : Skips {E = NoMemory} g.K.Keeper.gathers g.R.Source.has_failed g.R.Source.has_ended g.R.Source.good_reads g.R.Source.remaining
-      l.fn.source l.source l.fn.keeper l.keeper 0 (skipped l.offset);
+  skips : Skips {E = NoMemory} g.K.Keeper.gathers (g.R.Source.state l.fn.source) (g.R.Source.state l.source) l.fn.keeper l.keeper 0 (skipped l.offset);
   few : l.offset ≤ 2 ^ 61;
   spare : AreEmpty l.spare.items;
 }

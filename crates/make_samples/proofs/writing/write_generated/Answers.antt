@@ -11,8 +11,8 @@ loop-number-preserved g c =
     let p = c.args.generated.now.processors in
     let n = c.loop-number.number in
     record {
-      written = rw (turns-more p n) (keys-both trace (turns p n) (turn p n) (g.W.Sink.contents c.args.out.now)
-          (g.W.Sink.contents c.loop-number.out) (g.W.Sink.contents c.write_turn.new.out) c.loop-number.invariant.written
+      written = rw (turns-more p n) (keys-both trace (turns p n) (turn p n) (g.W.Sink.state c.args.out.now).contents
+          (g.W.Sink.state c.loop-number.out).contents (g.W.Sink.state c.write_turn.new.out).contents c.loop-number.invariant.written
           c.in_ok-write_turn.ensures.ok);
       fine = c.in_ok-write_turn.ensures.fine;
     }

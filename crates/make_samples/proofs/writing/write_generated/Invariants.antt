@@ -7,6 +7,6 @@ use Rattle.make_samples.proofs.writing.write_generated.Given as goal
 abbrev pub invariant-loop-number : goal.invariant-loop-number
 invariant-loop-number g l = record {
   written : WritesKeys (record TRACE { processors = l.generated.processors }) (turns l.generated.processors l.number)
-      (g.W.Sink.contents l.initial.out) (g.W.Sink.contents l.out);
-  fine : g.W.Sink.has_failed l.out ≡ false;
+      (g.W.Sink.state l.initial.out).contents (g.W.Sink.state l.out).contents;
+  fine : (g.W.Sink.state l.out).failed ≡ false;
 }

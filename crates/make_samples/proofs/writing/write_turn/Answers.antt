@@ -11,10 +11,10 @@ loop-processor-preserved g c =
     let trace : Trace = record TRACE { processors = c.args.generated.now.processors } in
     let p = c.loop-processor.processor in
     let n = c.args.number in
-    let mid = g.W.Sink.contents c.loop-processor.out in
-    let new = g.W.Sink.contents c.write_segment.new.out in
+    let mid = (g.W.Sink.state c.loop-processor.out).contents in
+    let new = (g.W.Sink.state c.write_segment.new.out).contents in
     record {
-      written = rw (turn-more p n) (keys-both trace (turn p n) ((p, n) ∷ []) (g.W.Sink.contents c.args.out.now) mid new
+      written = rw (turn-more p n) (keys-both trace (turn p n) ((p, n) ∷ []) (g.W.Sink.state c.args.out.now).contents mid new
           c.loop-processor.invariant.written
           (keys-one trace c.in_ok-segment.segment p n mid new c.in_ok-segment.ensures.key.0 c.in_ok-segment.ensures.key.1
           c.in_ok-write_segment.ensures.ok));

@@ -5,6 +5,6 @@ use Rattle.make_samples.proofs.writing.write_turn.Given as goal
 
 abbrev pub invariant-loop-processor : goal.invariant-loop-processor
 invariant-loop-processor g l = record {
-  written : WritesKeys l.trace (turn l.processor l.number) (g.W.Sink.contents l.initial.out) (g.W.Sink.contents l.out);
-  fine : g.W.Sink.has_failed l.out ≡ false;
+  written : WritesKeys l.trace (turn l.processor l.number) (g.W.Sink.state l.initial.out).contents (g.W.Sink.state l.out).contents;
+  fine : (g.W.Sink.state l.out).failed ≡ false;
 }

@@ -22,7 +22,7 @@ invariant_of-self-in-Ok-3 c =
     let mine : Follows v c.self.inside.analyst None = subst (λ h. Follows v c.self.inside.analyst h) none c.self.invariant.2 in
     let its : Follows u c.other.inside.analyst None = subst (λ h. Follows u c.other.inside.analyst h) none' c.other.invariant.2 in
     let now : Follows (joined v u) c.absorb.new.self None =
-    adopts v u c.self.inside.analyst c.other.inside.analyst c.absorb.new.self mine its same c.in-Ok.ensures.right c.in-Ok.ensures.keys in
+    adopts v u c.self.inside.analyst c.other.inside.analyst c.absorb.new.self mine its same c.in-Ok.ensures.merges.right c.in-Ok.ensures.merges.keys in
     let parts : c.self.inside.parts + c.other.inside.parts ≡ (known_of c.absorb-in-Ok.new.pass).parts =
     (λ i. c.self.invariant.1 i + c.other.invariant.1 i) ∙ sym (ap (λ (w : Known). w.parts) is) in (
       c.absorb-in-Ok.ensures.queue.2 ∙ c.self.invariant.0,
@@ -37,5 +37,5 @@ unreachable-requires c =
     let same : u.trace ≡ v.trace = search rules in
     let theirs : IsRight c.other.inside.analyst v.trace =
     subst (λ t. IsRight c.other.inside.analyst t) same c.other.invariant.2.right in
-    let told = c.in-Err.ensures.lawful v.trace c.self.invariant.2.right theirs in
+    let told = c.in-Err.ensures.merges.lawful v.trace c.self.invariant.2.right theirs in
     search (rules, told)

@@ -4,5 +4,5 @@ use Rattle.htl_program.proofs.files.Files.opened.Goals as goal
 
 pub returns : goal.returns
 returns g c =
-    rw (← by_bytes (g.W.World.holds c.args.self.now.world.now) c.args.names.now, ← by_bytes (g.W.World.is_absent c.args.self.now.world.now) c.args.names.now)
-    c.open_files.ensures
+    let world = g.W.World.known c.args.self.now.world.now in
+    rw (← by_bytes world.holds c.args.names.now, ← by_bytes world.is_absent c.args.names.now) c.open_files.ensures

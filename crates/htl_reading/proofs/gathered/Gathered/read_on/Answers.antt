@@ -20,8 +20,8 @@ returns-in_err-between-clause-taken g c =
       ok = tt;
       err = taken_memory (inv.taken start given at) _ some inv.inside;
       kept = kept_nothing given;
-      reading = read_fine c.args.most g.R.Source.has_failed g.R.Source.has_ended g.R.Source.good_reads
-          g.R.Source.remaining given c.args.source.now c.loop-reads.source _ (λ is. cc is) inv.fine tt (grind (arith, common_steps))
+      reading = read_fine c.args.most given (g.R.Source.state c.args.source.now) (g.R.Source.state c.loop-reads.source) _ (λ is. cc is) inv.fine tt
+          (grind (arith, common_steps))
           (taken_to_fault (inv.taken start given at) MAX_READ_LEN);
     })
 
@@ -34,8 +34,8 @@ returns-in_err-make_room-clause-taken g c =
       ok = tt;
       err = taken_memory (inv.taken start given at) _ some inv.inside;
       kept = kept_nothing given;
-      reading = read_fine c.args.most g.R.Source.has_failed g.R.Source.has_ended g.R.Source.good_reads
-          g.R.Source.remaining given c.args.source.now c.loop-reads.source _ (λ is. cc is) inv.fine tt (grind (arith, common_steps))
+      reading = read_fine c.args.most given (g.R.Source.state c.args.source.now) (g.R.Source.state c.loop-reads.source) _ (λ is. cc is) inv.fine tt
+          (grind (arith, common_steps))
           (taken_to_fault (inv.taken start given at) MAX_READ_LEN);
     })
 
@@ -65,15 +65,15 @@ returns-then-count-eq0-clause-taken g c =
     let zero : c.in-Ok.count ≡ 0 = grind (arith, common_steps) in
     let behind = rw (c.make_room.ensures.held) at c.in-Ok.ensures.ok in
     let end = rw zero at behind in
-    let fine : g.R.Source.has_failed c.read.new.source ≡ false = grind (arith, common_steps) in
-    let ended : g.R.Source.has_ended c.read.new.source ≡ true = grind (arith, common_steps) in
+    let fine : (g.R.Source.state c.read.new.source).failed ≡ false = grind (arith, common_steps) in
+    let ended : (g.R.Source.state c.read.new.source).ended ≡ true = grind (arith, common_steps) in
     λ start given at. record {
       ok = taken_to_end (taken_ended (taken_still (c.loop-reads.invariant.taken start given at) still) end) c.early_end.result (end.end refl)
           (rw c.held.ensures at c.early_end.ensures);
       err = tt;
       kept = tt;
-      reading = read_fine c.args.most g.R.Source.has_failed g.R.Source.has_ended g.R.Source.good_reads
-          g.R.Source.remaining given c.args.source.now c.read.new.source _ (λ is. cc is) fine ended (grind (arith, common_steps))
+      reading = read_fine c.args.most given (g.R.Source.state c.args.source.now) (g.R.Source.state c.read.new.source) _ (λ is. cc is) fine ended
+          (grind (arith, common_steps))
           (taken_and_more (c.loop-reads.invariant.taken start given at) MAX_READ_LEN behind c.in-Ok.ensures.bound);
     }
 
@@ -82,13 +82,13 @@ returns-in_err-take-clause-taken g c =
     let still = c.requires.leaves _ _ _ c.in_ok-between.ensures in
     let p = err_from_is_err_and c.from_residual-in_err-take.result c.from_residual-in_err-take.ensures.1 in
     let behind = rw (c.make_room.ensures.held) at c.in-Ok.ensures.ok in
-    let fine : g.R.Source.has_failed c.read.new.source ≡ false = grind (arith, common_steps) in
+    let fine : (g.R.Source.state c.read.new.source).failed ≡ false = grind (arith, common_steps) in
     λ start given at. rw (p.1, p.2) (record {
       ok = tt;
       err = taken_refused (c.loop-reads.invariant.taken start given at) _ _ behind c.in_err-take.ensures.err;
       kept = taken_before_refused (taken_still (c.loop-reads.invariant.taken start given at) still) _ behind c.in_err-take.ensures.kept;
-      reading = read_fine c.args.most g.R.Source.has_failed g.R.Source.has_ended g.R.Source.good_reads
-          g.R.Source.remaining given c.args.source.now c.read.new.source _ (λ is. c.in_err-take.ensures.no_read (cc is)) fine tt (grind (arith, common_steps))
+      reading = read_fine c.args.most given (g.R.Source.state c.args.source.now) (g.R.Source.state c.read.new.source) _
+          (λ is. c.in_err-take.ensures.no_read (cc is)) fine tt (grind (arith, common_steps))
           (taken_and_more (c.loop-reads.invariant.taken start given at) MAX_READ_LEN behind c.in-Ok.ensures.bound);
     })
 

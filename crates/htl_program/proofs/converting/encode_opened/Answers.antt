@@ -1,0 +1,10 @@
+-- What is said of the slice is said of the opened inputs.
+use Rattle.std.proofs.Common.{◌≡◌, drop, length, rules}
+use Rattle.htl_lemmas.proofs.Lists.{take_front}
+use Rattle.htl_program.proofs.converting.encode_opened.Goals as goal
+
+pub returns-clause-encoded : goal.returns-clause-encoded
+returns-clause-encoded g c =
+    let kept : length c.encode_from.new.inputs ≡ c.args.inputs.now.len = search rules in
+    let back = take_front c.encode_from.new.inputs (drop (length c.encode_from.new.inputs) c.args.inputs.now.items) c.args.inputs.now.len kept in
+    rw (back, ← c.deref_mut.ensures.value) c.encode_from.ensures

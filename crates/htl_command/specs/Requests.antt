@@ -25,10 +25,10 @@ use Rattle.htl_command.specs.declared.question.Format.{Format}
 use Rattle.htl_command.specs.declared.question.Format.TheVariants.{Plain, Json, Folded}
 use Rattle.htl_command.specs.declared.question.InputForm.{InputForm}
 use Rattle.htl_command.specs.declared.question.Job.{Job}
-use Rattle.htl_command.specs.declared.question.Question.{Question}
+use Rattle.htl_question.specs.declared.question.Question.{Question}
 use Rattle.htl_command.specs.declared.question.Setting.{Setting}
-use Rattle.htl_command.specs.declared.question.Question.TheVariants.{Summary, Outstanding, Diff, Tags, Bad, Leaks, Stacks, Trace, Growth}
-use Rattle.htl_command.specs.declared.question.Since.TheVariants.{Snapshot}
+use Rattle.htl_question.specs.declared.question.Question.TheVariants.{Summary, Outstanding, Diff, Tags, Bad, Leaks, Stacks, Trace, Growth}
+use Rattle.htl_question.specs.declared.question.Since.TheVariants.{Snapshot}
 
 -- the text that was given for an option
 abbrev pub given : CommandOption → List Row → Option Text

@@ -21,9 +21,10 @@ use crate::matching::matches;
 use crate::names::{CommandFlag, CommandName, QuestionName};
 use crate::no_job::NoJob;
 use crate::printed::PrintedFault;
-use crate::question::{Format, InputForm, Job, Question, Setting};
+use crate::question::{Format, InputForm, Job, Setting};
 use crate::reading::{input_form, job, printed_fault, setting};
 use clap::ArgMatches;
+use htl_question::Question;
 use std::alloc::{AllocError, Global};
 
 /// What a command line asks for.

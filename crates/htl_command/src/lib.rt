@@ -34,6 +34,7 @@ mod values;
 pub use code::Code;
 pub use command::{Command, CommandLine, Dialogue, Run, parse};
 pub use fault::ParseFault;
+pub use htl_question::{Question, Since};
 pub use line::parse_question;
 pub use printed::{Parts, PrintedFault};
-pub use question::{Format, InputForm, Job, Moment, Question, Setting, Since};
+pub use question::{Format, InputForm, Job, Moment, Setting};

@@ -12,9 +12,10 @@ ghost use Rattle.htl_command.specs.declared.names.CommandOption.TheVariants as o
 use crate::entries::given;
 use crate::names::CommandOption;
 use crate::no_job::InvalidValue;
-use crate::question::{Moment, Since};
+use crate::question::Moment;
 use crate::values;
 use clap::ArgMatches;
+use htl_question::Since;
 
 /// At how many moments open handles are counted where no option says so.
 const DEFAULT_POINTS: u32 = 20;

@@ -16,8 +16,9 @@ use crate::names::{CommandFlag, CommandOption, QuestionName};
 use crate::no_job::{InvalidValue, NoJob};
 use crate::options;
 use crate::printed::PrintedFault;
-use crate::question::{Format, InputForm, Job, Question, Setting, Since};
+use crate::question::{Format, InputForm, Job, Setting};
 use clap::ArgMatches;
+use htl_question::{Question, Since};
 
 /// The job of the question with these entries. Where several values break their rules, the first is
 /// reported: those of the question's own options, of `--workers`, `--until` and `--top`, in this order.

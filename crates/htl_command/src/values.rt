@@ -4,8 +4,9 @@ ghost use Rattle.htl_command.specs.Values.{count_in, handle_in, moment_in, numbe
 ghost use Rattle.htl_command.specs.Values.{points_in, process_in, sequence_in, since_in, tag_in};
 ghost use Rattle.htl_command.specs.Values.{workers_in};
 
-use crate::question::{Moment, Since};
+use crate::question::Moment;
 use htl_numbers::{decimal, hexadecimal};
+use htl_question::Since;
 
 /// How many threads can be asked for at most.
 const MOST_WORKERS: u32 = 8;

@@ -1,0 +1,90 @@
+-- Which events are of what a question is about, and which are wanted for it.
+use Rattle.std.proofs.Common.{◌≡◌, ◌⊎◌, ◌∙◌, ℕ, Bool, true, false, Option, Some, None, inl, inr, refl, sym, ap, subst}
+use Rattle.std.specs.Prelude.{◌==◌, ◌&&◌, if◌then◌else◌}
+use Rattle.std.proofs.lemmas.Bool.{and_parts, cases_Bool}
+use Rattle.htl_event.specs.Events.{Event}
+use Rattle.htl_event.specs.Interests.{tracks_handles, wants, without_stack}
+use Rattle.htl_event.specs.declared.interest.Interest.{Interest}
+use Rattle.htl_event.specs.declared.interest.Interest.TheVariants as interests
+use Rattle.htl_question.specs.Subjects.{interest_in, is_about, is_of, names_handle, names_object}
+use Rattle.htl_question.specs.Questions.{Serves, is_of_open_handles, narrowed, subject_of, widest}
+use Rattle.htl_question.specs.declared.question.Question.{Question}
+use Rattle.htl_question.specs.declared.question.Question.TheVariants as questions
+use Rattle.htl_question.specs.declared.subject.Subject.{Subject}
+use Rattle.htl_question.specs.declared.subject.Subject.TheVariants.{Process, Object, Tag, Handle}
+
+-- a subject doesn't see stacks
+pub unseen_stack : (subject : Option Subject) (e : Event) → is_about subject (without_stack e) ≡ is_about subject e
+unseen_stack None e = refl
+unseen_stack (Some (Process p)) e = refl
+unseen_stack (Some (Object o)) e = refl
+unseen_stack (Some (Tag o tag)) e = refl
+unseen_stack (Some (Handle p handle)) e = refl
+
+-- an event of the subject is among all that tell of it
+pub about_is_wanted : (subject : Option Subject) (e : Event) → is_about subject e ≡ true → wants (interest_in subject) e ≡ true
+about_is_wanted None e is = refl
+about_is_wanted (Some (Process p)) e is = is
+about_is_wanted (Some (Object o)) e is = (and_parts (names_object e.kind) _ is).1
+about_is_wanted (Some (Tag o tag)) e is = (and_parts _ _ (and_parts (names_object e.kind) _ is).1).0
+about_is_wanted (Some (Handle p handle)) e is = (and_parts _ _ (and_parts (names_handle e.kind) _ is).1).0
+
+-- ---- where only open handles are wanted
+
+-- a question about open handles is about a process
+of_process : (question : Question) → is_of_open_handles question ≡ true → (p : ℕ) × (subject_of question ≡ Some (Process p))
+of_process (questions.Outstanding p) is = (p, refl)
+of_process (questions.Diff p since) is = (p, refl)
+of_process (questions.Leaks p since least) is = (p, refl)
+of_process (questions.Growth p count) is = (p, refl)
+of_process question is = absurd (cc is)
+
+-- all that tells of a subject is more than open handles
+never_open : (subject : Option Subject) (p : ℕ) → interest_in subject ≡ interests.OpenHandles p → ⊥
+never_open None p is = cc is
+never_open (Some (Process q)) p is = cc is
+never_open (Some (Object o)) p is = cc is
+never_open (Some (Tag o tag)) p is = cc is
+never_open (Some (Handle q handle)) p is = cc is
+
+-- the events that a question needs, by whether it is of open handles
+served : (question : Question) (is : Bool) → is_of_open_handles question ≡ is → (interest : Interest) → Serves question interest
+    → (interest ≡ (if is then narrowed (widest question) else widest question)) ⊎ (interest ≡ widest question)
+served question is same interest (inl asked) = inl (rw same at asked)
+served question is same interest (inr wider) = inr wider
+
+-- the question is about each event that is wanted for open handles
+pub wanted_is_about : (question : Question) (interest : Interest) (p : ℕ) (e : Event) → Serves question interest
+    → interest ≡ interests.OpenHandles p → wants interest e ≡ true → is_about (subject_of question) e ≡ true
+wanted_is_about question interest p e serves opens wants_it =
+    elim (cases_Bool (is_of_open_handles question)) [
+      | inl of ↦
+          let subject = of_process question of in
+          let owner = (and_parts (e.process == p) (tracks_handles e.kind) (rw opens at wants_it)).0 in
+          elim (served question true of interest serves) [
+            | inl asked ↦
+                let same : interests.OpenHandles (subject.0) ≡ interests.OpenHandles p =
+                sym (ap (λ (s : Option Subject). narrowed (interest_in s)) subject.1) ∙ sym asked ∙ opens in
+                let process : subject.0 ≡ p = cc same in
+                rw (subject.1, process) owner
+            | inr wider ↦ absurd (never_open (subject_of question) p (sym wider ∙ opens))
+          ]
+      | inr other ↦ elim (served question false other interest serves) [
+        | inl asked ↦ absurd (never_open (subject_of question) p (sym asked ∙ opens))
+        | inr wider ↦ absurd (never_open (subject_of question) p (sym wider ∙ opens))
+      ]
+    ]
+
+-- where not only open handles are wanted, all events are of what the question is about
+pub all_of_subject : (question : Question) (interest : Interest) → Serves question interest
+    → ((p : ℕ) → interest ≡ interests.OpenHandles p → ⊥) → interest ≡ widest question
+all_of_subject question interest serves never =
+    elim (cases_Bool (is_of_open_handles question)) [
+      | inl of ↦
+          let subject = of_process question of in
+          elim (served question true of interest serves) [
+            | inl asked ↦ absurd (never (subject.0) (asked ∙ ap (λ (s : Option Subject). narrowed (interest_in s)) subject.1))
+            | inr wider ↦ wider
+          ]
+      | inr other ↦ elim (served question false other interest serves) [ inl asked ↦ asked | inr wider ↦ wider ]
+    ]

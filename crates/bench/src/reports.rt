@@ -6,7 +6,8 @@ use crate::stopwatch::Stopwatch;
 use anyhow::Result;
 use htl_event::{Kind, NoMemory, SharedEvent, SharedStack};
 use htl_json::json_lines;
-use htl_report::{Answer, folded, text};
+use htl_question::{Answer, Question, Rows};
+use htl_report::{folded, text};
 use htl_symbols::Symbols;
 use std::alloc::{AllocError, Global};
 
@@ -27,9 +28,10 @@ pub fn measure(watch: &mut Stopwatch<'_>, size: u32) -> Result<()> {
 /// Prints an answer as text and as JSON.
 fn measure_answer(watch: &mut Stopwatch<'_>, symbols: &Symbols, size: u32) -> Result<()> {
     let alloc = watch.alloc();
-    let answer = Answer::Outstanding {
-        process: 4,
-        rows: rows(alloc, size)?,
+    let answer = Answer {
+        question: Question::Outstanding { process: 4 },
+        since: None,
+        rows: Rows::Opens(rows(alloc, size)?),
     };
     watch.restart();
     watch.lap_list("bytes of text", text(alloc, &answer, symbols, None, None));

@@ -1,14 +1,22 @@
 -- Lines that are added one after another are those of the values of an answer.
-use Rattle.std.proofs.Common.{◌≡◌, ◌≤◌, ◌<◌, ◌+◌, ℕ, List, [], ◌∷◌, ◌++◌, append-nil, append_assoc, ap, get_or, length, map, subst, sym, take, ◌∙◌}
+use Rattle.std.proofs.Common.{◌≡◌, ◌≤◌, ◌<◌, ◌+◌, ℕ, List, Option, [], ◌∷◌, ◌++◌, append-nil, append_assoc, ap, get_or, length, map, subst, sym, take, ◌∙◌}
 use Rattle.std.proofs.lemmas.List.{take_all, take_more}
 use Rattle.std.proofs.lemmas.Grind.{flat_map-append}
 use Rattle.std.proofs.lemmas.List.Elements.{All-append, All-cons, All-map, All-nil}
 use Rattle.std.proofs.lemmas.List.Folds.{flat_map-map}
 use Rattle.std.specs.List.{flat_map}
 use Rattle.json.specs.Json.{Json}
-use Rattle.htl_json.specs.Lines.{IsReadBack, json_line}
+use Rattle.htl_json.specs.Heads.{head}
+use Rattle.htl_json.specs.Lines.{IsReadBack, json_line, list_values, summary_values, values_of, values_with}
 use Rattle.htl_json.specs.Writing.{AddsLine, AddsLines}
 use Rattle.htl_json.specs.declared.lines.Lines.{Lines}
+use Rattle.htl_question.specs.Rows.{Found, Listed, summary}
+use Rattle.htl_question.specs.declared.answer.Totals.{Totals}
+use Rattle.htl_event.specs.declared.summary.ObjectRow.{ObjectRow}
+use Rattle.htl_event.specs.declared.summary.ProcessRow.{ProcessRow}
+use Rattle.htl_taken.specs.declared.gap.Gap.{Gap}
+use Rattle.htl_symbols.specs.Ranges.{Range}
+use Rattle.htl_report.specs.Rows.{first_rows}
 
 -- the new lines are the old ones, and then those of these values
 abbrev pub AddsValues : Lines → Lines → List Json → Type 0
@@ -62,7 +70,28 @@ pub rows_as_values : {R : Type 0} (value_of : R → Json) (rows : List R) (a b :
 rows_as_values value_of rows a b h =
     (All-map IsReadBack value_of rows h.0, h.1, h.2 ∙ ap (λ text. a.writer.before ++ text) (sym (flat_map-map json_line value_of rows)))
 
--- the first line and then those of the rows
-pub answer_added : {R : Type 0} (value_of : R → Json) (v : Json) (rows : List R) (a b c : Lines) → AddsLine a b v → AddsLines value_of b c rows
-    → AddsValues a c ((v ∷ []) ++ map value_of rows)
-answer_added value_of v rows a b c h k = values_then (v ∷ []) (map value_of rows) a b c (line_alone v a b h) (rows_as_values value_of rows b c k)
+-- values with the rows that the answer has are the answer's
+with_rows : (symbols : List Range) (until top : Option ℕ) (answer : Found) (rows : Listed) (old new : Lines) → answer.rows ≡ rows
+    → AddsValues old new (values_with symbols until top answer rows) → AddsValues old new (values_of symbols until top answer)
+with_rows symbols until top answer rows old new are h =
+    subst (λ (r : Listed). AddsValues old new (values_with symbols until top answer r)) (sym are) h
+
+-- the first line and then those of the rows that are shown
+pub list_added : {R : Type 0} (value_of : R → Json) (symbols : List Range) (until top : Option ℕ) (answer : Found) (rows : Listed)
+    (items shown : List R) (count : ℕ) (a b c : Lines) → answer.rows ≡ rows
+    → values_with symbols until top answer rows ≡ list_values value_of answer until top items → count ≡ length items
+    → shown ≡ first_rows top items → AddsLine a b (head answer.question answer.since until count) → AddsLines value_of b c shown
+    → AddsValues a c (values_of symbols until top answer)
+list_added value_of symbols until top answer rows items shown count a b c are form all first h k =
+    let v = head answer.question answer.since until (length items) in
+    with_rows symbols until top answer rows a c are (subst (AddsValues a c) (sym form)
+    (values_then (v ∷ []) (map value_of (first_rows top items)) a b c
+    (line_alone v a b (subst (λ n. AddsLine a b (head answer.question answer.since until n)) all h))
+    (rows_as_values value_of (first_rows top items) b c (subst (λ xs. AddsLines value_of b c xs) first k))))
+
+-- the lines of a summary
+pub summary_added : (symbols : List Range) (until top : Option ℕ) (answer : Found) (a c : Lines) {totals : Totals} {gaps : List Gap}
+    {processes : List ProcessRow} {objects : List ObjectRow} → answer.rows ≡ summary totals gaps processes objects
+    → AddsValues a c (summary_values answer until top totals gaps processes objects) → AddsValues a c (values_of symbols until top answer)
+summary_added symbols until top answer a c {totals} {gaps} {processes} {objects} are h =
+    with_rows symbols until top answer (summary totals gaps processes objects) a c are h

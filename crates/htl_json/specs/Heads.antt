@@ -2,58 +2,63 @@
 use Rattle.std.specs.Prelude.{◌++◌, ◌∷◌, [], ℕ, List, Option, Some, None, codes}
 use Rattle.htl_event.specs.Slots.{base_of}
 use Rattle.json.specs.Json.{Json, string}
+use Rattle.htl_question.specs.Questions.{subject_of}
+use Rattle.htl_question.specs.Words.{word_of}
+use Rattle.htl_question.specs.declared.answer.Totals.{Totals}
+use Rattle.htl_question.specs.declared.question.Question.{Question}
+use Rattle.htl_question.specs.declared.subject.Subject.{Subject}
+use Rattle.htl_question.specs.declared.subject.Subject.TheVariants.{Process, Object, Tag, Handle}
 use Rattle.htl_json.specs.Records.{Field, quantity, record_of, shown_address, shown_handle, tag_fields}
-use Rattle.htl_report.specs.declared.summary.Totals.{Totals}
 
--- the question, and the process that it is about
-unfoldable pub process_fields : List ℕ → ℕ → List Field
-process_fields word process = (codes "answer", string word) ∷ (codes "process", quantity process) ∷ []
+-- ---- what was asked
 
-unfoldable pub object_fields : List ℕ → ℕ → List Field
-object_fields word object = (codes "answer", string word) ∷ (codes "object", shown_address object) ∷ []
+unfoldable pub word_field : Question → List Field
+word_field question = (codes "answer", string (word_of question)) ∷ []
 
--- how many rows the whole answer has
-unfoldable pub count_field : ℕ → List Field
-count_field count = (codes "count", quantity count) ∷ []
+unfoldable pub process_field : ℕ → List Field
+process_field process = (codes "process", quantity process) ∷ []
 
--- the sequence after which handles were opened, where one was given
+unfoldable pub object_field : ℕ → List Field
+object_field object = (codes "object", shown_address object) ∷ []
+
+-- the base handle
+unfoldable pub handle_field : ℕ → List Field
+handle_field handle = (codes "handle", shown_handle (base_of handle)) ∷ []
+
+abbrev pub subject_fields : Option Subject → List Field
+subject_fields None = []
+subject_fields (Some (Process process)) = process_field process
+subject_fields (Some (Object object)) = object_field object
+subject_fields (Some (Tag object tag)) = object_field object ++ tag_fields tag
+subject_fields (Some (Handle process handle)) = process_field process ++ handle_field handle
+
+-- the sequence after which handles count, where it was asked since when
 unfoldable pub since_fields : Option ℕ → List Field
 since_fields None = []
 since_fields (Some since) = (codes "since", quantity since) ∷ []
+
+abbrev pub question_fields : Question → Option ℕ → List Field
+question_fields question since = word_field question ++ (subject_fields (subject_of question) ++ since_fields since)
+
+-- ---- the numbers
 
 -- the moment up to which events count, where one was given
 unfoldable pub until_fields : Option ℕ → List Field
 until_fields None = []
 until_fields (Some moment) = (codes "until", quantity moment) ∷ []
 
--- the end of a first line: the moment, and the number of rows
-abbrev pub end_fields : Option ℕ → ℕ → List Field
-end_fields until count = until_fields until ++ count_field count
+-- how many rows the whole answer has
+unfoldable pub count_field : ℕ → List Field
+count_field count = (codes "count", quantity count) ∷ []
 
-unfoldable pub handle_field : ℕ → List Field
-handle_field handle = (codes "handle", shown_handle handle) ∷ []
-
-abbrev pub process_head : List ℕ → ℕ → Option ℕ → Option ℕ → ℕ → Json
-process_head word process since until count =
-    record_of (process_fields word process ++ (since_fields since ++ end_fields until count))
-
--- the first line of a listing, with the base handle
-abbrev pub trace_head : ℕ → ℕ → Option ℕ → ℕ → Json
-trace_head process handle until count =
-    record_of (process_fields (codes "trace") process ++ (handle_field (base_of handle) ++ end_fields until count))
-
-abbrev pub tags_head : ℕ → Option ℕ → ℕ → Json
-tags_head object until count = record_of (object_fields (codes "tags") object ++ end_fields until count)
-
-abbrev pub stacks_head : ℕ → List ℕ → Option ℕ → ℕ → Json
-stacks_head object tag until count =
-    record_of (object_fields (codes "stacks") object ++ (tag_fields tag ++ end_fields until count))
+abbrev pub head : Question → Option ℕ → Option ℕ → ℕ → Json
+head question since until count = record_of (question_fields question since ++ (until_fields until ++ count_field count))
 
 -- the totals: how much was traced, and up to which moment nothing is missing
 unfoldable pub totals_fields : Totals → List Field
 totals_fields t =
-    (codes "answer", string (codes "summary")) ∷ (codes "processors", quantity t.processors) ∷ (codes "segments", quantity t.segments)
-    ∷ (codes "events", quantity t.events) ∷ (codes "complete_to", quantity t.complete_to) ∷ []
+    (codes "processors", quantity t.processors) ∷ (codes "segments", quantity t.segments) ∷ (codes "events", quantity t.events)
+    ∷ (codes "complete_to", quantity t.complete_to) ∷ []
 
 -- how many gaps, processes, objects, and objects with an unbalanced tag there are
 unfoldable pub lines_fields : ℕ → ℕ → ℕ → ℕ → List Field
@@ -61,6 +66,7 @@ lines_fields gaps processes objects unbalanced =
     (codes "gaps", quantity gaps) ∷ (codes "processes", quantity processes) ∷ (codes "objects", quantity objects)
     ∷ (codes "unbalanced", quantity unbalanced) ∷ []
 
-abbrev pub summary_head : Option ℕ → Totals → ℕ → ℕ → ℕ → Json
-summary_head until t gaps processes unbalanced =
-    record_of (totals_fields t ++ (lines_fields gaps processes t.objects unbalanced ++ until_fields until))
+-- the first line of a summary
+abbrev pub summary_head : Question → Option ℕ → Option ℕ → Totals → ℕ → ℕ → ℕ → Json
+summary_head question since until t gaps processes unbalanced = record_of
+    (question_fields question since ++ (totals_fields t ++ (lines_fields gaps processes t.objects unbalanced ++ until_fields until)))

@@ -1,4 +1,4 @@
-//! The lines of each answer.
+//! The lines of an answer.
 
 ghost use Rattle.std.specs.Prelude.{◌≡◌, [], All, IfOk, OnOk, flat_map};
 ghost use Rattle.htl_json.specs.Lines.{IsReadBack, json_line, summary_values, values_of};
@@ -7,14 +7,13 @@ ghost use Rattle.htl_json.specs.Writing.{AddsLines};
 use crate::bad::write_bad;
 use crate::counts::{write_leaks, write_stacks, write_tags};
 use crate::events::{write_listing, write_opens};
-use crate::growths::write_growth;
-use crate::heads::{
-    write_process_head, write_stacks_head, write_summary_head, write_tags_head, write_trace_head,
-};
+use crate::growths::write_points;
+use crate::heads::{write_head, write_summary_head};
 use crate::lines::Lines;
 use crate::summary::{write_gaps, write_objects, write_processes};
 use htl_event::{NoMemory, ObjectRow, ProcessRow};
-use htl_report::{Answer, Totals, first_rows};
+use htl_question::{Answer, Rows, Totals};
+use htl_report::first_rows;
 use htl_symbols::Symbols;
 use htl_taken::Gap;
 use std::alloc::{AllocError, Global};
@@ -50,62 +49,47 @@ fn write_answer(
     ensures { OnOk result (AddsLines (λ value. value) lines.old lines.new
         (values_of symbols.now until top answer.now)) }
 {
-    match answer {
-        Answer::Outstanding { process, rows } => {
-            write_process_head(lines, "outstanding", *process, None, until, rows.len())?;
+    match &answer.rows {
+        Rows::Opens(rows) => {
+            write_head(lines, answer, until, rows.len())?;
             write_opens(lines, symbols, first_rows(top, rows))
         }
-        Answer::Diff {
-            process,
-            since,
-            rows,
-        } => {
-            write_process_head(lines, "diff", *process, Some(*since), until, rows.len())?;
-            write_opens(lines, symbols, first_rows(top, rows))
-        }
-        Answer::Tags { object, rows } => {
-            write_tags_head(lines, *object, until, rows.len())?;
-            write_tags(lines, first_rows(top, rows))
-        }
-        Answer::Bad { process, rows } => {
-            write_process_head(lines, "bad", *process, None, until, rows.len())?;
-            write_bad(lines, symbols, first_rows(top, rows))
-        }
-        Answer::Leaks {
-            process,
-            since,
-            rows,
-        } => {
-            write_process_head(lines, "leaks", *process, *since, until, rows.len())?;
-            write_leaks(lines, symbols, first_rows(top, rows))
-        }
-        Answer::Stacks { object, tag, rows } => {
-            write_stacks_head(lines, *object, *tag, until, rows.len())?;
-            write_stacks(lines, symbols, first_rows(top, rows))
-        }
-        Answer::Trace {
-            process,
-            handle,
-            rows,
-        } => {
-            write_trace_head(lines, *process, *handle, until, rows.len())?;
+        Rows::Listing(rows) => {
+            write_head(lines, answer, until, rows.len())?;
             write_listing(lines, symbols, first_rows(top, rows))
         }
-        Answer::Growth { process, rows } => {
-            write_process_head(lines, "growth", *process, None, until, rows.len())?;
-            write_growth(lines, first_rows(top, rows))
+        Rows::Tags(rows) => {
+            write_head(lines, answer, until, rows.len())?;
+            write_tags(lines, first_rows(top, rows))
         }
-        Answer::Summary {
+        Rows::Bad(rows) => {
+            write_head(lines, answer, until, rows.len())?;
+            write_bad(lines, symbols, first_rows(top, rows))
+        }
+        Rows::Leaks(rows) => {
+            write_head(lines, answer, until, rows.len())?;
+            write_leaks(lines, symbols, first_rows(top, rows))
+        }
+        Rows::Stacks(rows) => {
+            write_head(lines, answer, until, rows.len())?;
+            write_stacks(lines, symbols, first_rows(top, rows))
+        }
+        Rows::Points(rows) => {
+            write_head(lines, answer, until, rows.len())?;
+            write_points(lines, first_rows(top, rows))
+        }
+        Rows::Summary {
             totals,
             gaps,
             processes,
             objects,
-        } => write_summary(lines, until, top, totals, gaps, processes, objects),
+        } => write_summary(lines, answer, until, top, totals, gaps, processes, objects),
     }
 }
 
 fn write_summary(
     lines: &mut Lines,
+    answer: &Answer,
     until: Option<u64>,
     top: Option<u32>,
     totals: &Totals,
@@ -115,10 +99,11 @@ fn write_summary(
 ) -> Result<(), AllocError>
     requires { lines.old.writer.tokens ≡ [] }
     ensures { OnOk result (AddsLines (λ value. value) lines.old lines.new
-        (summary_values until top totals.now gaps.now processes.now objects.now)) }
+        (summary_values answer.now until top totals.now gaps.now processes.now objects.now)) }
 {
     write_summary_head(
         lines,
+        answer,
         until,
         totals,
         gaps.len(),

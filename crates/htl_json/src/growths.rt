@@ -8,7 +8,7 @@ use crate::lines::Lines;
 use htl_event::Point;
 use std::alloc::AllocError;
 
-pub(crate) fn write_growth(lines: &mut Lines, rows: &[Point]) -> Result<(), AllocError>
+pub(crate) fn write_points(lines: &mut Lines, rows: &[Point]) -> Result<(), AllocError>
     requires { lines.old.writer.tokens ≡ [] }
     ensures { OnOk result (AddsLines point_row lines.old lines.new rows.now) }
 {

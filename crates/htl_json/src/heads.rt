@@ -1,90 +1,40 @@
 //! The first line of each answer.
 
-ghost use Rattle.std.specs.Prelude.{◌≡◌, [], OnOk};
-ghost use Rattle.htl_json.specs.Heads.{count_field, end_fields, handle_field, lines_fields};
-ghost use Rattle.htl_json.specs.Heads.{object_fields, process_fields, process_head, since_fields};
-ghost use Rattle.htl_json.specs.Heads.{stacks_head, summary_head, tags_head, totals_fields};
-ghost use Rattle.htl_json.specs.Heads.{trace_head, until_fields};
+ghost use Rattle.std.specs.Prelude.{◌≡◌, ◌++◌, [], OnOk};
+ghost use Rattle.htl_json.specs.Heads.{count_field, handle_field, head, lines_fields};
+ghost use Rattle.htl_json.specs.Heads.{object_field, process_field, question_fields};
+ghost use Rattle.htl_json.specs.Heads.{since_fields, subject_fields, summary_head};
+ghost use Rattle.htl_json.specs.Heads.{totals_fields, until_fields, word_field};
+ghost use Rattle.htl_json.specs.Records.{tag_fields};
 ghost use Rattle.htl_json.specs.Writing.{AddsFields, AddsLine};
 
 use crate::lines::Lines;
 use htl_event::base;
-use htl_report::Totals;
+use htl_question::{Answer, Question, Subject, Totals};
 use std::alloc::AllocError;
 
-pub(crate) fn write_process_head(
+/// Writes the first line of an answer of so many rows.
+pub(crate) fn write_head(
     lines: &mut Lines,
-    word: &str,
-    process: u32,
-    since: Option<u64>,
+    answer: &Answer,
     until: Option<u64>,
     count: usize,
 ) -> Result<(), AllocError>
     requires { lines.old.writer.tokens ≡ [] }
-    ensures { OnOk result
-        (AddsLine lines.old lines.new (process_head word.now process since until count)) }
+    ensures { OnOk result (AddsLine lines.old lines.new
+        (head answer.now.question answer.now.since until count)) }
 {
     lines.begin_object()?;
-    write_process(lines, word, process)?;
-    write_since(lines, since)?;
-    write_end(lines, until, count)?;
+    write_question(lines, answer.question, answer.since)?;
+    write_until(lines, until)?;
+    write_count(lines, count)?;
     lines.end_line()
 }
 
-/// Writes the first line of a listing, by the base handle.
-pub(crate) fn write_trace_head(
-    lines: &mut Lines,
-    process: u32,
-    handle: u32,
-    until: Option<u64>,
-    count: usize,
-) -> Result<(), AllocError>
-    requires { lines.old.writer.tokens ≡ [] }
-    ensures { OnOk result
-        (AddsLine lines.old lines.new (trace_head process handle until count)) }
-{
-    lines.begin_object()?;
-    write_process(lines, "trace", process)?;
-    write_handle(lines, base(handle))?;
-    write_end(lines, until, count)?;
-    lines.end_line()
-}
-
-pub(crate) fn write_tags_head(
-    lines: &mut Lines,
-    object: u64,
-    until: Option<u64>,
-    count: usize,
-) -> Result<(), AllocError>
-    requires { lines.old.writer.tokens ≡ [] }
-    ensures { OnOk result (AddsLine lines.old lines.new (tags_head object until count)) }
-{
-    lines.begin_object()?;
-    write_object(lines, "tags", object)?;
-    write_end(lines, until, count)?;
-    lines.end_line()
-}
-
-pub(crate) fn write_stacks_head(
-    lines: &mut Lines,
-    object: u64,
-    tag: [u8; 4],
-    until: Option<u64>,
-    count: usize,
-) -> Result<(), AllocError>
-    requires { lines.old.writer.tokens ≡ [] }
-    ensures { OnOk result
-        (AddsLine lines.old lines.new (stacks_head object tag until count)) }
-{
-    lines.begin_object()?;
-    write_object(lines, "stacks", object)?;
-    lines.tag(tag)?;
-    write_end(lines, until, count)?;
-    lines.end_line()
-}
-
+/// Writes the first line of a summary, with the numbers of its gaps, processes and objects.
 pub(crate) fn write_summary_head(
     lines: &mut Lines,
+    answer: &Answer,
     until: Option<u64>,
     totals: &Totals,
     gaps: usize,
@@ -92,31 +42,86 @@ pub(crate) fn write_summary_head(
     unbalanced: usize,
 ) -> Result<(), AllocError>
     requires { lines.old.writer.tokens ≡ [] }
-    ensures { OnOk result (AddsLine lines.old lines.new
-        (summary_head until totals.now gaps processes unbalanced)) }
+    ensures { OnOk result (AddsLine lines.old lines.new (summary_head answer.now.question
+        answer.now.since until totals.now gaps processes unbalanced)) }
 {
     lines.begin_object()?;
+    write_question(lines, answer.question, answer.since)?;
     write_totals(lines, totals)?;
     write_lines(lines, gaps, processes, totals.objects, unbalanced)?;
     write_until(lines, until)?;
     lines.end_line()
 }
 
-#[tactic(auto, unfolding(crate::specs::Heads::process_fields))]
-fn write_process(lines: &mut Lines, word: &str, process: u32) -> Result<(), AllocError>
-    ensures { OnOk result
-        (AddsFields lines.old lines.new (process_fields word.now process)) }
+/// Writes what was asked: the word of the question, what it is about, and the sequence after which
+/// handles count, where there is one.
+fn write_question(
+    lines: &mut Lines,
+    question: Question,
+    since: Option<u64>,
+) -> Result<(), AllocError>
+    ensures { OnOk result (AddsFields lines.old lines.new (question_fields question since)) }
 {
-    lines.text("answer", word)?;
+    write_word(lines, question)?;
+    write_subject(lines, question.subject())?;
+    write_since(lines, since)
+}
+
+#[tactic(auto, unfolding(crate::specs::Heads::word_field))]
+fn write_word(lines: &mut Lines, question: Question) -> Result<(), AllocError>
+    ensures { OnOk result (AddsFields lines.old lines.new (word_field question)) }
+{
+    lines.text("answer", question.word())
+}
+
+fn write_subject(lines: &mut Lines, subject: Option<Subject>) -> Result<(), AllocError>
+    ensures { OnOk result (AddsFields lines.old lines.new (subject_fields subject)) }
+{
+    match subject {
+        None => Ok(()),
+        Some(Subject::Process(process)) => write_process(lines, process),
+        Some(Subject::Object(object)) => write_object(lines, object),
+        Some(Subject::Tag { object, tag }) => write_tag(lines, object, tag),
+        Some(Subject::Handle { process, handle }) => write_handle(lines, process, handle),
+    }
+}
+
+fn write_tag(lines: &mut Lines, object: u64, tag: [u8; 4]) -> Result<(), AllocError>
+    ensures { OnOk result
+        (AddsFields lines.old lines.new (object_field object ++ tag_fields tag)) }
+{
+    write_object(lines, object)?;
+    lines.tag(tag)
+}
+
+fn write_handle(lines: &mut Lines, process: u32, handle: u32) -> Result<(), AllocError>
+    ensures { OnOk result
+        (AddsFields lines.old lines.new (process_field process ++ handle_field handle)) }
+{
+    write_process(lines, process)?;
+    write_base(lines, handle)
+}
+
+#[tactic(auto, unfolding(crate::specs::Heads::process_field))]
+fn write_process(lines: &mut Lines, process: u32) -> Result<(), AllocError>
+    ensures { OnOk result (AddsFields lines.old lines.new (process_field process)) }
+{
     lines.number("process", process as u64)
 }
 
-#[tactic(auto, unfolding(crate::specs::Heads::object_fields))]
-fn write_object(lines: &mut Lines, word: &str, object: u64) -> Result<(), AllocError>
-    ensures { OnOk result (AddsFields lines.old lines.new (object_fields word.now object)) }
+#[tactic(auto, unfolding(crate::specs::Heads::object_field))]
+fn write_object(lines: &mut Lines, object: u64) -> Result<(), AllocError>
+    ensures { OnOk result (AddsFields lines.old lines.new (object_field object)) }
 {
-    lines.text("answer", word)?;
     lines.address("object", object)
+}
+
+/// Writes the base handle.
+#[tactic(auto, unfolding(crate::specs::Heads::handle_field))]
+fn write_base(lines: &mut Lines, handle: u32) -> Result<(), AllocError>
+    ensures { OnOk result (AddsFields lines.old lines.new (handle_field handle)) }
+{
+    lines.handle("handle", base(handle))
 }
 
 #[tactic(auto, unfolding(crate::specs::Heads::count_field))]
@@ -126,7 +131,7 @@ fn write_count(lines: &mut Lines, count: usize) -> Result<(), AllocError>
     lines.number("count", count as u64)
 }
 
-/// Writes the sequence after which handles were opened, where one is given.
+/// Writes the sequence after which handles count, where there is one.
 #[tactic(auto, unfolding(crate::specs::Heads::since_fields))]
 fn write_since(lines: &mut Lines, since: Option<u64>) -> Result<(), AllocError>
     ensures { OnOk result (AddsFields lines.old lines.new (since_fields since)) }
@@ -148,26 +153,10 @@ fn write_until(lines: &mut Lines, until: Option<u64>) -> Result<(), AllocError>
     }
 }
 
-/// Writes the end of a first line: the moment, and the number of rows.
-fn write_end(lines: &mut Lines, until: Option<u64>, count: usize) -> Result<(), AllocError>
-    ensures { OnOk result (AddsFields lines.old lines.new (end_fields until count)) }
-{
-    write_until(lines, until)?;
-    write_count(lines, count)
-}
-
-#[tactic(auto, unfolding(crate::specs::Heads::handle_field))]
-fn write_handle(lines: &mut Lines, handle: u32) -> Result<(), AllocError>
-    ensures { OnOk result (AddsFields lines.old lines.new (handle_field handle)) }
-{
-    lines.handle("handle", handle)
-}
-
 #[tactic(auto, unfolding(crate::specs::Heads::totals_fields))]
 fn write_totals(lines: &mut Lines, totals: &Totals) -> Result<(), AllocError>
     ensures { OnOk result (AddsFields lines.old lines.new (totals_fields totals.now)) }
 {
-    lines.text("answer", "summary")?;
     lines.number("processors", totals.processors as u64)?;
     lines.number("segments", totals.segments)?;
     lines.number("events", totals.events)?;

@@ -1,10 +1,10 @@
-//! The answers of `htl_report` as JSON, one value on each line.
+//! Answers as JSON, one value on each line.
 //!
 //! `specs/Lines` defines the values and their order; `json_lines` writes their texts. Each is
 //! written as its row is met, a token at a time, so no value is ever held.
 //!
-//! Files, in reading order: `answer.rt` (the lines of each answer); `heads.rt` (their first
-//! lines); a file for the rows of each kind of answer: `events.rt`, `bad.rt`, `counts.rt`,
+//! Files, in reading order: `answer.rt` (the lines of an answer); `heads.rt` (its first line); a
+//! file for the rows of each form: `events.rt`, `bad.rt`, `counts.rt`,
 //! `growths.rt`, `summary.rt`; what several of them have: `frames.rt`; how a line is written:
 //! `lines.rt`; and that a line is of one value, and a value of one row (`laws.rt`).
 #![tactic(auto)]

@@ -1,6 +1,7 @@
 -- What public contracts cite: the text of each answer, and what lines are made of.
 pub mod Addresses
 pub mod Parts
+pub mod Heads
 pub mod Rows
 pub mod Opens
 pub mod Listings

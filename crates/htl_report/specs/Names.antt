@@ -1,20 +1,18 @@
 -- Whether the symbols have a name for any address that an answer shows (this project's own): a table of another build has none.
 use Rattle.std.specs.Prelude.{◌&&◌, [], not, true, ℕ, Bool, List, Option, flat_map, is_some}
 use Rattle.std.specs.List.{list_any}
+use Rattle.htl_question.specs.Rows.{Listed, opens, listing, bad, leaks, stacks}
 use Rattle.htl_symbols.specs.Ranges.{Range, resolved}
 use Rattle.htl_report.specs.Rows.{first_rows}
-use Rattle.htl_report.specs.declared.answer.Answer.{Answer}
-use Rattle.htl_report.specs.declared.answer.Answer.TheVariants.{Outstanding, Diff, Bad, Leaks, Stacks, Trace}
 
 -- the frames of the rows that are printed
-abbrev pub shown_addresses : Option ℕ → Answer → List ℕ
-shown_addresses top (Outstanding process rows) = flat_map (λ e. e.stack) (first_rows top rows.items)
-shown_addresses top (Diff process since rows) = flat_map (λ e. e.stack) (first_rows top rows.items)
-shown_addresses top (Bad process rows) = flat_map (λ row. row.1) (first_rows top rows.items)
-shown_addresses top (Leaks process since rows) = flat_map (λ row. row.0) (first_rows top rows.items)
-shown_addresses top (Stacks object tag rows) = flat_map (λ row. row.0) (first_rows top rows.items)
-shown_addresses top (Trace process handle rows) = flat_map (λ e. e.stack) (first_rows top rows.items)
-shown_addresses top other = []
+abbrev pub shown_addresses : Option ℕ → Listed → List ℕ
+shown_addresses top (opens rows) = flat_map (λ e. e.stack) (first_rows top rows)
+shown_addresses top (listing rows) = flat_map (λ e. e.stack) (first_rows top rows)
+shown_addresses top (bad rows) = flat_map (λ row. row.1) (first_rows top rows)
+shown_addresses top (leaks rows) = flat_map (λ row. row.0) (first_rows top rows)
+shown_addresses top (stacks rows) = flat_map (λ row. row.0) (first_rows top rows)
+shown_addresses top without_stacks = []
 
 -- a range of the symbols has the address
 abbrev pub is_named : List Range → ℕ → Bool

@@ -7,18 +7,8 @@ use Rattle.htl_numbers.specs.Written.{hex, padded}
 use Rattle.htl_symbols.specs.Ranges.{Range}
 use Rattle.htl_report.specs.Addresses.{line_feed, stack_lines}
 
--- the start of the first line of an answer about a process, with the question's word
-unfoldable pub process_part : List ℕ → ℕ → List ℕ
-process_part word process = word ++ (codes " process=" ++ decimal process)
-
--- the start of the first line of an answer about an object
-unfoldable pub object_part : List ℕ → ℕ → List ℕ
-object_part word object = word ++ (codes " object=0x" ++ padded 16 object)
-
--- the sequence after which handles were opened, where one was given
-unfoldable pub since_part : Option ℕ → List ℕ
-since_part None = []
-since_part (Some since) = codes " since=" ++ decimal since
+unfoldable pub object_part : ℕ → List ℕ
+object_part object = codes " object=0x" ++ padded 16 object
 
 -- the moment up to which events count, where one was given
 unfoldable pub until_part : Option ℕ → List ℕ
@@ -28,10 +18,6 @@ until_part (Some moment) = codes " until=" ++ decimal moment
 -- the end of a first line: the moment, and the number of rows
 unfoldable pub count_part : Option ℕ → ℕ → List ℕ
 count_part until count = until_part until ++ (codes " count=" ++ (decimal count ++ line_feed))
-
--- the first line of an answer about a process, with the question's word
-abbrev pub process_head : List ℕ → ℕ → Option ℕ → Option ℕ → ℕ → List ℕ
-process_head word process since until count = process_part word process ++ (since_part since ++ count_part until count)
 
 -- the line of an event, with this word and this handle
 unfoldable pub event_line : List ℕ → ℕ → Event → List ℕ

@@ -1,19 +1,19 @@
--- The text of a summary, as bytes: the totals, which segments are missing, and what leaks.
+-- The text of a summary behind its word, as bytes: the totals, which segments are missing, and what leaks.
 use Rattle.std.specs.Prelude.{◌++◌, ℕ, List, Option, codes, flat_map, length}
 use Rattle.std.specs.Fmt.{decimal}
 use Rattle.htl_event.specs.declared.summary.ObjectRow.{ObjectRow}
 use Rattle.htl_event.specs.declared.summary.ProcessRow.{ProcessRow}
+use Rattle.htl_question.specs.declared.answer.Totals.{Totals}
 use Rattle.htl_taken.specs.declared.gap.Gap.{Gap}
 use Rattle.htl_taken.specs.declared.gap.Gap.TheVariants.{Between, Absent}
 use Rattle.htl_report.specs.Addresses.{line_feed}
 use Rattle.htl_report.specs.Parts.{object_part, until_part}
 use Rattle.htl_report.specs.Rows.{first_rows}
-use Rattle.htl_report.specs.declared.summary.Totals.{Totals}
 
 -- the totals: how much was traced, and up to which moment nothing is missing
 unfoldable pub totals_part : Totals → List ℕ
 totals_part t =
-    codes "summary processors=" ++ (decimal t.processors ++ (codes " segments=" ++ (decimal t.segments
+    codes " processors=" ++ (decimal t.processors ++ (codes " segments=" ++ (decimal t.segments
     ++ (codes " events=" ++ (decimal t.events ++ (codes " complete_to=" ++ decimal t.complete_to))))))
 
 -- how many gaps, processes, objects, and objects with an unbalanced tag there are; of objects only these last have a line
@@ -63,7 +63,7 @@ tags_part row =
 
 -- an object with an unbalanced tag
 abbrev pub object_line : ObjectRow → List ℕ
-object_line row = object_part (codes "OBJECT") row.object ++ tags_part row
+object_line row = codes "OBJECT" ++ (object_part row.object ++ tags_part row)
 
 -- what leaks at all: all gaps, and the first processes and the first objects
 unfoldable pub summary_text : Option ℕ → Option ℕ → Totals → List Gap → List ProcessRow → List ObjectRow → List ℕ

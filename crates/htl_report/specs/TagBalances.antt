@@ -1,10 +1,9 @@
--- The text of an object's tags, as bytes.
-use Rattle.std.specs.Prelude.{◌-◌, ◌++◌, ℕ, List, Option, codes, flat_map, if◌then◌else◌, length, nat_lt}
+-- The lines of an object's tags, as bytes.
+use Rattle.std.specs.Prelude.{◌-◌, ◌++◌, ℕ, List, codes, if◌then◌else◌, nat_lt}
 use Rattle.std.specs.Fmt.{decimal}
 use Rattle.htl_event.specs.declared.slot.Count.{Count}
 use Rattle.htl_report.specs.Addresses.{line_feed}
-use Rattle.htl_report.specs.Parts.{count_part, counts, object_part, shown_tag}
-use Rattle.htl_report.specs.Rows.{first_rows}
+use Rattle.htl_report.specs.Parts.{counts, shown_tag}
 
 -- by how many the references are more than the dereferences, or the other way round
 abbrev pub balance : Count → List ℕ
@@ -17,10 +16,3 @@ tag_line tag c = codes "TAG " ++ (shown_tag tag ++ (codes " " ++ (counts c ++ (c
 -- a tag, which has no stack
 abbrev pub tag_row : List ℕ × Count → List ℕ
 tag_row row = tag_line row.0 row.1
-
-abbrev pub tags_head : ℕ → Option ℕ → ℕ → List ℕ
-tags_head object until count = object_part (codes "tags") object ++ count_part until count
-
--- the tags of an object
-unfoldable pub tags_text : Option ℕ → Option ℕ → ℕ → List (List ℕ × Count) → List ℕ
-tags_text until top object rows = tags_head object until (length rows) ++ flat_map tag_row (first_rows top rows)

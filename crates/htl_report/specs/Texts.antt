@@ -1,25 +1,33 @@
 -- The printed text of an answer, as bytes: a first line, and for each row a line and its stack's lines. If `top` is given, only the
 -- first `top` rows are printed. If a moment is given up to which events count, the first line says it.
-use Rattle.std.specs.Prelude.{ℕ, List, Option}
+use Rattle.std.specs.Prelude.{◌++◌, ℕ, List, Option, flat_map, length}
+use Rattle.htl_question.specs.Rows.{Found, Listed, opens, listing, tags, bad, leaks, stacks, points, summary}
 use Rattle.htl_symbols.specs.Ranges.{Range}
-use Rattle.htl_report.specs.BadReferences.{bad_text}
-use Rattle.htl_report.specs.Growths.{growth_text}
-use Rattle.htl_report.specs.Leaks.{leaks_text}
-use Rattle.htl_report.specs.Listings.{trace_text}
-use Rattle.htl_report.specs.Opens.{diff_text, outstanding_text}
-use Rattle.htl_report.specs.ReferenceStacks.{stacks_text}
+use Rattle.htl_report.specs.BadReferences.{bad_lines}
+use Rattle.htl_report.specs.Growths.{point_line}
+use Rattle.htl_report.specs.Heads.{head_part}
+use Rattle.htl_report.specs.Leaks.{leak_lines}
+use Rattle.htl_report.specs.Listings.{listed_lines}
+use Rattle.htl_report.specs.Opens.{open_lines}
+use Rattle.htl_report.specs.Parts.{count_part}
+use Rattle.htl_report.specs.ReferenceStacks.{stacks_lines}
+use Rattle.htl_report.specs.Rows.{first_rows}
 use Rattle.htl_report.specs.Summaries.{summary_text}
-use Rattle.htl_report.specs.TagBalances.{tags_text}
-use Rattle.htl_report.specs.declared.answer.Answer.{Answer}
-use Rattle.htl_report.specs.declared.answer.Answer.TheVariants.{Outstanding, Diff, Tags, Bad, Leaks, Stacks, Trace, Growth, Summary}
+use Rattle.htl_report.specs.TagBalances.{tag_row}
 
-abbrev pub text_of : List Range → Option ℕ → Option ℕ → Answer → List ℕ
-text_of symbols until top (Outstanding process rows) = outstanding_text symbols until top process rows.items
-text_of symbols until top (Diff process since rows) = diff_text symbols until top process since rows.items
-text_of symbols until top (Tags object rows) = tags_text until top object rows.items
-text_of symbols until top (Bad process rows) = bad_text symbols until top process rows.items
-text_of symbols until top (Leaks process since rows) = leaks_text symbols until top process since rows.items
-text_of symbols until top (Stacks object tag rows) = stacks_text symbols until top object tag rows.items
-text_of symbols until top (Trace process handle rows) = trace_text symbols until top process handle rows.items
-text_of symbols until top (Growth process rows) = growth_text until top process rows.items
-text_of symbols until top (Summary totals gaps processes objects) = summary_text until top totals gaps.items processes.items objects.items
+-- the end of the first line, which counts all rows, and the lines of those that are printed
+abbrev pub list_text : {R : Type 0} → (R → List ℕ) → Option ℕ → Option ℕ → List R → List ℕ
+list_text lines_of until top rows = count_part until (length rows) ++ flat_map lines_of (first_rows top rows)
+
+abbrev pub rows_text : List Range → Option ℕ → Option ℕ → Listed → List ℕ
+rows_text symbols until top (opens rows) = list_text (open_lines symbols) until top rows
+rows_text symbols until top (listing rows) = list_text (listed_lines symbols) until top rows
+rows_text symbols until top (tags rows) = list_text tag_row until top rows
+rows_text symbols until top (bad rows) = list_text (bad_lines symbols) until top rows
+rows_text symbols until top (leaks rows) = list_text (leak_lines symbols) until top rows
+rows_text symbols until top (stacks rows) = list_text (stacks_lines symbols) until top rows
+rows_text symbols until top (points rows) = list_text point_line until top rows
+rows_text symbols until top (summary totals gaps processes objects) = summary_text until top totals gaps processes objects
+
+abbrev pub text_of : List Range → Option ℕ → Option ℕ → Found → List ℕ
+text_of symbols until top answer = head_part answer.question answer.since ++ rows_text symbols until top answer.rows

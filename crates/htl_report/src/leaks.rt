@@ -1,33 +1,14 @@
 //! Stacks that opened outstanding handles of a process.
 
 ghost use Rattle.std.specs.Prelude.{◌≡◌, ◌++◌, OnOk, flat_map, string_bytes};
-ghost use Rattle.htl_report.specs.Leaks.{leak_line, leak_lines, leaks_text};
+ghost use Rattle.htl_report.specs.Leaks.{leak_line, leak_lines};
 
 use crate::address::write_stack;
-use crate::parts::write_process_head;
-use crate::rows::first_rows;
 use htl_event::SharedStack;
 use htl_symbols::Symbols;
 use std::alloc::AllocError;
 
-#[tactic(auto, unfolding(crate::specs::Leaks::leaks_text))]
 pub(crate) fn write_leaks(
-    out: &mut String,
-    symbols: &Symbols,
-    until: Option<u64>,
-    top: Option<u32>,
-    process: u32,
-    since: Option<u64>,
-    rows: &[(SharedStack, u64)],
-) -> Result<(), AllocError>
-    ensures { OnOk result (string_bytes out.new
-        ≡ string_bytes out.old ++ leaks_text symbols.now until top process since rows.now) }
-{
-    write_process_head(out, "leaks", process, since, until, rows.len())?;
-    write_rows(out, symbols, first_rows(top, rows))
-}
-
-fn write_rows(
     out: &mut String,
     symbols: &Symbols,
     rows: &[(SharedStack, u64)],

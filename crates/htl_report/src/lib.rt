@@ -1,14 +1,14 @@
 //! The printed texts of answers.
 //!
-//! `specs/Texts` says what is printed, with one function of data for each answer; `text` writes
-//! just that, into one buffer.
+//! `specs/Texts` says what is printed: a first line, whose parts `specs/Heads` has, and the lines of
+//! the rows by their form. `text` writes just that, into one buffer.
 //!
-//! Files, in reading order: `answer.rt` (the nine answers and their text); one file for each kind
-//! of answer, here and in `specs/`, with its first line, the line of a row, and the whole:
-//! `opens.rt`, `tags.rt`, `bad.rt`, `leaks.rt`, `stacks.rt`, `listing.rt`, `growths.rt`,
-//! `summary.rt`; what several kinds print: `address.rt`, `parts.rt`, and the number of rows
-//! (`rows.rt`); the leaking stacks once more, for flame graph programs (`flame_graph.rt`); and
-//! whether an answer shows addresses without a name for any (`names.rt`).
+//! Files, in reading order: `answer.rt` (the text of an answer); `heads.rt` (what its first line
+//! says of the question); one file for the rows of each form, here and in `specs/`: `opens.rt`,
+//! `listing.rt`, `tags.rt`, `bad.rt`, `leaks.rt`, `stacks.rt`, `growths.rt`, `summary.rt`; what
+//! several forms print: `address.rt`, `parts.rt`, and the number of rows (`rows.rt`); the leaking
+//! stacks once more, for flame graph programs (`flame_graph.rt`); and whether an answer shows
+//! addresses without a name for any (`names.rt`).
 #![tactic(auto)]
 
 mod address;
@@ -16,6 +16,7 @@ mod answer;
 mod bad;
 mod flame_graph;
 mod growths;
+mod heads;
 mod leaks;
 mod listing;
 mod names;
@@ -27,9 +28,8 @@ mod summary;
 mod tags;
 
 pub use address::write_address;
-pub use answer::{Answer, text};
+pub use answer::text;
 pub use flame_graph::folded;
 pub use names::shows_no_name;
 pub use parts::{shown_byte, write_tag};
 pub use rows::first_rows;
-pub use summary::Totals;

@@ -4,9 +4,9 @@ ghost use Rattle.std.specs.Prelude.{◌≡◌, flat_map};
 ghost use Rattle.htl_report.specs.Names.{has_some, is_named, none_named, shown_addresses};
 ghost use Rattle.std.specs.List.{list_any};
 
-use crate::answer::Answer;
 use crate::rows::first_rows;
 use htl_event::{Count, SharedEvent, SharedStack};
+use htl_question::{Answer, Rows};
 use htl_symbols::Symbols;
 
 /// A row of an answer that has a stack.
@@ -55,16 +55,15 @@ impl Stacked for (SharedStack, Count) {
 /// Whether the rows of the answer that are printed, at most `top`, have addresses, and the symbols
 /// have a name for none of these.
 pub fn shows_no_name(answer: &Answer, symbols: &Symbols, top: Option<u32>) -> bool
-    ensures { result ≡ none_named symbols.now (shown_addresses top answer.now) }
+    ensures { result ≡ none_named symbols.now (shown_addresses top answer.now.rows) }
 {
-    match answer {
-        Answer::Outstanding { rows, .. } => have_no_name(first_rows(top, rows), symbols),
-        Answer::Diff { rows, .. } => have_no_name(first_rows(top, rows), symbols),
-        Answer::Bad { rows, .. } => have_no_name(first_rows(top, rows), symbols),
-        Answer::Leaks { rows, .. } => have_no_name(first_rows(top, rows), symbols),
-        Answer::Stacks { rows, .. } => have_no_name(first_rows(top, rows), symbols),
-        Answer::Trace { rows, .. } => have_no_name(first_rows(top, rows), symbols),
-        Answer::Tags { .. } | Answer::Growth { .. } | Answer::Summary { .. } => false,
+    match &answer.rows {
+        Rows::Opens(rows) => have_no_name(first_rows(top, rows), symbols),
+        Rows::Listing(rows) => have_no_name(first_rows(top, rows), symbols),
+        Rows::Bad(rows) => have_no_name(first_rows(top, rows), symbols),
+        Rows::Leaks(rows) => have_no_name(first_rows(top, rows), symbols),
+        Rows::Stacks(rows) => have_no_name(first_rows(top, rows), symbols),
+        Rows::Tags(_) | Rows::Points(_) | Rows::Summary { .. } => false,
     }
 }
 

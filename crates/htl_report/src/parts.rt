@@ -2,61 +2,21 @@
 
 ghost use Rattle.std.specs.Prelude.{◌≡◌, ◌++◌, ◌<◌, OnOk, string_bytes};
 ghost use Rattle.htl_report.specs.Parts.{count_part, counts, event_line, event_lines, object_part};
-ghost use Rattle.htl_report.specs.Parts.{process_head, process_part, shown_byte, shown_tag};
-ghost use Rattle.htl_report.specs.Parts.{since_part, until_part};
+ghost use Rattle.htl_report.specs.Parts.{shown_byte, shown_tag, until_part};
 
 use crate::address::{write_padded, write_stack};
 use htl_event::{Count, SharedEvent};
 use htl_symbols::Symbols;
 use std::alloc::AllocError;
 
-/// Writes the first line of an answer about a process.
-pub(crate) fn write_process_head(
-    out: &mut String,
-    word: &str,
-    process: u32,
-    since: Option<u64>,
-    until: Option<u64>,
-    count: usize,
-) -> Result<(), AllocError>
-    ensures { OnOk result (string_bytes out.new
-        ≡ string_bytes out.old ++ process_head word.now process since until count) }
-{
-    write_process(out, word, process)?;
-    write_since(out, since)?;
-    write_count(out, until, count)
-}
-
-/// Writes the start of the first line of an answer about a process.
-#[tactic(auto, unfolding(crate::specs::Parts::process_part))]
-pub(crate) fn write_process(out: &mut String, word: &str, process: u32) -> Result<(), AllocError>
-    ensures { OnOk result (string_bytes out.new
-        ≡ string_bytes out.old ++ process_part word.now process) }
-{
-    write!(out, "{word} process={process}")
-}
-
-/// Writes the start of the first line of an answer about an object.
+/// Writes an object.
 #[tactic(auto, unfolding(crate::specs::Parts::object_part))]
-pub(crate) fn write_object(out: &mut String, word: &str, object: u64) -> Result<(), AllocError>
+pub(crate) fn write_object(out: &mut String, object: u64) -> Result<(), AllocError>
     ensures { OnOk result (string_bytes out.new
-        ≡ string_bytes out.old ++ object_part word.now object) }
+        ≡ string_bytes out.old ++ object_part object) }
 {
-    out.push_str(word)?;
     out.push_str(" object=0x")?;
     write_padded(out, object)
-}
-
-/// Writes the sequence after which handles were opened, where one is given.
-#[tactic(auto, unfolding(crate::specs::Parts::since_part))]
-fn write_since(out: &mut String, since: Option<u64>) -> Result<(), AllocError>
-    ensures { OnOk result (string_bytes out.new
-        ≡ string_bytes out.old ++ since_part since) }
-{
-    match since {
-        Some(since) => write!(out, " since={since}"),
-        None => Ok(()),
-    }
 }
 
 /// Writes the moment up to which events count, where one is given.

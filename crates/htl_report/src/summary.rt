@@ -9,19 +9,9 @@ ghost use Rattle.htl_report.specs.Summaries.{summary_text, tags_part, totals_par
 use crate::parts::{write_object, write_until};
 use crate::rows::first_rows;
 use htl_event::{ObjectRow, ProcessRow};
+use htl_question::Totals;
 use htl_taken::Gap;
 use std::alloc::AllocError;
-
-/// The numbers of a summary: of processors, of segments, of events and of objects with an event.
-#[derive(Clone, Copy, Debug, PartialEq, Eq)]
-pub struct Totals {
-    pub processors: u16,
-    pub segments: u64,
-    pub events: u64,
-    /// The sequence up to which no segment is missing.
-    pub complete_to: u64,
-    pub objects: u64,
-}
 
 #[tactic(auto, unfolding(crate::specs::Summaries::summary_text))]
 pub(crate) fn write_summary(
@@ -81,7 +71,7 @@ fn write_totals(out: &mut String, totals: &Totals) -> Result<(), AllocError>
     } = *totals;
     write!(
         out,
-        "summary processors={processors} segments={segments} events={events} complete_to={complete_to}"
+        " processors={processors} segments={segments} events={events} complete_to={complete_to}"
     )
 }
 
@@ -210,7 +200,8 @@ fn write_object_row(out: &mut String, row: &ObjectRow) -> Result<(), AllocError>
     ensures { OnOk result (string_bytes out.new
         ≡ string_bytes out.old ++ object_line row.now) }
 {
-    write_object(out, "OBJECT", row.object)?;
+    out.push_str("OBJECT")?;
+    write_object(out, row.object)?;
     write_object_tags(out, row)
 }
 

@@ -1,42 +1,13 @@
 //! Tags of an object, each with its balance.
 
 ghost use Rattle.std.specs.Prelude.{◌≡◌, ◌++◌, OnOk, flat_map, string_bytes};
-ghost use Rattle.htl_report.specs.TagBalances.{balance, tag_line, tag_row, tags_head, tags_text};
+ghost use Rattle.htl_report.specs.TagBalances.{balance, tag_line, tag_row};
 
-use crate::parts::{write_count, write_counts, write_object, write_tag};
-use crate::rows::first_rows;
+use crate::parts::{write_counts, write_tag};
 use htl_event::Count;
 use std::alloc::AllocError;
 
-#[tactic(auto, unfolding(crate::specs::TagBalances::tags_text))]
-pub(crate) fn write_tags(
-    out: &mut String,
-    until: Option<u64>,
-    top: Option<u32>,
-    object: u64,
-    rows: &[([u8; 4], Count)],
-) -> Result<(), AllocError>
-    ensures { OnOk result (string_bytes out.new
-        ≡ string_bytes out.old ++ tags_text until top object rows.now) }
-{
-    write_head(out, object, until, rows.len())?;
-    write_rows(out, first_rows(top, rows))
-}
-
-fn write_head(
-    out: &mut String,
-    object: u64,
-    until: Option<u64>,
-    count: usize,
-) -> Result<(), AllocError>
-    ensures { OnOk result (string_bytes out.new
-        ≡ string_bytes out.old ++ tags_head object until count) }
-{
-    write_object(out, "tags", object)?;
-    write_count(out, until, count)
-}
-
-fn write_rows(out: &mut String, rows: &[([u8; 4], Count)]) -> Result<(), AllocError>
+pub(crate) fn write_tags(out: &mut String, rows: &[([u8; 4], Count)]) -> Result<(), AllocError>
     ensures { OnOk result (string_bytes out.new
         ≡ string_bytes out.old ++ flat_map tag_row rows.now) }
 {

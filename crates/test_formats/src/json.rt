@@ -2,7 +2,7 @@
 use crate::rows::assert_row;
 use htl_event::Point;
 use htl_json::json_lines;
-use htl_report::{Answer, Totals};
+use htl_question::{Answer, Question, Rows, Since, Totals};
 use htl_symbols::Symbols;
 use std::alloc::Global;
 use std::process::Abort;
@@ -14,16 +14,29 @@ fn assert_lines(rt: &impl Abort, alloc: Global, answer: &Answer, until: Option<u
     assert_row(rt, wanted, bytes.as_slice(), wanted.as_bytes());
 }
 
+/// An answer that isn't since any moment.
+fn answer_to(question: Question, rows: Rows) -> Answer {
+    Answer {
+        question,
+        since: None,
+        rows,
+    }
+}
+
 fn leaks(alloc: Global, since: Option<u64>) -> Answer {
-    Answer::Leaks {
-        process: 4,
+    Answer {
+        question: Question::Leaks {
+            process: 4,
+            since: Some(Since::Snapshot),
+            at_least: 1,
+        },
         since,
-        rows: Vec::new(alloc),
+        rows: Rows::Leaks(Vec::new(alloc)),
     }
 }
 
 fn summary(alloc: Global) -> Answer {
-    Answer::Summary {
+    let rows = Rows::Summary {
         totals: Totals {
             processors: 2,
             segments: 1,
@@ -34,7 +47,8 @@ fn summary(alloc: Global) -> Answer {
         gaps: Vec::new(alloc),
         processes: Vec::new(alloc),
         objects: Vec::new(alloc),
-    }
+    };
+    answer_to(Question::Summary, rows)
 }
 
 #[test]
@@ -48,7 +62,11 @@ fn lines_of_a_growth(rt: HostRuntime) {
         outstanding: 2,
     };
     let rows = Vec::from_array(rt.alloc(), [first, last]).expect(&rt, "the memory");
-    let growth = Answer::Growth { process: 4, rows };
+    let question = Question::Growth {
+        process: 4,
+        points: 2,
+    };
+    let growth = answer_to(question, Rows::Points(rows));
     let wanted = r#"{"answer":"growth","process":4,"count":2}
 {"sequence":1,"outstanding":0}
 {"sequence":18446744073709551615,"outstanding":2}
@@ -65,11 +83,11 @@ fn first_lines_of_handles(rt: HostRuntime) {
     assert_lines(&rt, alloc, &leaks(alloc, Some(3)), None, wanted);
     let wanted = "{\"answer\":\"leaks\",\"process\":4,\"since\":3,\"until\":12,\"count\":0}\n";
     assert_lines(&rt, alloc, &leaks(alloc, Some(3)), Some(12), wanted);
-    let trace = Answer::Trace {
+    let question = Question::Trace {
         process: 4,
         handle: 0x45,
-        rows: Vec::new(alloc),
     };
+    let trace = answer_to(question, Rows::Listing(Vec::new(alloc)));
     let wanted =
         "{\"answer\":\"trace\",\"process\":4,\"handle\":\"0x44\",\"until\":12,\"count\":0}\n";
     assert_lines(&rt, alloc, &trace, Some(12), wanted);
@@ -78,18 +96,16 @@ fn first_lines_of_handles(rt: HostRuntime) {
 #[test]
 fn first_lines_of_references(rt: HostRuntime) {
     let alloc = rt.alloc();
-    let tags = Answer::Tags {
-        object: 0x1000,
-        rows: Vec::new(alloc),
-    };
+    let question = Question::Tags { object: 0x1000 };
+    let tags = answer_to(question, Rows::Tags(Vec::new(alloc)));
     let wanted =
         "{\"answer\":\"tags\",\"object\":\"0x0000000000001000\",\"until\":12,\"count\":0}\n";
     assert_lines(&rt, alloc, &tags, Some(12), wanted);
-    let stacks = Answer::Stacks {
+    let question = Question::Stacks {
         object: 0x1000,
         tag: *b"Lky8",
-        rows: Vec::new(alloc),
     };
+    let stacks = answer_to(question, Rows::Stacks(Vec::new(alloc)));
     let wanted = "{\"answer\":\"stacks\",\"object\":\"0x0000000000001000\",\"tag\":\"Lky8\",\
 \"bytes\":\"4c6b7938\",\"until\":12,\"count\":0}\n";
     assert_lines(&rt, alloc, &stacks, Some(12), wanted);

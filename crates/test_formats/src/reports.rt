@@ -1,7 +1,8 @@
 //! The nine texts, what a moment changes in them, and how addresses print.
 use crate::rows::assert_row;
 use htl_event::{Count, ObjectRow, Point, ProcessRow, SharedEvent, SharedStack};
-use htl_report::{Answer, Totals, text};
+use htl_question::{Answer, Question, Rows, Since, Totals};
+use htl_report::text;
 use htl_samples::{shared_events, shared_stack};
 use htl_symbols::Symbols;
 use htl_taken::Gap;
@@ -25,10 +26,31 @@ fn list<T: Drop, const N: usize>(rt: &impl Abort, alloc: Global, rows: [T; N]) -
     Vec::from_array(alloc, rows).expect(rt, "the memory")
 }
 
+/// An answer that isn't since any moment.
+fn answer_to(question: Question, rows: Rows) -> Answer {
+    Answer {
+        question,
+        since: None,
+        rows,
+    }
+}
+
+fn leaks_of(since: Option<u64>, rows: Vec<(SharedStack, u64)>) -> Answer {
+    Answer {
+        question: Question::Leaks {
+            process: 4,
+            since: since.map(|since| Since::Sequence(since)),
+            at_least: 1,
+        },
+        since,
+        rows: Rows::Leaks(rows),
+    }
+}
+
 fn outstanding(rt: &impl Abort, alloc: Global) -> (Answer, &'static str) {
     let rows = events(rt, alloc, "O 1 0x46, O 3 0x48 [0x1010 0x2000]");
     (
-        Answer::Outstanding { process: 4, rows },
+        answer_to(Question::Outstanding { process: 4 }, Rows::Opens(rows)),
         "outstanding process=4 count=2
 OPEN handle=0x44 seq=1 thread=12
 OPEN handle=0x48 seq=3 thread=12
@@ -41,10 +63,13 @@ OPEN handle=0x48 seq=3 thread=12
 fn diff(rt: &impl Abort, alloc: Global) -> (Answer, &'static str) {
     let rows = events(rt, alloc, "O 13 0x14, O 12 0x18");
     (
-        Answer::Diff {
-            process: 4,
-            since: 10,
-            rows,
+        Answer {
+            question: Question::Diff {
+                process: 4,
+                since: Since::Snapshot,
+            },
+            since: Some(10),
+            rows: Rows::Opens(rows),
         },
         "diff process=4 since=10 count=2
 OPEN handle=0x14 seq=13 thread=12
@@ -61,10 +86,12 @@ fn tags(rt: &impl Abort, alloc: Global) -> (Answer, &'static str) {
     ];
     let rows = Vec::from_slice(alloc, &rows).expect(rt, "the memory");
     (
-        Answer::Tags {
-            object: 0xffff_a000_0000_1000,
-            rows,
-        },
+        answer_to(
+            Question::Tags {
+                object: 0xffff_a000_0000_1000,
+            },
+            Rows::Tags(rows),
+        ),
         "tags object=0xffffa00000001000 count=3
 TAG .ABC refs=0 derefs=1 under=1
 TAG Dflt refs=1 derefs=1 balanced
@@ -81,7 +108,7 @@ fn bad(rt: &impl Abort, alloc: Global) -> (Answer, &'static str) {
             .expect(rt, "the memory");
     }
     (
-        Answer::Bad { process: 4, rows },
+        answer_to(Question::Bad { process: 4 }, Rows::Bad(rows)),
         "bad process=4 count=2
 BAD REF handle=0x0 times=1
 BAD REF handle=0x7 times=2
@@ -98,11 +125,7 @@ fn leaks(rt: &impl Abort, alloc: Global) -> (Answer, &'static str) {
             .expect(rt, "the memory");
     }
     (
-        Answer::Leaks {
-            process: 4,
-            since: None,
-            rows,
-        },
+        leaks_of(None, rows),
         "leaks process=4 count=3
 LEAK handles=2
   0x0000000000000060
@@ -119,11 +142,7 @@ LEAK handles=1
 fn leaks_since(rt: &impl Abort, alloc: Global) -> (Answer, &'static str) {
     let rows = list(rt, alloc, [(stack(rt, alloc, &[0x60]), 2)]);
     (
-        Answer::Leaks {
-            process: 4,
-            since: Some(3),
-            rows,
-        },
+        leaks_of(Some(3), rows),
         "leaks process=4 since=3 count=1
 LEAK handles=2
   0x0000000000000060
@@ -141,7 +160,13 @@ fn point(sequence: u64, outstanding: u64) -> Point {
 fn growth(rt: &impl Abort, alloc: Global) -> (Answer, &'static str) {
     let rows = list(rt, alloc, [point(1, 0), point(7, 2), point(u64::MAX, 1)]);
     (
-        Answer::Growth { process: 4, rows },
+        answer_to(
+            Question::Growth {
+                process: 4,
+                points: 3,
+            },
+            Rows::Points(rows),
+        ),
         "growth process=4 count=3
 AT seq=1 outstanding=0
 AT seq=7 outstanding=2
@@ -162,11 +187,13 @@ fn stacks(rt: &impl Abort, alloc: Global) -> (Answer, &'static str) {
             .expect(rt, "the memory");
     }
     (
-        Answer::Stacks {
-            object: 0x1000,
-            tag: *b"Lky8",
-            rows,
-        },
+        answer_to(
+            Question::Stacks {
+                object: 0x1000,
+                tag: *b"Lky8",
+            },
+            Rows::Stacks(rows),
+        ),
         "stacks object=0x0000000000001000 tag=Lky8 count=3
 STACK refs=0 derefs=1
 STACK refs=1 derefs=0
@@ -187,11 +214,13 @@ fn trace(rt: &impl Abort, alloc: Global) -> (Answer, &'static str) {
         "C 3 0x46, B 2 0x45, O 1 0x44 [0x10], S 7, R 6 0x1000 Lky8, D 5 0x1000 Lky8, exit 4";
     let rows = events(rt, alloc, lines);
     (
-        Answer::Trace {
-            process: 4,
-            handle: 0x45,
-            rows,
-        },
+        answer_to(
+            Question::Trace {
+                process: 4,
+                handle: 0x45,
+            },
+            Rows::Listing(rows),
+        ),
         "trace process=4 handle=0x44 count=7
 CLOSE handle=0x46 seq=3 thread=12
 BAD REF handle=0x45 seq=2 thread=12
@@ -248,12 +277,15 @@ fn summary(rt: &impl Abort, alloc: Global) -> (Answer, &'static str) {
         objects: 4,
     };
     (
-        Answer::Summary {
-            totals,
-            gaps,
-            processes,
-            objects,
-        },
+        answer_to(
+            Question::Summary,
+            Rows::Summary {
+                totals,
+                gaps,
+                processes,
+                objects,
+            },
+        ),
         "summary processors=2 segments=1 events=19 complete_to=0 \
 gaps=2 processes=2 objects=4 unbalanced=1
 GAP processor=0 from=0 to=4294967292
@@ -342,11 +374,7 @@ fn symbols_of(rt: &impl Abort, alloc: Global, rows: &[u8]) -> Symbols {
 /// A leak of a stack of these addresses.
 fn leak_of(rt: &impl Abort, alloc: Global, addresses: &[u64]) -> Answer {
     let rows = list(rt, alloc, [(stack(rt, alloc, addresses), 1)]);
-    Answer::Leaks {
-        process: 4,
-        since: None,
-        rows,
-    }
+    leaks_of(None, rows)
 }
 
 /// What each address prints under these rows of a table.

@@ -10,10 +10,11 @@ use Rattle.htl_json.proofs.answer.write_summary.Goals as goal
 
 pub returns : goal.returns
 returns c =
+    let answer = c.args.answer.now in
     let gaps = c.args.gaps.now in
     let processes = first_rows c.args.top c.args.processes.now in
     let objects = first_rows c.args.top c.args.objects.now in
-    let v = summary_head c.args.until c.args.totals.now (length gaps) (length c.args.processes.now) (length c.args.objects.now) in
+    let v = summary_head answer.question answer.since c.args.until c.args.totals.now (length gaps) (length c.args.processes.now) (length c.args.objects.now) in
     let old = c.args.lines.now in
     let a = c.write_summary_head.new.lines in
     let b = c.write_gaps.new.lines in

@@ -2,7 +2,7 @@
 use Rattle.std.proofs.Common.{◌≡◌, ◌++◌, take, string_bytes}
 use Rattle.std.specs.List.{flat_map}
 use Rattle.htl_report.specs.ReferenceStacks.{stacks_lines}
-use Rattle.htl_report.proofs.stacks.write_rows.Given as goal
+use Rattle.htl_report.proofs.stacks.write_stacks.Given as goal
 
 abbrev pub invariant-loop-stack : goal.invariant-loop-stack
 invariant-loop-stack l =

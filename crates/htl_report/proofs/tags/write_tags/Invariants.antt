@@ -2,7 +2,7 @@
 use Rattle.std.proofs.Common.{◌≡◌, ◌++◌, take, string_bytes}
 use Rattle.std.specs.List.{flat_map}
 use Rattle.htl_report.specs.TagBalances.{tag_row}
-use Rattle.htl_report.proofs.tags.write_rows.Given as goal
+use Rattle.htl_report.proofs.tags.write_tags.Given as goal
 
 abbrev pub invariant-loop-tag : goal.invariant-loop-tag
 invariant-loop-tag l =

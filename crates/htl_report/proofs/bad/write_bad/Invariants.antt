@@ -2,7 +2,7 @@
 use Rattle.std.proofs.Common.{◌≡◌, ◌++◌, take, string_bytes}
 use Rattle.std.specs.List.{flat_map}
 use Rattle.htl_report.specs.BadReferences.{bad_lines}
-use Rattle.htl_report.proofs.bad.write_rows.Given as goal
+use Rattle.htl_report.proofs.bad.write_bad.Given as goal
 
 abbrev pub invariant-loop-handle : goal.invariant-loop-handle
 invariant-loop-handle l =

@@ -2,7 +2,7 @@
 use Rattle.std.proofs.Common.{arith}
 use Rattle.htl_json.proofs.Added.{row_added, rows_done}
 use Rattle.htl_json.specs.Rows.{point_row}
-use Rattle.htl_json.proofs.growths.write_growth.Goals as goal
+use Rattle.htl_json.proofs.growths.write_points.Goals as goal
 
 pub loop-point-preserved : goal.loop-point-preserved
 loop-point-preserved c =

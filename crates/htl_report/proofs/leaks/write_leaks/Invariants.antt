@@ -2,7 +2,7 @@
 use Rattle.std.proofs.Common.{◌≡◌, ◌++◌, take, string_bytes}
 use Rattle.std.specs.List.{flat_map}
 use Rattle.htl_report.specs.Leaks.{leak_lines}
-use Rattle.htl_report.proofs.leaks.write_rows.Given as goal
+use Rattle.htl_report.proofs.leaks.write_leaks.Given as goal
 
 abbrev pub invariant-loop-stack : goal.invariant-loop-stack
 invariant-loop-stack l =

@@ -6,7 +6,7 @@
 //! arguments. How arguments are taken apart is `clap`'s matter: `specs/Entries` says what it is
 //! given.
 //!
-//! Files, in reading order: `question.rt` (what can be asked), `code.rt` (the codes of faults),
+//! Files, in reading order: `question.rt` (what is asked, and how), `code.rt` (the codes of faults),
 //! `printed.rt` (faults as they are printed), `names.rt` (the commands and their options, by name),
 //! `builder.rt` (the commands as `clap` gets them), `command.rt` (`parse`), `line.rt` (a question of
 //! a dialogue), `matching.rt` and `entries.rt` (what `clap` finds), `reading.rt` (what that asks for),

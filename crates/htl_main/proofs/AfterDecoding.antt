@@ -4,7 +4,7 @@ use Rattle.htl_device.specs.States.{SourceState}
 use Rattle.htl_command.specs.declared.question.Format.TheVariants.{Plain}
 use Rattle.htl_command.specs.declared.question.InputForm.{InputForm}
 use Rattle.htl_command.specs.declared.question.Job.{Job}
-use Rattle.htl_command.specs.declared.question.Question.TheVariants.{Summary}
+use Rattle.htl_question.specs.declared.question.Question.TheVariants.{Summary}
 use Rattle.htl_main.specs.CutInputs.{Decoding, IsDecoding}
 use Rattle.htl_main.specs.Inputs.{IsReportedOfInput, StopsAtInput}
 use Rattle.htl_main.specs.Origins.{IsBetween}

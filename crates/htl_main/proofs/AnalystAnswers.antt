@@ -14,47 +14,47 @@ use Rattle.htl_analyst.specs.TakenAll.{IsFirstOf}
 use Rattle.htl_analyst.proofs.Held.{collection_of}
 use Rattle.htl_analyst.proofs.KeyEvents.{keys_taken, taken_keys}
 use Rattle.htl_case.specs.TakenCases.{IsTakenCase}
-use Rattle.htl_case.specs.declared.question.AnalystAnswer.TheVariants as found
+use Rattle.htl_case.specs.declared.question.AnalystAnswer.TheVariants as told
 use Rattle.htl_case.specs.declared.question.AnalystQuestion.TheVariants as analysts
 use Rattle.htl_case.proofs.TakenCases.{taken_cases_answer}
-use Rattle.htl_report.specs.declared.summary.Totals.{Totals}
+use Rattle.htl_question.specs.Rows.{found, summary}
+use Rattle.htl_question.specs.declared.answer.Totals.{Totals}
+use Rattle.htl_question.specs.declared.question.Question.TheVariants as questions
 use Rattle.htl_main.specs.Analysts.{AreAnswers}
 use Rattle.htl_main.specs.Folding.{AreFolded, IsCaseOfFirsts}
-use Rattle.htl_main.specs.Summaries.{IsSummary}
+use Rattle.htl_main.specs.Answers.{IsAnswer}
+use Rattle.htl_main.proofs.Bases.{summarized, summary_says}
 use Rattle.htl_main.proofs.FoldLaws.{all_keys, all_of_case, is_right}
 
 -- a summary of a case says exactly what an analyst answers over the keys of the case
 pub summaries_agree : (T : Trace) (S : ℕ → ℕ → Bool) (C : Trace) (totals : Totals) (gaps : Vec Gap Global)
     (processes : Vec ProcessRow Global) (objects : Vec ObjectRow Global) → IsTakenCase T S C
-    → IsSummary C None totals gaps.items processes.items objects.items ↔ AreAnswers T S C totals gaps processes objects
+    → IsAnswer C None questions.Summary (found questions.Summary None (summary totals gaps.items processes.items objects.items))
+    ↔ AreAnswers T S C totals gaps processes objects
 summaries_agree T S C totals gaps processes objects is =
     let law = taken_cases_answer T S C is in
-    let events = law.about_events analysts.Events tt (found.Events totals.events) in
-    let rows = law.about_events analysts.Processes tt (found.Processes processes) in
-    let unbalanced = law.about_events analysts.Objects tt (found.Objects totals.objects objects) in (
-      λ summary. record {
-        processors = summary.totals_are.processors;
-        complete_to = summary.totals_are.complete_to;
-        taken = (law.taken totals.segments).1 summary.totals_are.segments;
-        events = events.1 summary.totals_are.events;
-        gaps_are = (law.gaps gaps).1 summary.gaps_are;
-        processes_are = rows.1 summary.processes_are;
-        objects_are = unbalanced.1 (summary.totals_are.objects, summary.objects_are);
-      },
+    let events = law.about_events analysts.Events tt (told.Events totals.events) in
+    let rows = law.about_events analysts.Processes tt (told.Processes processes) in
+    let unbalanced = law.about_events analysts.Objects tt (told.Objects totals.objects objects) in (
+      λ answer.
+          let says = summary_says C None totals gaps.items processes.items objects.items answer in
+          record {
+            processors = says.0.processors;
+            complete_to = says.0.complete_to;
+            taken = (law.taken totals.segments).1 says.0.segments;
+            events = events.1 says.1;
+            gaps_are = (law.gaps gaps).1 says.0.gaps;
+            processes_are = rows.1 says.3;
+            objects_are = unbalanced.1 (says.2, says.4);
+          },
       λ answers.
           let both = unbalanced.0 answers.objects_are in
-          record {
-            totals_are = record {
-              processors = answers.processors;
-              segments = (law.taken totals.segments).0 answers.taken;
-              events = events.0 answers.events;
-              complete_to = answers.complete_to;
-              objects = both.0;
-            };
-            gaps_are = (law.gaps gaps).0 answers.gaps_are;
-            processes_are = rows.0 answers.processes_are;
-            objects_are = both.1;
-          },
+          summarized C None totals gaps.items processes.items objects.items (record {
+            processors = answers.processors;
+            segments = (law.taken totals.segments).0 answers.taken;
+            gaps = (law.gaps gaps).0 answers.gaps_are;
+            complete_to = answers.complete_to;
+          }) (events.0 answers.events) both.0 (rows.0 answers.processes_are) both.1,
     )
 
 -- what was folded is an analyst of each trace that has the first segments of all keys, with exactly the keys of their case

@@ -13,7 +13,7 @@ use Rattle.htl_analyst.proofs.Held.{collection_of, keys_differ, one_segment}
 use Rattle.htl_case.specs.Cases.{IsCaseOf}
 use Rattle.htl_case.specs.Faults.{key_of}
 use Rattle.htl_case.proofs.KeyOrder.{before_before, cases_key}
-use Rattle.htl_command.specs.declared.question.Question.{Question}
+use Rattle.htl_question.specs.declared.question.Question.{Question}
 use Rattle.htl_main.specs.Folding.{IsAskedOver, IsCaseOfFirsts, IsCollectionOf}
 
 -- ---- a segment in place of that of its key

@@ -1,12 +1,10 @@
--- An answer as of a moment up to which no segment is missing is that over the whole trace, and so is a growth.
+-- An answer as of a moment up to which no segment is missing is that over the whole trace.
 use Rattle.std.proofs.Common.{◌≡◌, ◌≢◌, ◌⊎◌, ◌<◌, ◌≤◌, ◌∙◌, ℕ, min, max, List, [], ◌∷◌, Option, Some, None}
 use Rattle.std.proofs.Common.{refl, sym, ap, subst, inl, inr, arith}
 use Rattle.std.specs.Prelude.{Contains, ◌↔◌, nat_le}
 use Rattle.std.proofs.lemmas.Bool.{cases_lt, le-leb, le-ltb, lt-ltb}
 use Rattle.htl_event.specs.Events.{Event}
-use Rattle.htl_event.specs.Growth.{IsGrowth}
 use Rattle.htl_event.specs.Moments.{events_until}
-use Rattle.htl_event.specs.declared.growth.Point.{Point}
 use Rattle.htl_event.specs.declared.growth.Span.{Span}
 use Rattle.htl_event.proofs.Members.{Contains-cases, Contains-filter, Contains-flat_map, Contains-from_filter, Contains-from_flat_map}
 use Rattle.htl_event.proofs.Members.{Contains-here, Contains-nil, Contains-there, at_member}
@@ -19,11 +17,11 @@ use Rattle.htl_case.specs.Final.{IsFinalAt}
 use Rattle.htl_case.specs.Spans.{IsSpan, IsSpanOf}
 use Rattle.htl_case.proofs.FinalAnswers.{answers_are_final}
 use Rattle.htl_case.proofs.SegmentSpans.{from_to}
-use Rattle.htl_command.specs.declared.question.Question.{Question}
-use Rattle.htl_command.specs.declared.question.Question.TheVariants as questions
-use Rattle.htl_report.specs.declared.answer.Answer.{Answer}
-use Rattle.htl_report.specs.declared.answer.Answer.TheVariants.{Growth}
-use Rattle.htl_main.specs.Answers.{IsAnswer, IsAnswerOver, IsGrowthUntil, span_until}
+use Rattle.htl_question.specs.Bases.{Basis}
+use Rattle.htl_question.specs.Rows.{Found}
+use Rattle.htl_question.specs.declared.question.Question.{Question}
+use Rattle.htl_question.specs.declared.question.Question.TheVariants.{Summary}
+use Rattle.htl_main.specs.Answers.{IsAnswer, IsBasis, span_until}
 
 -- ---- events have a span
 
@@ -151,55 +149,32 @@ module _ (T C : Trace) (moment : ℕ) (final : IsFinalAt T C moment) where
         | inr le ↦ cut_alike a b p q le
       ]
 
-  -- ---- answers
+  -- ---- over what a question is asked
 
-  growth_of_trace : (process points : ℕ) (rows : List Point) → IsGrowthUntil C (Some moment) process points rows
-      → IsGrowthUntil T (Some moment) process points rows
-  growth_of_trace process points rows grows =
-      let span = a_span (all_events T.segments) in (
-        span.0,
-        span.1,
-        subst (λ (s : Option Span). IsGrowth s points (events_until moment (all_events T.segments)) process rows)
-            (spans_agree grows.0 span.0 grows.1 span.1)
-            (subst (λ (es : List Event). IsGrowth (span_until (Some moment) grows.0) points es process rows) until_then grows.2),
-      )
+  of_trace : (question : Question) (B : Basis) → question ≢ Summary → IsBasis C (Some moment) question B → IsBasis T (Some moment) question B
+  of_trace question B other is = record {
+    events = is.events ∙ until_then;
+    span = λ process count same.
+        let own = is.span process count same in
+        let all = a_span (all_events T.segments) in
+        (all.0, all.1, own.2 ∙ spans_agree own.0 all.0 own.1 all.1);
+    extent = λ same. absurd (other same);
+  }
 
-  growth_of_case : (process points : ℕ) (rows : List Point) → IsGrowthUntil T (Some moment) process points rows
-      → IsGrowthUntil C (Some moment) process points rows
-  growth_of_case process points rows grows =
-      let span = a_span (all_events C.segments) in (
-        span.0,
-        span.1,
-        subst (λ (s : Option Span). IsGrowth s points (events_until moment (all_events C.segments)) process rows)
-            (sym (spans_agree span.0 grows.0 span.1 grows.1))
-            (subst (λ (es : List Event). IsGrowth (span_until (Some moment) grows.0) points es process rows) (sym until_then) grows.2),
-      )
-
-  over_both : (question : Question) (answer : Answer) → IsAnswerOver (events_until moment (all_events C.segments)) question answer
-      ↔ IsAnswerOver (events_until moment (all_events T.segments)) question answer
-  over_both question answer = (
-    subst (λ (es : List Event). IsAnswerOver es question answer) until_then,
-    subst (λ (es : List Event). IsAnswerOver es question answer) (sym until_then),
-  )
+  of_case : (question : Question) (B : Basis) → question ≢ Summary → IsBasis T (Some moment) question B → IsBasis C (Some moment) question B
+  of_case question B other is = record {
+    events = is.events ∙ sym until_then;
+    span = λ process count same.
+        let own = is.span process count same in
+        let all = a_span (all_events C.segments) in
+        (all.0, all.1, own.2 ∙ sym (spans_agree all.0 own.0 all.1 own.1));
+    extent = λ same. absurd (other same);
+  }
 
 -- each answer but a summary is final
-pub answers_of_runs_are_final : (T C : Trace) (moment : ℕ) → IsFinalAt T C moment → (question : Question) (answer : Answer)
-    → question ≢ questions.Summary → IsAnswer C (Some moment) question answer ↔ IsAnswer T (Some moment) question answer
-answers_of_runs_are_final T C moment final questions.Summary answer other = absurd (other refl)
-answers_of_runs_are_final T C moment final (questions.Growth process points) (Growth of rows) other = (
-  λ is. (is.0, growth_of_trace T C moment final process points rows.items is.1),
-  λ is. (is.0, growth_of_case T C moment final process points rows.items is.1),
+pub answers_of_runs_are_final : (T C : Trace) (moment : ℕ) → IsFinalAt T C moment → (question : Question) (answer : Found)
+    → question ≢ Summary → IsAnswer C (Some moment) question answer ↔ IsAnswer T (Some moment) question answer
+answers_of_runs_are_final T C moment final question answer other = (
+  λ is. (is.0, of_trace T C moment final question is.0 other is.1, is.2),
+  λ is. (is.0, of_case T C moment final question is.0 other is.1, is.2),
 )
-answers_of_runs_are_final T C moment final (questions.Growth process points) answer other = ((λ is. absurd is), (λ is. absurd is))
-answers_of_runs_are_final T C moment final (questions.Outstanding process) answer other =
-    over_both T C moment final (questions.Outstanding process) answer
-answers_of_runs_are_final T C moment final (questions.Diff process since) answer other =
-    over_both T C moment final (questions.Diff process since) answer
-answers_of_runs_are_final T C moment final (questions.Tags object) answer other = over_both T C moment final (questions.Tags object) answer
-answers_of_runs_are_final T C moment final (questions.Bad process) answer other = over_both T C moment final (questions.Bad process) answer
-answers_of_runs_are_final T C moment final (questions.Leaks process since at_least) answer other =
-    over_both T C moment final (questions.Leaks process since at_least) answer
-answers_of_runs_are_final T C moment final (questions.Stacks object tag) answer other =
-    over_both T C moment final (questions.Stacks object tag) answer
-answers_of_runs_are_final T C moment final (questions.Trace process handle) answer other =
-    over_both T C moment final (questions.Trace process handle) answer

@@ -46,11 +46,12 @@ use Rattle.htl_main.specs.Folders.{IsFallen, IsNewTo, Keeps, KeepsAll, TookNext}
 use Rattle.htl_main.specs.declared.coverage.Coverage.{Coverage}
 use Rattle.htl_main.specs.Folding.{Accepts, AreFolded, AreOfTraceOf, IsCaseOfFirsts, IsCollectionOf, IsFoldedFar, IsUnbroken, IsUnfit}
 use Rattle.htl_case.specs.declared.fault.CaseFault.TheVariants as cases
-use Rattle.htl_command.specs.Needs.{is_of_events, needs_events}
+use Rattle.htl_command.specs.Needs.{needs_events}
+use Rattle.htl_question.specs.Questions.{is_of_events}
 use Rattle.htl_command.specs.declared.question.Job.{Job}
 use Rattle.htl_command.specs.declared.question.Moment.{Moment}
-use Rattle.htl_command.specs.declared.question.Question.{Question}
-use Rattle.htl_command.specs.declared.question.Question.TheVariants as questions
+use Rattle.htl_question.specs.declared.question.Question.{Question}
+use Rattle.htl_question.specs.declared.question.Question.TheVariants as questions
 use Rattle.htl_main.specs.Questions.{IsOfParts}
 use Rattle.htl_main.proofs.Collections.{firsts_of}
 use Rattle.htl_main.proofs.Covered.{one_first}

@@ -13,10 +13,9 @@ pub mod FoldLaws
 pub mod FolderLaws
 pub mod FoldInputs
 pub mod Outlined
-pub mod WholeLaws
 pub mod Laters
 pub mod Missing
-pub mod OneSummary
+pub mod Bases
 pub mod OneAnswer
 pub mod OneOutcome
 pub mod OneCoverage

@@ -13,7 +13,7 @@ use Rattle.htl_main.specs.declared.fault.RunFault.{RunFault}
 use Rattle.htl_main.specs.declared.fault.RunFault.TheVariants.{Incomplete, UnknownCut}
 use Rattle.htl_main.specs.Moments.{IsCompleteUntil, IsNamedMoment, is_above}
 use Rattle.htl_main.specs.declared.coverage.Missed.{Missed}
-use Rattle.htl_main.proofs.OneSummary.{one_complete}
+use Rattle.htl_main.proofs.OneAnswer.{one_complete}
 
 -- a job's moment over a trace is one
 pub one_moment : (T : Trace) (named : Option Moment) (a b : Option ℕ) → IsNamedMoment T named a → IsNamedMoment T named b → a ≡ b

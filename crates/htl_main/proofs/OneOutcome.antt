@@ -46,7 +46,7 @@ use Rattle.htl_main.specs.declared.fault.RunFault.TheVariants.{Workers, Segment,
 use Rattle.htl_main.proofs.Covered.{one_first}
 use Rattle.htl_main.proofs.EndLaws.{cut_off_early, left_fault}
 use Rattle.htl_main.proofs.MomentLaws.{one_moment}
-use Rattle.htl_main.proofs.OneAnswer.{one_answer, same_lines, same_remarks}
+use Rattle.htl_main.proofs.OneAnswer.{one_answer}
 use Rattle.htl_symbols.proofs.OneTable.{one_table, one_symbol_fault, table_has_no_fault}
 
 -- ---- one input
@@ -249,7 +249,7 @@ one_text T table job a b p q =
     let until = one_moment T job.until p.0 q.0 p.1 q.1 in
     let is = subst (λ (n : Option ℕ). IsAnswer T n job.question p.2) until p.3 in
     p.4 ∙ ap (λ (n : Option ℕ). lines_of_answer job.format table n job.top p.2) until
-    ∙ same_lines job.format table q.0 job.top p.2 q.2 (one_answer T q.0 job.question p.2 q.2 is q.3) ∙ sym q.4
+    ∙ ap (lines_of_answer job.format table q.0 job.top) (one_answer T q.0 job.question p.2 q.2 is q.3) ∙ sym q.4
 
 one_lines : (given : Decoding) (symbols : Option (List ℕ)) (job : Job) (a b : List ℕ)
     → AreAnswerLines given symbols job a → AreAnswerLines given symbols job b → a ≡ b
@@ -472,7 +472,7 @@ remarks_one : (T : Trace) (table : List Range) (job : Job) (a b : Remarks) → R
 remarks_one T table job a b p q =
     let until = one_moment T job.until p.0 q.0 p.1 q.1 in
     let is = subst (λ (n : Option ℕ). IsAnswer T n job.question p.2) until p.3 in
-    p.4 ∙ same_remarks table job p.2 q.2 (one_answer T q.0 job.question p.2 q.2 is q.3) ∙ sym q.4
+    p.4 ∙ ap (remarks_on table job) (one_answer T q.0 job.question p.2 q.2 is q.3) ∙ sym q.4
 
 -- what is told of the answer of a job over its inputs is one thing
 pub one_finding : (job : Job) (inputs : List (List ℕ)) (symbols : Option (List ℕ)) (a b : Remarks) → ReportsRemarks job inputs symbols a

@@ -9,7 +9,7 @@ use Rattle.htl_case.specs.Answers.{IsAnswer}
 use Rattle.htl_case.specs.Complete.{IsCompleteTo}
 use Rattle.htl_case.specs.declared.question.AnalystAnswer.TheVariants as found
 use Rattle.htl_case.specs.declared.question.AnalystQuestion.TheVariants as analysts
-use Rattle.htl_report.specs.declared.summary.Totals.{Totals}
+use Rattle.htl_question.specs.declared.answer.Totals.{Totals}
 
 -- Over the segments of the trace whose keys are in the set these are an analyst's answers. The number of processors, and up to which
 -- sequence no segment is missing, are no questions to it: they are those of the case of these segments.

@@ -1,57 +1,16 @@
--- The answer to a question over a trace (this project's own), whether it finds something, and whether it is since no snapshot.
-use Rattle.std.specs.Prelude.{◌≡◌, ℕ, Bool, true, false, ◌&&◌, ◌||◌, ◌==◌, not, nat_lt, min, if◌then◌else◌}
-use Rattle.std.specs.Prelude.{List, length, Contains, Option, Some, None}
-use Rattle.std.specs.List.{list_any}
-use Rattle.htl_event.specs.Events.{Event}
-use Rattle.htl_event.specs.Handles.{IsOutstanding, IsMark, IsDiff, IsListing}
-use Rattle.htl_event.specs.Growth.{IsGrowth}
+-- The answer to a question over a trace (this project's own), whose events count up to a moment where one is given.
+use Rattle.std.specs.Prelude.{◌≡◌, ℕ, nat_lt, min, if◌then◌else◌, length, Option, Some, None}
 use Rattle.htl_event.specs.Moments.{counted_events}
-use Rattle.htl_event.specs.Tallies.{IsTags, IsBad, IsLeaksSince, IsStacks}
-use Rattle.htl_event.specs.declared.growth.Point.{Point}
 use Rattle.htl_event.specs.declared.growth.Span.{Span}
-use Rattle.htl_segment.specs.Traces.{Trace, all_events}
+use Rattle.htl_segment.specs.Traces.{Trace, HasKey, all_events}
+use Rattle.htl_taken.specs.Gaps.{IsGaps}
+use Rattle.htl_case.specs.Complete.{IsCompleteTo}
 use Rattle.htl_case.specs.Spans.{IsSpan}
-use Rattle.htl_report.specs.declared.answer.Answer.{Answer}
-use Rattle.htl_report.specs.declared.answer.Answer.TheVariants.{Outstanding, Diff, Tags, Bad, Leaks, Stacks, Growth}
-use Rattle.htl_report.specs.declared.answer.Answer.TheVariants.{Trace as Listing, Summary}
-use Rattle.htl_command.specs.declared.question.Question.{Question}
-use Rattle.htl_command.specs.declared.question.Question.TheVariants as questions
-use Rattle.htl_command.specs.declared.question.Since.{Since}
-use Rattle.htl_command.specs.declared.question.Since.TheVariants.{Snapshot, Sequence}
-use Rattle.htl_main.specs.Summaries.{IsSummary}
-
--- since when handles count: a sequence, or the mark of the process
-abbrev pub IsSince : List Event → ℕ → Since → ℕ → Type 0
-IsSince events process (Sequence since) n = n ≡ since
-IsSince events process Snapshot n = IsMark (Contains events) process n
-
-abbrev pub IsSinceIfGiven : List Event → ℕ → Option Since → Option ℕ → Type 0
-IsSinceIfGiven events process None moment = moment ≡ None
-IsSinceIfGiven events process (Some since) None = ⊥
-IsSinceIfGiven events process (Some since) (Some n) = IsSince events process since n
-
--- the answer depends on how often each slot came with each stack, and not on which event is the latest
-abbrev pub is_of_counts : Question → Bool
-is_of_counts (questions.Tags object) = true
-is_of_counts (questions.Bad process) = true
-is_of_counts (questions.Stacks object tag) = true
-is_of_counts question = false
-
--- the answer to a question about the events of a trace
-abbrev pub IsAnswerOver : List Event → Question → Answer → Type 0
-IsAnswerOver events (questions.Outstanding process) (Outstanding of rows) =
-    (of ≡ process) × IsOutstanding (Contains events) process rows.items
-IsAnswerOver events (questions.Diff process since) (Diff of from rows) =
-    (of ≡ process) × IsSince events process since from × IsDiff (Contains events) process from rows.items
-IsAnswerOver events (questions.Tags object) (Tags of rows) = (of ≡ object) × IsTags events object rows.items
-IsAnswerOver events (questions.Bad process) (Bad of rows) = (of ≡ process) × IsBad events process rows.items
-IsAnswerOver events (questions.Leaks process since at_least) (Leaks of from rows) =
-    (of ≡ process) × IsSinceIfGiven events process since from × IsLeaksSince (Contains events) process from at_least rows.items
-IsAnswerOver events (questions.Stacks object tag) (Stacks of under rows) =
-    (of ≡ object) × (under ≡ tag) × IsStacks events object tag rows.items
-IsAnswerOver events (questions.Trace process handle) (Listing of under rows) =
-    (of ≡ process) × (under ≡ handle) × IsListing (Contains events) process handle rows.items
-IsAnswerOver events question answer = ⊥
+use Rattle.htl_question.specs.Answers.{IsAnswerOver}
+use Rattle.htl_question.specs.Bases.{Basis, Extent}
+use Rattle.htl_question.specs.Rows.{Found}
+use Rattle.htl_question.specs.declared.question.Question.{Question}
+use Rattle.htl_question.specs.declared.question.Question.TheVariants.{Growth, Summary}
 
 -- the span up to a moment, none where that comes before its first sequence
 abbrev pub span_until : Option ℕ → Option Span → Option Span
@@ -59,49 +18,24 @@ span_until None span = span
 span_until (Some moment) None = None
 span_until (Some moment) (Some span) = if nat_lt moment span.first then None else Some (record span { last = min moment span.last })
 
--- the growth from the first sequence of a trace to its last, or to a moment before that
-abbrev pub IsGrowthUntil : Trace → Option ℕ → ℕ → ℕ → List Point → Type 0
-IsGrowthUntil T until process points rows =
-    (span : Option Span) × IsSpan (all_events T.segments) span
-    × IsGrowth (span_until until span) points (counted_events until (all_events T.segments)) process rows
+-- from the first sequence of a trace to its last, or to a moment before that
+abbrev pub IsSpanUntil : Trace → Option ℕ → Option Span → Type 0
+IsSpanUntil T until span = (all : Option Span) × IsSpan (all_events T.segments) all × (span ≡ span_until until all)
 
--- The answer to a question over a trace, whose events count up to a moment where one is given. A summary is about the segments too,
--- and a growth about the moments of all events.
-abbrev pub IsAnswer : Trace → Option ℕ → Question → Answer → Type 0
-IsAnswer T until questions.Summary (Summary totals gaps processes objects) =
-    IsSummary T until totals gaps.items processes.items objects.items
-IsAnswer T until (questions.Growth process points) (Growth of rows) = (of ≡ process) × IsGrowthUntil T until process points rows.items
-IsAnswer T until question answer = IsAnswerOver (counted_events until (all_events T.segments)) question answer
+-- How much there is of a trace: the moment is no matter.
+pub record IsExtentOf (T : Trace) (extent : Extent) : Type 0 where
+  pub processors : extent.processors ≡ T.processors
+  pub segments : extent.segments ≡ length T.segments
+  pub gaps : IsGaps (HasKey T) T.processors extent.gaps
+  pub complete_to : IsCompleteTo T extent.complete_to
 
-abbrev pub has_rows : {R : Type 0} → List R → Bool
-has_rows rows = not (length rows == 0)
+-- Over what a question is asked: the events of the trace that count. Only a growth is about their span, and only a summary about how much
+-- there is of the trace.
+pub record IsBasis (T : Trace) (until : Option ℕ) (question : Question) (B : Basis) : Type 0 where
+  pub events : B.events ≡ counted_events until (all_events T.segments)
+  pub span : (process count : ℕ) → question ≡ Growth process count → IsSpanUntil T until B.span
+  pub extent : question ≡ Summary → IsExtentOf T B.extent
 
--- The answer finds something: it has a row; of tags one that doesn't balance, and of a summary a process with outstanding
--- handles or bad references, or an object.
-abbrev pub has_finding : Answer → Bool
-has_finding (Outstanding process rows) = has_rows rows.items
-has_finding (Diff process since rows) = has_rows rows.items
-has_finding (Tags object rows) = list_any (λ row. not (row.1.plus == row.1.minus)) rows.items
-has_finding (Bad process rows) = has_rows rows.items
-has_finding (Leaks process since rows) = has_rows rows.items
-has_finding (Stacks object tag rows) = has_rows rows.items
-has_finding (Listing process handle rows) = has_rows rows.items
-has_finding (Growth process rows) = has_rows rows.items
-has_finding (Summary totals gaps processes objects) =
-    list_any (λ row. not (row.outstanding == 0) || not (row.bad == 0)) processes.items || has_rows objects.items
-
--- the question asks since the snapshot of its process
-abbrev pub asks_snapshot : Question → Bool
-asks_snapshot (questions.Diff process Snapshot) = true
-asks_snapshot (questions.Leaks process (Some Snapshot) at_least) = true
-asks_snapshot question = false
-
--- the answer is since sequence 0
-abbrev pub is_since_0 : Answer → Bool
-is_since_0 (Diff process since rows) = since == 0
-is_since_0 (Leaks process (Some since) rows) = since == 0
-is_since_0 answer = false
-
--- It is asked since the snapshot of a process that has none: the answer is since its mark, which is 0.
-abbrev pub is_unmarked : Question → Answer → Bool
-is_unmarked question answer = asks_snapshot question && is_since_0 answer
+-- the answer to a question over a trace
+abbrev pub IsAnswer : Trace → Option ℕ → Question → Found → Type 0
+IsAnswer T until question answer = (B : Basis) × IsBasis T until question B × IsAnswerOver B question answer

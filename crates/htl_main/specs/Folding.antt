@@ -16,14 +16,14 @@ use Rattle.htl_case.specs.Faults.{key_of}
 use Rattle.htl_case.specs.declared.fault.CaseFault.{CaseFault}
 use Rattle.htl_case.specs.declared.fault.CaseFault.TheVariants as cases
 use Rattle.htl_command.specs.declared.question.InputForm.{InputForm}
-use Rattle.htl_command.specs.declared.question.Question.{Question}
+use Rattle.htl_question.specs.Questions.{is_of_counts}
+use Rattle.htl_question.specs.declared.question.Question.{Question}
 use Rattle.htl_command.specs.declared.question.Setting.{Setting}
 use Rattle.htl_event.specs.Events.{Event}
 use Rattle.htl_segment.specs.Bundles.{IsRest, Splits, bundle}
 use Rattle.htl_segment.specs.Content.{Content}
 use Rattle.htl_segment.specs.Traces.{Trace}
 use Rattle.htl_taken.specs.Numbers.{front_at}
-use Rattle.htl_main.specs.Answers.{is_of_counts}
 use Rattle.htl_main.specs.Completeness.{IsComplete, ReportsMissing}
 use Rattle.htl_main.specs.Coverages.{IsCoverage}
 use Rattle.htl_main.specs.CutInputs.{AreCut, AreCutEnds}

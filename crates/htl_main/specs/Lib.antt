@@ -3,7 +3,6 @@ pub mod Inputs
 pub mod CutInputs
 pub mod Completeness
 pub mod Moments
-pub mod Summaries
 pub mod Coverages
 pub mod Subjects
 pub mod Answers

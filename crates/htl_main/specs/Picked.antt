@@ -1,7 +1,7 @@
 -- A run that keeps of its inputs only what its question asks about (this project's own).
-use Rattle.std.specs.Prelude.{◌≡◌, ◌≢◌, ◌⊎◌, ℕ, List, [], Option, Result, IfErr}
+use Rattle.std.specs.Prelude.{◌≡◌, ◌≢◌, ℕ, List, [], Option, Result, IfErr}
 use Rattle.htl_event.specs.declared.interest.Interest.{Interest}
-use Rattle.htl_event.specs.declared.interest.Interest.TheVariants.{Process, OpenHandles, Object, AllEvents}
+use Rattle.htl_event.specs.declared.interest.Interest.TheVariants.{OpenHandles}
 use Rattle.htl_event.specs.Interests.{wanted}
 use Rattle.htl_event.specs.Moments.{counted_events}
 use Rattle.htl_segment.specs.Content.{Content}
@@ -10,8 +10,6 @@ use Rattle.htl_case.specs.Cases.{IsCaseOf}
 use Rattle.htl_case.specs.Picked.{NeedsWhole}
 use Rattle.htl_case.specs.declared.fault.CaseFault.{CaseFault}
 use Rattle.htl_command.specs.declared.question.Job.{Job}
-use Rattle.htl_command.specs.declared.question.Question.{Question}
-use Rattle.htl_command.specs.declared.question.Question.TheVariants as questions
 use Rattle.htl_main.specs.Coverages.{Covers}
 use Rattle.htl_main.specs.CutInputs.{AreCut}
 use Rattle.htl_main.specs.Inputs.{DecodeAll}
@@ -23,27 +21,6 @@ use Rattle.htl_main.specs.declared.picked_run.Lacking.{Lacking}
 use Rattle.htl_main.specs.declared.picked_run.Lacking.TheVariants as lacking
 use Rattle.htl_main.specs.declared.fault.RunFault.{RunFault}
 use Rattle.htl_main.specs.declared.fault.RunFault.TheVariants.{Case}
-
--- which events a question asks about
-abbrev pub interest_of : Question → Interest
-interest_of questions.Summary = AllEvents
-interest_of (questions.Outstanding process) = OpenHandles process
-interest_of (questions.Diff process since) = OpenHandles process
-interest_of (questions.Leaks process since at_least) = OpenHandles process
-interest_of (questions.Growth process points) = OpenHandles process
-interest_of (questions.Bad process) = Process process
-interest_of (questions.Trace process handle) = Process process
-interest_of (questions.Tags object) = Object object
-interest_of (questions.Stacks object tag) = Object object
-
--- all events of the process in place of those that tell of its open handles
-abbrev pub widened : Interest → Interest
-widened (OpenHandles process) = Process process
-widened interest = interest
-
--- The question can be answered from the events of this interest: from those that it asks about, or from all of their process.
-abbrev pub Serves : Question → Interest → Type 0
-Serves question interest = (interest ≡ interest_of question) ⊎ (interest ≡ widened (interest_of question))
 
 -- what is reported beside the answer holds of the inputs
 pub record Reports (job : Job) (inputs : List (List ℕ)) (symbols : Option (List ℕ)) (completed : Completed) : Type 0 where

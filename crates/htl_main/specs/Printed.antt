@@ -9,12 +9,11 @@ use Rattle.htl_symbols.specs.declared.fault.SymbolFault.{SymbolFault}
 use Rattle.htl_symbols.specs.declared.fault.SymbolFault.TheVariants as symbol_faults
 use Rattle.htl_report.specs.Folded.{folded_text}
 use Rattle.htl_report.specs.Texts.{text_of}
-use Rattle.htl_report.specs.declared.answer.Answer.{Answer}
-use Rattle.htl_report.specs.declared.answer.Answer.TheVariants.{Leaks}
 use Rattle.htl_json.specs.Lines.{json_line, values_of}
 use Rattle.htl_command.specs.declared.question.Format.{Format}
-use Rattle.htl_command.specs.declared.question.Format.TheVariants.{Json, Folded}
+use Rattle.htl_command.specs.declared.question.Format.TheVariants.{Plain, Json, Folded}
 use Rattle.htl_command.specs.declared.question.Job.{Job}
+use Rattle.htl_question.specs.Rows.{Found, Listed, leaks}
 use Rattle.htl_main.specs.Answers.{IsAnswer}
 use Rattle.htl_main.specs.Completeness.{ReportsMissing}
 use Rattle.htl_main.specs.CutInputs.{Decoding, IsDecoding}
@@ -25,17 +24,22 @@ use Rattle.htl_main.specs.declared.completed.Absence.{Absence}
 use Rattle.htl_main.specs.declared.fault.RunFault.{RunFault}
 use Rattle.htl_main.specs.declared.fault.RunFault.TheVariants.{Workers, Segment, Hex, Case, Incomplete, NoSubject, Symbols, UnknownCut}
 
--- the lines of an answer in each form, with all rows or the first so many; only leaking stacks are folded
-abbrev pub lines_of_answer : Format → List Range → Option ℕ → Option ℕ → Answer → List ℕ
+-- only leaking stacks are folded
+abbrev pub folded_lines : List Range → Option ℕ → Option ℕ → Found → Listed → List ℕ
+folded_lines table until top answer (leaks rows) = folded_text table top rows
+folded_lines table until top answer unfolded = text_of table until top answer
+
+-- the lines of an answer in each form, with all rows or the first so many
+abbrev pub lines_of_answer : Format → List Range → Option ℕ → Option ℕ → Found → List ℕ
+lines_of_answer Plain table until top answer = text_of table until top answer
 lines_of_answer Json table until top answer = flat_map json_line (values_of table until top answer)
-lines_of_answer Folded table until top (Leaks process since rows) = folded_text table top rows.items
-lines_of_answer format table until top answer = text_of table until top answer
+lines_of_answer Folded table until top answer = folded_lines table until top answer answer.rows
 
 -- the lines of the answer to the job's question over a trace, of which events count up to the job's moment
 abbrev pub IsText : Trace → List Range → Job → List ℕ → Type 0
 IsText T table job lines =
     (until : Option ℕ) × IsNamedMoment T job.until until
-    × (answer : Answer) × IsAnswer T until job.question answer × (lines ≡ lines_of_answer job.format table until job.top answer)
+    × (answer : Found) × IsAnswer T until job.question answer × (lines ≡ lines_of_answer job.format table until job.top answer)
 
 -- the table of symbols, which has no range where none is given
 abbrev pub HasSymbols : Option (List ℕ) → List Range → Type 0

@@ -1,7 +1,7 @@
 -- For the clauses of private functions: the questions that are answered over parts.
 use Rattle.std.specs.Prelude.{⊤}
-use Rattle.htl_command.specs.declared.question.Question.{Question}
-use Rattle.htl_command.specs.declared.question.Question.TheVariants.{Summary, Trace, Growth}
+use Rattle.htl_question.specs.declared.question.Question.{Question}
+use Rattle.htl_question.specs.declared.question.Question.TheVariants.{Summary, Trace, Growth}
 
 -- the question is neither for a summary, nor for a listing, nor for a growth
 abbrev pub IsOfParts : Question → Type 0

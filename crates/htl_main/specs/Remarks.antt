@@ -5,9 +5,9 @@ use Rattle.htl_segment.specs.Traces.{Trace}
 use Rattle.htl_case.specs.Cases.{IsCaseOf}
 use Rattle.htl_symbols.specs.Ranges.{Range}
 use Rattle.htl_report.specs.Names.{none_named, shown_addresses}
-use Rattle.htl_report.specs.declared.answer.Answer.{Answer}
 use Rattle.htl_command.specs.declared.question.Job.{Job}
-use Rattle.htl_main.specs.Answers.{IsAnswer, has_finding, is_unmarked}
+use Rattle.htl_question.specs.Rows.{Found, has_finding, is_unmarked}
+use Rattle.htl_main.specs.Answers.{IsAnswer}
 use Rattle.htl_main.specs.Inputs.{DecodeAll}
 use Rattle.htl_main.specs.Moments.{IsNamedMoment}
 use Rattle.htl_main.specs.Printed.{HasSymbols}
@@ -15,18 +15,18 @@ use Rattle.htl_main.specs.declared.remarks.Remarks.{Remarks}
 
 -- of an answer whose addresses are printed by a table of symbols: whether it finds something, whether it is since a snapshot that isn't
 -- there, and whether it shows addresses of which the table has none
-abbrev pub remarks_on : List Range → Job → Answer → Remarks
+abbrev pub remarks_on : List Range → Job → Found → Remarks
 remarks_on table job answer = record {
-  has_finding = has_finding answer;
-  is_unmarked = is_unmarked job.question answer;
-  is_unnamed = none_named table (shown_addresses job.top answer);
+  has_finding = has_finding answer.rows;
+  is_unmarked = is_unmarked answer;
+  is_unnamed = none_named table (shown_addresses job.top answer.rows);
 }
 
 -- of the answer to the job's question over a trace
 abbrev pub RemarksOver : Trace → List Range → Job → Remarks → Type 0
 RemarksOver T table job remarks =
     (until : Option ℕ) × IsNamedMoment T job.until until
-    × (answer : Answer) × IsAnswer T until job.question answer × (remarks ≡ remarks_on table job answer)
+    × (answer : Found) × IsAnswer T until job.question answer × (remarks ≡ remarks_on table job answer)
 
 -- of the answer over the case of decoded segments
 abbrev pub RemarksIn : List Content → Option (List ℕ) → Job → Remarks → Type 0

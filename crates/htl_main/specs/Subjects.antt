@@ -1,55 +1,29 @@
 -- Whether anything can be found of what a question is about (this project's own): a number that was mistyped looks like one without a leak.
-use Rattle.std.specs.Prelude.{◌≡◌, ℕ, Bool, true, false, ◌&&◌, ◌==◌, nat_eq, nat_lt, if◌then◌else◌, List, Option, Some, None}
+use Rattle.std.specs.Prelude.{◌≡◌, ℕ, Bool, true, ◌&&◌, nat_lt, if◌then◌else◌, List, Option, Some, None}
 use Rattle.std.specs.List.{list_any}
-use Rattle.std.specs.Cmp.Lexicographic.{pointwise}
 use Rattle.htl_event.specs.Events.{Event}
 use Rattle.htl_event.specs.Moments.{counted_events}
-use Rattle.htl_event.specs.Slots.{base_of}
-use Rattle.htl_event.specs.declared.kind.Kind.{Kind}
-use Rattle.htl_event.specs.declared.kind.Kind.TheVariants.{Opened, Closed, BadRef, Ref, Deref}
 use Rattle.htl_segment.specs.Content.{Content}
 use Rattle.htl_segment.specs.Traces.{Trace, all_events}
 use Rattle.htl_case.specs.Cases.{IsCaseOf}
 use Rattle.htl_command.specs.declared.question.Job.{Job}
-use Rattle.htl_command.specs.declared.question.Question.{Question}
-use Rattle.htl_command.specs.declared.question.Question.TheVariants as questions
-use Rattle.htl_command.specs.declared.question.Since.TheVariants.{Sequence}
+use Rattle.htl_question.specs.Questions.{asks_since, subject_of}
+use Rattle.htl_question.specs.Subjects.{is_about}
+use Rattle.htl_question.specs.declared.question.Question.{Question}
+use Rattle.htl_question.specs.declared.question.Since.{Since}
+use Rattle.htl_question.specs.declared.question.Since.TheVariants.{Sequence}
 use Rattle.htl_main.specs.Inputs.{DecodeAll}
 use Rattle.htl_main.specs.Moments.{IsNamedMoment}
 use Rattle.htl_main.specs.declared.completed.Absence.{Absence}
 use Rattle.htl_main.specs.declared.completed.Absence.TheVariants.{Subject, Later}
 
--- the kinds of events that name a handle
-abbrev pub names_handle : Kind → Bool
-names_handle Opened = true
-names_handle Closed = true
-names_handle BadRef = true
-names_handle other = false
-
--- the kinds of events that name an object
-abbrev pub names_object : Kind → Bool
-names_object Ref = true
-names_object Deref = true
-names_object other = false
-
--- The event is of the process, the object, the object's tag or the handle that the question is about. (Events of each kind are of
--- the process in which they came.) A summary is about all.
-abbrev pub is_about : Question → Event → Bool
-is_about questions.Summary e = true
-is_about (questions.Outstanding process) e = e.process == process
-is_about (questions.Diff process since) e = e.process == process
-is_about (questions.Bad process) e = e.process == process
-is_about (questions.Leaks process since at_least) e = e.process == process
-is_about (questions.Growth process points) e = e.process == process
-is_about (questions.Tags object) e = names_object e.kind && (e.object == object)
-is_about (questions.Stacks object tag) e = names_object e.kind && ((e.object == object) && pointwise nat_eq e.tag tag)
-is_about (questions.Trace process handle) e = names_handle e.kind && ((e.process == process) && (base_of e.handle == base_of handle))
-
 -- the sequence after which the question asks, where it is given as a number
+abbrev pub given_sequence : Option Since → Option ℕ
+given_sequence (Some (Sequence since)) = Some since
+given_sequence since = None
+
 abbrev pub since_of : Question → Option ℕ
-since_of (questions.Diff process (Sequence since)) = Some since
-since_of (questions.Leaks process (Some (Sequence since)) at_least) = Some since
-since_of other = None
+since_of question = given_sequence (asks_since question)
 
 -- a sequence comes before the moment, as each does where none is given
 abbrev pub is_before : Option ℕ → ℕ → Bool
@@ -72,7 +46,8 @@ absence_by has_subject question until events =
     if has_subject then later_absence (since_of question) until events else Some Subject
 
 abbrev pub absence_in : Question → Option ℕ → List Event → Option Absence
-absence_in question until events = absence_by (list_any (is_about question) (counted_events until events)) question until events
+absence_in question until events =
+    absence_by (list_any (is_about (subject_of question)) (counted_events until events)) question until events
 
 -- what there is not of what the job asks about in a trace
 abbrev pub HasAbsence : Trace → Job → Option Absence → Type 0

@@ -1,18 +1,17 @@
 //! Answers over what was folded.
 
 ghost use Rattle.std.specs.Prelude.{◌≡◌, ◌≢◌, [], IfErr, IfOk, List, None, OnOk, Some, false, true};
-ghost use Rattle.htl_command.specs.Needs.{is_of_events, needs_events};
-ghost use Rattle.htl_command.specs.declared.question.Question.TheVariants as questions;
+ghost use Rattle.htl_command.specs.Needs.{needs_events};
+ghost use Rattle.htl_question.specs.Questions.{is_of_events};
+ghost use Rattle.htl_question.specs.declared.question.Question.TheVariants as questions;
 ghost use Rattle.htl_segment.specs.Content.{Content};
-ghost use Rattle.htl_segment.specs.Traces.{Trace, all_events};
-ghost use Rattle.htl_event.specs.Summaries.{IsNumberOfObjects};
+ghost use Rattle.htl_segment.specs.Traces.{Trace};
 ghost use Rattle.htl_main.specs.Answers.{IsAnswer};
 ghost use Rattle.htl_main.specs.Asked.{IsUnasked};
 ghost use Rattle.htl_main.specs.Completeness.{IsComplete};
 ghost use Rattle.htl_main.specs.Folding.{AreFolded, IsAskedOver, IsCollectionOf};
 ghost use Rattle.htl_main.specs.Printed.{IsText};
 ghost use Rattle.htl_main.specs.Remarks.{RemarksOver};
-ghost use Rattle.htl_main.specs.Summaries.{AreTotals};
 
 use crate::answering::answer_of;
 use crate::coverage::Missed;
@@ -21,9 +20,9 @@ use crate::folding::Folded;
 use crate::printing::{AnswerText, lines};
 use crate::remarks::remarks_on;
 use htl_analyst::Analyst;
-use htl_command::{Job, Question, Setting};
+use htl_command::{Job, Setting};
 use htl_event::NoMemory;
-use htl_report::{Answer, Totals};
+use htl_question::{Answer, Question, Rows, Totals};
 use htl_summary::{Objects, Summary, summarize};
 use std::alloc::Global;
 use std::thread::Threads;
@@ -114,25 +113,20 @@ fn summary(
     let gaps = analyst.gaps(alloc)?;
     let Summary { objects, processes } = summarize(rt, alloc, workers, analyst.parts())?;
     let Objects { number, unbalanced } = objects;
-    Ok(Answer::Summary {
-        totals: totals(analyst, number),
-        gaps,
-        processes,
-        objects: unbalanced,
+    Ok(Answer {
+        question: Question::Summary,
+        since: None,
+        rows: Rows::Summary {
+            totals: Totals {
+                processors: analyst.processors(),
+                segments: analyst.taken(),
+                events: analyst.events(),
+                complete_to: analyst.complete_to(),
+                objects: number,
+            },
+            gaps,
+            processes,
+            objects: unbalanced,
+        },
     })
-}
-
-/// The totals of what an analyst took, with this number of objects.
-fn totals(analyst: &Analyst<Global>, objects: u64) -> Totals
-    ensures { (segments : List Content) (T : Trace) → AreFolded (Some analyst.now) segments
-        → IsCollectionOf segments T → IsNumberOfObjects (all_events T.segments) objects
-        → AreTotals T None result }
-{
-    Totals {
-        processors: analyst.processors(),
-        segments: analyst.taken(),
-        events: analyst.events(),
-        complete_to: analyst.complete_to(),
-        objects,
-    }
 }

@@ -9,8 +9,7 @@ ghost use Rattle.htl_event.specs.declared.slot.Count.{Count};
 ghost use Rattle.htl_event.specs.declared.summary.ObjectRow.{ObjectRow};
 ghost use Rattle.htl_event.specs.declared.summary.ProcessRow.{ProcessRow};
 ghost use Rattle.htl_segment.specs.Content.{Content};
-ghost use Rattle.htl_segment.specs.Traces.{Trace, IsTrace, HasKey};
-ghost use Rattle.htl_taken.specs.Gaps.{IsGaps};
+ghost use Rattle.htl_segment.specs.Traces.{Trace, IsTrace};
 ghost use Rattle.htl_taken.specs.declared.gap.Gap.{Gap};
 ghost use Rattle.htl_analyst.specs.Keys.{keys};
 ghost use Rattle.htl_analyst.specs.Right.{IsRight};
@@ -20,24 +19,24 @@ ghost use Rattle.htl_case.specs.Answers.{IsAnswerOver as IsAnalystsOver};
 ghost use Rattle.htl_case.specs.Cases.{IsCaseOf};
 ghost use Rattle.htl_case.specs.Final.{IsFinalAt};
 ghost use Rattle.htl_case.specs.TakenCases.{IsTakenCase};
-ghost use Rattle.htl_case.specs.declared.question.AnalystAnswer.TheVariants as found;
+ghost use Rattle.htl_case.specs.declared.question.AnalystAnswer.TheVariants as told;
 ghost use Rattle.htl_case.specs.declared.question.AnalystQuestion.TheVariants as analysts;
-ghost use Rattle.htl_report.specs.declared.answer.Answer.{Answer};
-ghost use Rattle.htl_report.specs.declared.answer.Answer.TheVariants as answers;
-ghost use Rattle.htl_report.specs.declared.summary.Totals.{Totals};
 ghost use Rattle.htl_command.specs.declared.question.InputForm.{InputForm};
 ghost use Rattle.htl_command.specs.declared.question.Job.{Job};
-ghost use Rattle.htl_command.specs.declared.question.Question.{Question};
-ghost use Rattle.htl_command.specs.declared.question.Question.TheVariants as questions;
-ghost use Rattle.htl_command.specs.declared.question.Since.TheVariants.{Sequence};
+ghost use Rattle.htl_question.specs.Answers.{IsAnswerOver};
+ghost use Rattle.htl_question.specs.Bases.{Basis};
+ghost use Rattle.htl_question.specs.Rows.{Found, bad, found, leaks, opens, stacks, summary, tags};
+ghost use Rattle.htl_question.specs.declared.answer.Totals.{Totals};
+ghost use Rattle.htl_question.specs.declared.question.Question.{Question};
+ghost use Rattle.htl_question.specs.declared.question.Question.TheVariants as questions;
+ghost use Rattle.htl_question.specs.declared.question.Since.TheVariants.{Sequence};
 ghost use Rattle.htl_main.specs.Analysts.{AreAnswers};
-ghost use Rattle.htl_main.specs.Answers.{IsAnswer, IsAnswerOver};
+ghost use Rattle.htl_main.specs.Answers.{IsAnswer};
 ghost use Rattle.htl_main.specs.Coverages.{Covers, IsCoverage};
 ghost use Rattle.htl_main.specs.Folding.{AreFolded, IsAskedOver, IsCaseOfFirsts};
 ghost use Rattle.htl_main.specs.Histories.{AnyCanBeCompacted, AnyHistoryLeavesAState};
 ghost use Rattle.htl_main.specs.Printed.{Printed, WorkersFit, by_workers};
 ghost use Rattle.htl_main.specs.Remarks.{ReportsRemarks};
-ghost use Rattle.htl_main.specs.Summaries.{AreTotals, IsSummary};
 ghost use Rattle.htl_main.specs.declared.coverage.Coverage.{Coverage};
 ghost use Rattle.htl_main.specs.declared.fault.RunFault.{RunFault};
 ghost use Rattle.htl_main.specs.declared.remarks.Remarks.{Remarks};
@@ -67,25 +66,30 @@ pub fn one_finding()
 /// (An analyst isn't asked for a listing or a growth. A difference since the snapshot is one since
 /// the mark.)
 pub fn analysts_agree()
-    ensures outstanding { (events : List Event) (process : ℕ) (rows : Vec Event)
-        → IsAnswerOver events (questions.Outstanding process) (answers.Outstanding process rows)
-        ↔ IsAnalystsOver events (analysts.Outstanding process) (found.Outstanding rows) }
-    ensures diff { (events : List Event) (process since : ℕ) (rows : Vec Event)
-        → IsAnswerOver events (questions.Diff process (Sequence since)) (answers.Diff process since rows)
-        ↔ IsAnalystsOver events (analysts.Diff process since) (found.Diff rows) }
-    ensures tags { (events : List Event) (object : ℕ) (rows : Vec (List ℕ × Count))
-        → IsAnswerOver events (questions.Tags object) (answers.Tags object rows)
-        ↔ IsAnalystsOver events (analysts.Tags object) (found.Tags rows) }
-    ensures bad { (events : List Event) (process : ℕ) (rows : Vec (ℕ × List ℕ × ℕ))
-        → IsAnswerOver events (questions.Bad process) (answers.Bad process rows)
-        ↔ IsAnalystsOver events (analysts.Bad process) (found.Bad rows) }
-    ensures leaks { (events : List Event) (process : ℕ) (rows : Vec (List ℕ × ℕ))
-        → IsAnswerOver events (questions.Leaks process None 1) (answers.Leaks process None rows)
-        ↔ IsAnalystsOver events (analysts.Leaks process) (found.Leaks rows) }
-    ensures stacks { (events : List Event) (object : ℕ) (tag : List ℕ)
-        (rows : Vec (List ℕ × Count))
-        → IsAnswerOver events (questions.Stacks object tag) (answers.Stacks object tag rows)
-        ↔ IsAnalystsOver events (analysts.Stacks object tag) (found.Stacks rows) }
+    ensures outstanding { (B : Basis) (process : ℕ) (rows : Vec Event)
+        → IsAnswerOver B (questions.Outstanding process)
+        (found (questions.Outstanding process) None (opens rows.items))
+        ↔ IsAnalystsOver B.events (analysts.Outstanding process) (told.Outstanding rows) }
+    ensures diff { (B : Basis) (process since : ℕ) (rows : Vec Event)
+        → IsAnswerOver B (questions.Diff process (Sequence since))
+        (found (questions.Diff process (Sequence since)) (Some since) (opens rows.items))
+        ↔ IsAnalystsOver B.events (analysts.Diff process since) (told.Diff rows) }
+    ensures tags { (B : Basis) (object : ℕ) (rows : Vec (List ℕ × Count))
+        → IsAnswerOver B (questions.Tags object)
+        (found (questions.Tags object) None (tags rows.items))
+        ↔ IsAnalystsOver B.events (analysts.Tags object) (told.Tags rows) }
+    ensures bad { (B : Basis) (process : ℕ) (rows : Vec (ℕ × List ℕ × ℕ))
+        → IsAnswerOver B (questions.Bad process)
+        (found (questions.Bad process) None (bad rows.items))
+        ↔ IsAnalystsOver B.events (analysts.Bad process) (told.Bad rows) }
+    ensures leaks { (B : Basis) (process : ℕ) (rows : Vec (List ℕ × ℕ))
+        → IsAnswerOver B (questions.Leaks process None 1)
+        (found (questions.Leaks process None 1) None (leaks rows.items))
+        ↔ IsAnalystsOver B.events (analysts.Leaks process) (told.Leaks rows) }
+    ensures stacks { (B : Basis) (object : ℕ) (tag : List ℕ) (rows : Vec (List ℕ × Count))
+        → IsAnswerOver B (questions.Stacks object tag)
+        (found (questions.Stacks object tag) None (stacks rows.items))
+        ↔ IsAnalystsOver B.events (analysts.Stacks object tag) (told.Stacks rows) }
 {}
 
 /// A summary of a case says exactly what an analyst answers that took the segments of the case: how
@@ -95,7 +99,8 @@ pub fn analysts_agree()
 pub fn summaries_agree()
     ensures { (T : Trace) (S : ℕ → ℕ → Bool) (C : Trace) (totals : Totals) (gaps : Vec Gap)
         (processes : Vec ProcessRow) (objects : Vec ObjectRow) → IsTakenCase T S C
-        → IsSummary C None totals gaps.items processes.items objects.items
+        → IsAnswer C None questions.Summary (found questions.Summary None
+        (summary totals gaps.items processes.items objects.items))
         ↔ AreAnswers T S C totals gaps processes objects }
 {}
 
@@ -135,7 +140,7 @@ pub fn any_history_leaves_a_state()
 /// is a growth. Only a summary is not, since it also says which segments there are.
 pub fn answers_of_runs_are_final()
     ensures { (T C : Trace) (moment : ℕ) → IsFinalAt T C moment
-        → (question : Question) (answer : Answer) → question ≢ questions.Summary
+        → (question : Question) (answer : Found) → question ≢ questions.Summary
         → IsAnswer C (Some moment) question answer ↔ IsAnswer T (Some moment) question answer }
 {}
 
@@ -144,7 +149,9 @@ pub fn one_coverage()
     ensures one { (form : InputForm) (inputs : List (List ℕ)) (a b : Coverage)
         → Covers form inputs a → Covers form inputs b → a ≡ b }
     ensures summary { (T : Trace) (until : Option ℕ) (coverage : Coverage) (totals : Totals)
-        (gaps : List Gap)
-        → IsCoverage T coverage → AreTotals T until totals → IsGaps (HasKey T) T.processors gaps
+        (gaps : List Gap) (processes : List ProcessRow) (objects : List ObjectRow)
+        → IsCoverage T coverage
+        → IsAnswer T until questions.Summary (found questions.Summary None
+        (summary totals gaps processes objects))
         → (coverage.gaps ≡ length gaps) × (coverage.complete_to ≡ totals.complete_to) }
 {}

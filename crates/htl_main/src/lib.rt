@@ -17,8 +17,8 @@
 //! `origin.rt` (where these two came from), `coverage.rt` (what a case misses of its trace),
 //! `cut_inputs.rt` (which inputs end within a segment), `answering.rt` (the answer over a case),
 //! `unfolded.rt` (segments as they are, over which a run answers), `summarizing.rt` (the summary of
-//! a case), `completed.rt` (what a run reports beside its answer), `interests.rt` (what a question
-//! asks about), `picked_run.rt`, `picking.rt` and `picked.rt` (the run that keeps only that),
+//! a case), `completed.rt` (what a run reports beside its answer), `picked_run.rt`, `picking.rt` and
+//! `picked.rt` (the run that keeps only what its question asks about),
 //! `folding.rt` and `taking.rt` (sources that are read and forgotten), `folder.rt` (how their
 //! segments are taken and folded), `folded_answers.rt` (answers over what was folded), `dumping.rt`
 //! and `encoding.rt` (the runs of `dump` and `encode`), `fault.rt` (the faults, their lines and
@@ -29,7 +29,7 @@
 //! `specs/` is read in the order of `specs/Lib`: `Inputs` (which segments the inputs encode, and
 //! which input is refused first), `CutInputs` (which of them end within a segment), `Completeness`
 //! (whether segments are missing, and which is the least), `Moments` (the moment up to which events
-//! count), `Summaries` (what a summary says of a trace), `Coverages` (how much of its trace a case
+//! count), `Coverages` (how much of its trace a case
 //! has), `Subjects` (whether anything can be found of what was asked about), `Answers` and
 //! `Printed` (the answer and its lines, or the first fault in the order of a run), `Remarks` (what
 //! is told of the answer beside its lines), `Causes` and `Sources` (how a run ends for out of
@@ -57,7 +57,6 @@ mod folded_answers;
 mod folder;
 mod folding;
 mod inputs;
-mod interests;
 pub mod laws;
 mod loading;
 mod origin;
@@ -83,10 +82,10 @@ pub use encoding::encode_from;
 pub use fault::RunFault;
 pub use folded_answers::folded_text;
 pub use folding::{Folded, fold, load_folded};
-pub use htl_command::{ParseFault, Question};
+pub use htl_command::ParseFault;
 pub use htl_device::{Reading, Sink, Source, Writing};
 pub use htl_event::Interest;
-pub use interests::{interest, widened};
+pub use htl_question::Question;
 pub use loading::{Loaded, load};
 pub use origin::{Between, Origin};
 pub use picked_run::{Lacking, pick_from};

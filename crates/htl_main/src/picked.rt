@@ -9,32 +9,32 @@ ghost use Rattle.htl_segment.specs.Content.{Content};
 ghost use Rattle.htl_segment.specs.Picks.{events_in};
 ghost use Rattle.htl_segment.specs.Traces.{IsTrace, Trace, all_events};
 ghost use Rattle.htl_case.specs.Picked.{IsPickedUntil};
-ghost use Rattle.htl_command.specs.declared.question.Question.TheVariants as questions;
+ghost use Rattle.htl_question.specs.Questions.{Serves, subject_of};
+ghost use Rattle.htl_question.specs.Subjects.{is_about};
+ghost use Rattle.htl_question.specs.declared.question.Question.TheVariants as questions;
 ghost use Rattle.htl_main.specs.Answers.{IsAnswer};
 ghost use Rattle.htl_main.specs.CaseOutlines.{IsMissed};
 ghost use Rattle.htl_main.specs.Causes.{IsCauseAfter};
 ghost use Rattle.htl_main.specs.CutInputs.{decoding};
 ghost use Rattle.htl_main.specs.Moments.{IsNamedMoment};
-ghost use Rattle.htl_main.specs.Picked.{Serves, TellsOfNoHandle};
+ghost use Rattle.htl_main.specs.Picked.{TellsOfNoHandle};
 ghost use Rattle.htl_main.specs.Picking.{EndsAnswer, IsPickedAsOf, IsPickedFor, ReportsOf};
 ghost use Rattle.htl_main.specs.Picking.{is_of_open_handles};
 ghost use Rattle.htl_main.specs.Printed.{AreAnswerLines};
-ghost use Rattle.htl_main.specs.Subjects.{is_about};
 
 use crate::answering::{answer_of_lists, span_until};
 use crate::completed::{Completed, absence_by, any_list_about};
 use crate::coverage::Missed;
 use crate::cut_inputs::{CutEnd, cut_inputs};
 use crate::fault::RunFault;
-use crate::interests::is_of_open_handles;
 use crate::printing::{check_absence, check_gaps, lines, read_symbols};
 use crate::remarks::remarks_on;
 use crate::summarizing::summary_of_lists;
 use htl_answers::growth;
 use htl_case::PickedCase;
-use htl_command::{Job, Question};
+use htl_command::Job;
 use htl_event::{Interest, NoMemory, SharedEvent, number_of_events};
-use htl_report::{Answer, Totals};
+use htl_question::{Answer, Question, Rows, Totals};
 use htl_summary::{Objects, Summary};
 use std::alloc::Global;
 use std::thread::Threads;
@@ -94,13 +94,13 @@ fn subject_of_picks(job: &Job, interest: Interest, case: &PickedCase) -> Option<
     requires { Serves job.now.question interest }
     ensures some { IfSome result (λ has_subject. (until : Option ℕ) (segments : List Content)
         (is : IsPickedAsOf interest until case.now segments) → IsNamedMoment is.trace job.now.until until
-        → has_subject ≡ list_any (is_about job.now.question)
+        → has_subject ≡ list_any (is_about (subject_of job.now.question))
         (counted_events until (all_events is.trace.segments))) }
     ensures none { IfNone result ((until : Option ℕ) (segments : List Content)
         (is : IsPickedAsOf interest until case.now segments) → IsNamedMoment is.trace job.now.until until
         → TellsOfNoHandle interest segments job.now) }
 {
-    let has_subject = any_list_about(job.question, case.lists());
+    let has_subject = any_list_about(job.question.subject(), case.lists());
     if falls_short(interest, has_subject) {
         return None;
     }
@@ -111,7 +111,7 @@ fn subject_of_picks(job: &Job, interest: Interest, case: &PickedCase) -> Option<
 fn falls_short(interest: Interest, has_subject: bool) -> bool
     ensures { result ≡ (not has_subject && is_of_open_handles interest) }
 {
-    !has_subject && is_of_open_handles(interest)
+    !has_subject && matches!(interest, Interest::OpenHandles(_))
 }
 
 /// The answer to the job's question about what was picked of a case up to a moment. The case misses
@@ -132,16 +132,21 @@ fn answer_of_picks(
     let lists = case.lists();
     match job.question {
         Question::Summary => summary_of_picks(rt, alloc, job.setting.workers, missed, case),
-        Question::Trace { process, handle } => Ok(Answer::Trace {
-            process,
-            handle,
-            rows: case.trace(alloc, process, handle)?,
-        }),
+        Question::Trace { process, handle } => {
+            let rows = Rows::Listing(case.trace(alloc, process, handle)?);
+            Ok(Answer {
+                question: job.question,
+                since: None,
+                rows,
+            })
+        }
         Question::Growth { process, points } => {
             let span = span_until(until, case.span());
-            Ok(Answer::Growth {
-                process,
-                rows: growth(alloc, lists, process, span, points)?,
+            let rows = Rows::Points(growth(alloc, lists, process, span, points)?);
+            Ok(Answer {
+                question: job.question,
+                since: None,
+                rows,
             })
         }
         question => {
@@ -159,9 +164,9 @@ fn summary_of_picks(
     missed: Missed,
     case: &PickedCase,
 ) -> Result<Answer, NoMemory>
-    ensures { IfOk result (λ answer. (T : Trace) (until : Option ℕ) → IsTrace T
-        → IsMissed T missed → IsPickedUntil Interest.AllEvents T until case.now
-        → IsAnswer T until questions.Summary answer) }
+    ensures { IfOk result (λ answer. (T : Trace) (until : Option ℕ) (interest : Interest)
+        → IsTrace T → IsMissed T missed → Serves questions.Summary interest
+        → IsPickedUntil interest T until case.now → IsAnswer T until questions.Summary answer) }
 {
     let events = count(case.lists())?;
     let Missed {
@@ -171,17 +176,21 @@ fn summary_of_picks(
     } = missed;
     let Summary { objects, processes } = summary_of_lists(rt, alloc, workers, case.lists())?;
     let Objects { number, unbalanced } = objects;
-    Ok(Answer::Summary {
-        totals: Totals {
-            processors: case.processors(),
-            segments: case.outlines().len() as u64,
-            events,
-            complete_to,
-            objects: number,
+    Ok(Answer {
+        question: Question::Summary,
+        since: None,
+        rows: Rows::Summary {
+            totals: Totals {
+                processors: case.processors(),
+                segments: case.outlines().len() as u64,
+                events,
+                complete_to,
+                objects: number,
+            },
+            gaps,
+            processes,
+            objects: unbalanced,
         },
-        gaps,
-        processes,
-        objects: unbalanced,
     })
 }
 

@@ -3,7 +3,7 @@
 ghost use Rattle.std.specs.Prelude.{◌≡◌, false, map};
 ghost use Rattle.std.specs.Option.{option_copied};
 ghost use Rattle.htl_device.specs.States.{AreOpen};
-ghost use Rattle.htl_main.specs.Picked.{Serves};
+ghost use Rattle.htl_question.specs.Questions.{Serves};
 ghost use Rattle.htl_main.specs.Picking.{PrintsPicks};
 ghost use Rattle.htl_main.specs.Runs.{IsPicked};
 
@@ -23,7 +23,8 @@ use std::thread::Threads;
 /// again.
 #[derive(Clone, Copy, Debug, PartialEq, Eq)]
 pub enum Lacking {
-    /// All events of the process (`widened`): none that counts tells of its open handles.
+    /// All events of the process (`Question::widest_interest`): none that counts tells of its open
+    /// handles.
     Process,
     /// Whole segments (`run_from`): a key comes twice, so that contents have to be compared, or the
     /// segments don't form a case.
@@ -31,8 +32,8 @@ pub enum Lacking {
 }
 
 /// The same as `run_from`, but it keeps no segments. It makes only the events that are of this
-/// interest: those that the question asks about (`interest`), or all events of its process
-/// (`widened`).
+/// interest: those that the question needs (`Question::interest`), or all of what it is about
+/// (`Question::widest_interest`).
 ///
 /// Where these don't tell the outcome, it returns what it lacks.
 pub fn pick_from<Rt: Threads + Sync, R: Parted, W: Sink>(

@@ -31,7 +31,8 @@ use htl_command::{Format, Job, Moment};
 use htl_device::{Sink, write_whole};
 use htl_event::NoMemory;
 use htl_json::json_lines;
-use htl_report::{Answer, folded, text};
+use htl_question::{Answer, Rows};
+use htl_report::{folded, text};
 use htl_symbols::{SymbolFault, Symbols};
 use std::alloc::Global;
 use std::thread::Threads;
@@ -177,9 +178,9 @@ pub(crate) fn lines(
     ensures { IfOk result (λ lines.
         lines.items ≡ lines_of_answer job.now.format symbols.now until job.now.top answer.now) }
 {
-    match (job.format, answer) {
+    match (job.format, &answer.rows) {
         (Format::Json, _) => json_lines(alloc, answer, symbols, until, job.top),
-        (Format::Folded, Answer::Leaks { rows, .. }) => folded(alloc, rows, symbols, job.top),
+        (Format::Folded, Rows::Leaks(rows)) => folded(alloc, rows, symbols, job.top),
         (Format::Plain | Format::Folded, _) => text(alloc, answer, symbols, until, job.top),
     }
 }

@@ -1,20 +1,16 @@
 //! The summary of a case.
 
-ghost use Rattle.std.specs.Prelude.{◌≡◌, ◌<◌, ◌^◌, ℕ, IfOk, Option, flat_map, length};
-ghost use Rattle.htl_event.specs.Moments.{counted_events};
-ghost use Rattle.htl_segment.specs.Traces.{all_events};
-ghost use Rattle.htl_case.specs.Complete.{IsCompleteTo};
+ghost use Rattle.std.specs.Prelude.{◌≡◌, ◌<◌, ◌^◌, IfOk, flat_map, length};
 ghost use Rattle.htl_event.specs.Handles.{HaveOwnSequences};
 ghost use Rattle.htl_event.specs.Summaries.{IsNumberOfObjects, IsProcesses, IsUnbalanced};
 ghost use Rattle.htl_main.specs.Answers.{IsAnswer};
-ghost use Rattle.htl_main.specs.Summaries.{AreTotals};
-ghost use Rattle.htl_command.specs.declared.question.Question.TheVariants as questions;
+ghost use Rattle.htl_question.specs.declared.question.Question.TheVariants as questions;
 
 use crate::coverage::Missed;
 use crate::unfolded::Unfolded;
 use htl_case::Case;
 use htl_event::{EventList, NoMemory, number_of_events};
-use htl_report::{Answer, Totals};
+use htl_question::{Answer, Question, Rows, Totals};
 use htl_summary::{Objects, Summary, summarize};
 use std::alloc::Global;
 use std::thread::Threads;
@@ -37,11 +33,21 @@ pub(crate) fn summary(
     let lists = case.until(alloc, until)?;
     let Summary { objects, processes } = summary_of_lists(rt, alloc, workers, &lists)?;
     let Objects { number, unbalanced } = objects;
-    Ok(Answer::Summary {
-        totals: totals(case, event_count(&lists), complete_to, number),
-        gaps,
-        processes,
-        objects: unbalanced,
+    Ok(Answer {
+        question: Question::Summary,
+        since: None,
+        rows: Rows::Summary {
+            totals: Totals {
+                processors: case.processors(),
+                segments: case.segments().len() as u64,
+                events: event_count(&lists),
+                complete_to,
+                objects: number,
+            },
+            gaps,
+            processes,
+            objects: unbalanced,
+        },
     })
 }
 
@@ -62,24 +68,6 @@ pub(crate) fn summary_of_lists<Rt: Threads + Sync, E: EventList + Sync>(
 {
     let part = Unfolded::new(alloc, lists);
     summarize(rt, alloc, workers, &[part])
-}
-
-/// The totals of a case that is complete to this sequence, with these numbers of events and
-/// objects.
-fn totals(case: &Case, events: u64, complete_to: u64, objects: u64) -> Totals
-    requires complete_to { IsCompleteTo case.now complete_to }
-    ensures { (until : Option ℕ)
-        → events ≡ length (counted_events until (all_events case.now.segments))
-        → IsNumberOfObjects (counted_events until (all_events case.now.segments)) objects
-        → AreTotals case.now until result }
-{
-    Totals {
-        processors: case.processors(),
-        segments: case.segments().len() as u64,
-        events,
-        complete_to,
-        objects,
-    }
 }
 
 /// How many events the lists have.

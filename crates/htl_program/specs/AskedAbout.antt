@@ -5,8 +5,8 @@ use Rattle.htl_event.specs.Slots.{base_of}
 use Rattle.htl_numbers.specs.Written.{hex, padded}
 use Rattle.htl_report.specs.Parts.{shown_tag}
 use Rattle.htl_command.specs.declared.question.Job.{Job}
-use Rattle.htl_command.specs.declared.question.Question.{Question}
-use Rattle.htl_command.specs.declared.question.Question.TheVariants as asked
+use Rattle.htl_question.specs.declared.question.Question.{Question}
+use Rattle.htl_question.specs.declared.question.Question.TheVariants as asked
 use Rattle.htl_main.specs.Subjects.{since_of}
 use Rattle.htl_main.specs.declared.completed.Absence.{Absence}
 use Rattle.htl_main.specs.declared.completed.Absence.TheVariants as absences

@@ -11,7 +11,7 @@ use crate::running::{pick_opened, run_opened};
 use crate::world::World;
 use htl_command::Run;
 use htl_device::Sink;
-use htl_main::{Completed, Lacking, Refused, interest, widened};
+use htl_main::{Completed, Lacking, Refused};
 use std::alloc::Global;
 use std::thread::Threads;
 
@@ -62,15 +62,24 @@ fn run_inputs<Rt: Threads + Sync, W: World, O: Sink>(
     if !can_pick(world, run) {
         return run_opened(rt, alloc, &run.job, inputs, symbols, out);
     }
-    let interest = interest(run.job.question);
-    match pick_opened(rt, alloc, &run.job, interest, inputs, symbols, out) {
+    let question = run.job.question;
+    match pick_opened(
+        rt,
+        alloc,
+        &run.job,
+        question.interest(),
+        inputs,
+        symbols,
+        out,
+    ) {
         Ok(ended) => return ended,
         Err(Lacking::Process) => {}
         Err(Lacking::Segments) => return run_again(rt, alloc, world, run, symbols, inputs, out),
     }
     inputs.clear();
     *inputs = open_inputs(alloc, world, &run.files)?;
-    match pick_opened(rt, alloc, &run.job, widened(interest), inputs, symbols, out) {
+    let widest = question.widest_interest();
+    match pick_opened(rt, alloc, &run.job, widest, inputs, symbols, out) {
         Ok(ended) => ended,
         Err(_) => run_again(rt, alloc, world, run, symbols, inputs, out),
     }

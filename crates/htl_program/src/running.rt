@@ -3,7 +3,7 @@
 ghost use Rattle.std.specs.Prelude.{◌≡◌, IfErr, IfOk, false, length, map};
 ghost use Rattle.std.specs.Option.{option_copied};
 ghost use Rattle.htl_device.specs.States.{AreOpen};
-ghost use Rattle.htl_main.specs.Picked.{Serves};
+ghost use Rattle.htl_question.specs.Questions.{Serves};
 ghost use Rattle.htl_main.specs.Runs.{IsRun};
 
 use htl_command::Job;

@@ -1,12 +1,12 @@
 -- Which events are of what a question is about, and which are wanted for it.
-use Rattle.std.proofs.Common.{◌≡◌, ◌⊎◌, ◌∙◌, ℕ, Bool, true, false, Option, Some, None, inl, inr, refl, sym, ap, subst}
-use Rattle.std.specs.Prelude.{◌==◌, ◌&&◌, if◌then◌else◌}
+use Rattle.std.proofs.Common.{◌≡◌, ◌⊎◌, ◌∙◌, ℕ, Bool, true, false, Option, Some, None, inl, inr, refl, sym, ap}
+use Rattle.std.specs.Prelude.{◌==◌, if◌then◌else◌}
 use Rattle.std.proofs.lemmas.Bool.{and_parts, cases_Bool}
 use Rattle.htl_event.specs.Events.{Event}
 use Rattle.htl_event.specs.Interests.{tracks_handles, wants, without_stack}
 use Rattle.htl_event.specs.declared.interest.Interest.{Interest}
 use Rattle.htl_event.specs.declared.interest.Interest.TheVariants as interests
-use Rattle.htl_question.specs.Subjects.{interest_in, is_about, is_of, names_handle, names_object}
+use Rattle.htl_question.specs.Subjects.{interest_in, is_about, names_handle, names_object}
 use Rattle.htl_question.specs.Questions.{Serves, is_of_open_handles, narrowed, subject_of, widest}
 use Rattle.htl_question.specs.declared.question.Question.{Question}
 use Rattle.htl_question.specs.declared.question.Question.TheVariants as questions

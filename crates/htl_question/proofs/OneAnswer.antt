@@ -1,6 +1,5 @@
 -- A question has one answer over a basis.
-use Rattle.std.proofs.Common.{◌≡◌, ℕ, List, Option, Some, None, ap, refl, sym, subst, ◌∙◌}
-use Rattle.std.specs.Prelude.{Contains}
+use Rattle.std.proofs.Common.{◌≡◌, ℕ, List, Option, Some, None, ap, sym, subst, ◌∙◌}
 use Rattle.std.proofs.lemmas.List.Sorted.{IsPermutation-refl}
 use Rattle.htl_event.specs.Events.{Event}
 use Rattle.htl_event.specs.Laws.{HandlesAreDetermined, CountsAreDetermined}
@@ -8,7 +7,7 @@ use Rattle.htl_event.specs.Summaries.{SummariesAreDetermined}
 use Rattle.htl_event.proofs.Determined.{handles_are_determined}
 use Rattle.htl_event.proofs.Counts.{counts_are_determined}
 use Rattle.htl_event.proofs.Summarized.{summaries_are_determined}
-use Rattle.htl_question.specs.Answers.{Are, AreRows, IsAnswerOver, IsSince, IsSinceIfGiven, IsSummary, after, process_of}
+use Rattle.htl_question.specs.Answers.{Are, AreRows, IsAnswerOver, IsSince, IsSinceIfGiven, after, process_of}
 use Rattle.htl_question.specs.Bases.{Basis}
 use Rattle.htl_question.specs.Questions.{asks_since}
 use Rattle.htl_question.specs.Rows.{Found, Listed, opens, listing, tags, bad, leaks, stacks, points, summary}
@@ -51,7 +50,7 @@ one_rows : (B : Basis) (question : Question) (since : Option ℕ) (a b : Listed)
     → a ≡ b
 one_rows B questions.Summary since a b (t, gs, ps, os, is, p) (u, hs, qs, ns, are, q) =
     let law = summaries B.events in
-    let totals = one_totals t u (p.processors ∙ sym q.processors) (p.segments ∙ sym q.segments) (p.events ∙ sym q.events)
+    let totals = one_totals t u (p.processors ∙ sym q.processors) (p.segments ∙ sym q.segments) (p.events_are ∙ sym q.events_are)
     (p.complete_to ∙ sym q.complete_to) (law.objects t.objects u.objects p.number q.number) in
     let gaps = p.gaps_are ∙ sym q.gaps_are in
     let processes = law.processes ps qs p.processes_are q.processes_are in

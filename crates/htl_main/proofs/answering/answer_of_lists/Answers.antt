@@ -11,5 +11,5 @@ answer_of-requires-clause-few g c =
 pub returns : goal.returns
 returns g c =
     let events = flat_map g.E.EventList.events_of c.args.lists.now in
-    IfOk-weaker c.answer_of.result _ _ (λ answer over own. over events (are_events_of _ events c.new-part.ensures) (λ ordered. own))
-    c.answer_of.ensures
+    IfOk-weaker c.answer_of.result _ _
+    (λ answer over B same own. over B (rw same (are_events_of _ events c.new-part.ensures)) (λ ordered. own)) c.answer_of.ensures

@@ -1,8 +1,6 @@
 -- The case's events up to a moment are those of its lists.
 use Rattle.std.proofs.lemmas.Result.{IfOk-weaker}
-use Rattle.htl_event.specs.Moments.{counted_events}
 use Rattle.htl_segment.specs.Traces.{all_events}
-use Rattle.htl_main.specs.Answers.{IsAnswerOver}
 use Rattle.htl_case.proofs.Counted.{own_until}
 use Rattle.htl_main.proofs.UntilLaws.{few_counted}
 use Rattle.htl_main.proofs.answering.answer_over.Goals as goal
@@ -16,5 +14,4 @@ returns c =
     let events = all_events c.args.case.now.segments in
     let own = own_until c.args.until events c.in_ok-lists.ensures.is_case.trace.sequences in
     let over = rw (c.deref.ensures.value, c.in_ok-lists.ensures.value) at c.answer_of_lists.ensures in
-    IfOk-weaker c.answer_of_lists.result _ (IsAnswerOver (counted_events c.args.until events) c.args.question)
-    (λ answer is. is own) over
+    IfOk-weaker c.answer_of_lists.result _ _ (λ answer is B same. is B same (rw same own)) over

@@ -8,7 +8,9 @@ use Rattle.htl_event.specs.Moments.{counted_events}
 use Rattle.htl_command.specs.declared.question.Job.{Job}
 use Rattle.htl_segment.specs.Traces.{Trace, all_events}
 use Rattle.htl_main.specs.Moments.{IsNamedMoment}
-use Rattle.htl_main.specs.Subjects.{HasAbsence, absence_by, is_about}
+use Rattle.htl_question.specs.Questions.{subject_of}
+use Rattle.htl_question.specs.Subjects.{is_about}
+use Rattle.htl_main.specs.Subjects.{HasAbsence, absence_by}
 use Rattle.htl_main.specs.declared.completed.Absence.{Absence}
 use Rattle.htl_main.proofs.Missing.{memory_cause, missing_cause, symbols_cause}
 use Rattle.htl_main.proofs.PickedAnswers.{picked_as_of}
@@ -20,7 +22,7 @@ none_left (Some x) of_none other = absurd (other x refl)
 
 -- why nothing can be found is told by whether an event that counts is of the subject
 absence_of : (T : Trace) (job : Job) (until : Option ℕ) (found : Bool) (absence : Option Absence) → IsNamedMoment T job.until until
-    → found ≡ list_any (is_about job.question) (counted_events until (all_events T.segments))
+    → found ≡ list_any (is_about (subject_of job.question)) (counted_events until (all_events T.segments))
     → absence ≡ absence_by found job.question until (all_events T.segments) → HasAbsence T job absence
 absence_of T job until found absence named is by =
     (until, named, by ∙ ap (λ (b : Bool). absence_by b job.question until (all_events T.segments)) is)

@@ -1,17 +1,13 @@
 """What the tools share that read logs of Linux's calls: which descriptors each process has open, as events of handles."""
 import argparse
-import codecs
 import collections
-import contextlib
 import heapq
-import io
 import itertools
 import re
-import shutil
 import tempfile
 
 import logs
-from logs import Fault
+from logs import NO_STACK, Fault, Stack
 
 GREATEST_DESCRIPTOR, GREATEST_PROCESS = (1 << 29) - 2, 0xFFFFFFFF
 STANDARD = range(3)
@@ -93,8 +89,6 @@ Unshared = collections.namedtuple("Unshared", "")
 Ended = collections.namedtuple("Ended", "")
 Bad = collections.namedtuple("Bad", "descriptors")
 
-Stack = collections.namedtuple("Stack", "text frames")
-NO_STACK = Stack("", 0)
 Open = collections.namedtuple("Open", "at_exec stack name")
 
 
@@ -173,7 +167,7 @@ class Segments:
     """The text form of events, which is written segment by segment."""
 
     def __init__(self, file, given):
-        self.file, self.trace = file, given.trace_id
+        self.file, self.given = file, given
         self.number, self.events, self.most = logs.first_number(given), [], 0
 
     def add(self, line, stack):
@@ -185,8 +179,7 @@ class Segments:
     def finish(self):
         """Writes what isn't written yet."""
         if self.events:
-            version = 2 if self.most > logs.MOST_FRAMES_OF_VERSION_1 else 1
-            self.file.write(f"segment version={version} trace=0x{self.trace:016x} processors=1 processor=0 number={self.number}\n")
+            self.file.write(logs.head_of(self.number, self.most, self.given))
             self.file.writelines(self.events)
             self.number, self.events, self.most = self.number + 1, [], 0
 
@@ -415,9 +408,9 @@ def process(text):
     return value
 
 
-def arguments(about):
+def arguments(about, about_names):
     """A parser of arguments, for a tool that is described so."""
-    parser = logs.arguments_of_log(about)
+    parser = logs.arguments_of_log(about, about_names)
     parser.add_argument("--exits", action="store_true", help="write the ends of processes, which close all that they have open")
     parser.add_argument("--std", action="store_true", help="with descriptors 0 to 2, which are left out otherwise")
     about_process = "the process of the threads that the log doesn't begin, as those of one that ran before; each is one where it is left out"
@@ -425,31 +418,18 @@ def arguments(about):
     return parser
 
 
-def copy(spool, path):
-    """Writes what was kept to a file, or to standard output."""
-    spool.seek(0)
-    if path is None:
-        logs.write(spool.read(1 << 20))
-        while part := spool.read(1 << 20):
-            logs.write(part)
-    else:
-        with open(path, "w", encoding="utf-8", newline="") as file:
-            shutil.copyfileobj(spool, file, 1 << 20)
-
-
-def text_of(path):
-    """The lines of a log. What PowerShell writes is UTF-16."""
-    file = open(path, "rb")
-    is_wide = file.peek(2)[:2] in (codecs.BOM_UTF16_LE, codecs.BOM_UTF16_BE)
-    return io.TextIOWrapper(file, "utf-16" if is_wide else "utf-8-sig", errors="replace", newline="\n")
-
-
 def spool():
     return tempfile.SpooledTemporaryFile(IN_MEMORY, "w+", encoding="utf-8", newline="")
 
 
+def pieces_of(spool):
+    """What was kept, in pieces."""
+    spool.seek(0)
+    return iter(lambda: spool.read(1 << 20), "")
+
+
 def convert(given, read, text, names):
-    """Reads a log, writes the text of its segments and the names, and gives the names of addresses and the notes."""
+    """Reads a log. The text of its segments and the names are kept in files."""
     segments, frames = Segments(text, given), Frames()
     names.write("sequence,name\n")
     descriptors = Descriptors(given, segments, names)
@@ -457,29 +437,11 @@ def convert(given, read, text, names):
     segments.finish()
     if not descriptors.counts:
         raise Fault(None, f"{given.log}: no call in it opens or closes a descriptor")
-    if given.number is not None:
-        descriptors.notes.add("further", logs.further(segments.number))
-    return frames.names, descriptors.notes
+    notes = [*descriptors.notes.lines(), *logs.notes_of_trace(given, segments.number - logs.first_number(given))]
+    return logs.Made(pieces_of(text), notes, frames.names, pieces_of(names))
 
 
 def run(tool, read, given):
-    """Reads a log into descriptors, and writes what is to be written only where all went well. The status is that of logs.run."""
-    with contextlib.ExitStack() as open_files:
-        text, names = (open_files.enter_context(spool()) for _ in range(2))
-        try:
-            addresses, notes = convert(given, read, text, names)
-            if given.symbols:
-                logs.write(logs.table_of(addresses.rows()), given.symbols)
-            if getattr(given, "names", None):
-                copy(names, given.names)
-            copy(text, given.output)
-        except Fault as fault:
-            line, why = fault.args
-            logs.say(tool, f"line {line}: {why}" if line else why)
-            return 3
-        except OSError as error:
-            logs.say(tool, f"{error.filename or 'output'}: {error.strerror}")
-            return 5
-    for note in [*notes.lines(), *(addresses.notes() if given.symbols else [])]:
-        logs.say(tool, f"note: {note}")
-    return 0
+    """Reads a log into descriptors, and writes what is to be written. The status is that of logs.run."""
+    with spool() as text, spool() as names:
+        return logs.run(tool, lambda _: convert(given, read, text, names), given)

@@ -1,12 +1,17 @@
-"""What the tools beside this file share: names of frames, texts and their faults, and dialogues with the program."""
+"""What the tools beside this file share: names of frames, of opens and of objects, texts and their faults, and dialogues with the program."""
 import contextlib
+import csv
 import os
+import re
 import subprocess
 import sys
 
 BAD_INPUT, UNREADABLE = 3, 5  # the statuses of hleak for them
 PIPE_BYTES = 1 << 16  # that a pipe holds
 MOST_DIGITS = 20  # of a sequence
+OBJECT = re.compile(r"0x[0-9a-f]{1,16}$", re.I)
+# What a table of names can be by, and what is said of a row that isn't one.
+KINDS_OF_NAMES = {"sequence": "not a sequence in decimal and a name", "object": "not an object, as 0xffffa00000001000, and a name"}
 
 
 class Fault(Exception):
@@ -36,6 +41,32 @@ def lines_of(path):
         raise Fault(f"{path}, line {before.count(10) + 1}", "not a text in UTF-8") from None
     for line, words in enumerate(text.split("\n"), 1):
         yield f"{path}, line {line}", words.rstrip("\r")
+
+
+def key_of(kind, text):
+    """The sequence of an open, or the address of an object as answers have it; or None where it is neither."""
+    if kind == "sequence":
+        return int(text) if is_sequence(text) else None
+    return f"0x{int(text, 16):016x}" if OBJECT.match(text) else None
+
+
+def names_of(path):
+    """What opens are of by their sequences, or objects by their addresses: a table of names, as --names of other tools writes it."""
+    rows, names = csv.reader((words + "\n" for _, words in lines_of(path)), strict=True), {}
+    try:
+        kind, *others = next(rows, None) or [""]
+        if kind not in KINDS_OF_NAMES or others != ["name"]:
+            raise Fault(f"{path}, line 1", "the first line is neither sequence,name nor object,name: is it a table of --names?")
+        for row in filter(None, rows):
+            key = key_of(kind, row[0]) if len(row) == 2 else None
+            if key is None:
+                raise Fault(f"{path}, line {rows.line_num}", KINDS_OF_NAMES[kind])
+            if key in names:
+                raise Fault(f"{path}, line {rows.line_num}", f"the {kind} {key} stands twice")
+            names[key] = row[1]
+    except csv.Error as error:
+        raise Fault(f"{path}, line {rows.line_num}", f"not a row of a table: {error}") from None
+    return names
 
 
 def ended(tool, act):

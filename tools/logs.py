@@ -1,7 +1,10 @@
 """What the tools that read logs of the debugger share: the text of a log, its faults, the names of addresses, the text form of
 segments, and what is written where."""
 import argparse
+import codecs
 import collections
+import io
+import itertools
 import re
 import sys
 
@@ -14,21 +17,32 @@ PROMPT = re.compile(r"\s*(?:(?:\d+:\s*)?l?kd|\d+:\d+(?::[\w.]+)?)>\s*(.*)$", re.
 
 Row = collections.namedtuple("Row", HEADER)
 Name = collections.namedtuple("Name", "start module name")
+Stack = collections.namedtuple("Stack", "text frames")  # the lines of its frames, and how many they are
+NO_STACK = Stack("", 0)
+# What a tool makes: the pieces of its text, the notes, the names of addresses, and the pieces of a table of names.
+Made = collections.namedtuple("Made", "text notes symbols names", defaults=(None, None))
 
 
 class Fault(Exception):
     """A line, from 1, and why it can't be read; or None and why the log can't be taken."""
 
 
-def lines_of(path):
-    """The numbered lines of a file. The debugger can write UTF-16."""
-    with open(path, "rb") as file:
-        data = file.read()
+def open_log(path):
+    """The lines of a log, each with its end. The debugger and PowerShell can write UTF-16."""
+    file = open(path, "rb")
+    begins = file.peek(2)[:1000]
+    is_wide = begins[:2] in (codecs.BOM_UTF16_LE, codecs.BOM_UTF16_BE)
     for form, place in ("UTF-16LE", 1), ("UTF-16BE", 0):
-        if data[:2] not in (b"\xff\xfe", b"\xfe\xff") and len(data) > 1 and not data[place:1000:2].strip(b"\0"):
+        if not is_wide and len(begins) > 1 and not begins[place::2].strip(b"\0"):
+            file.close()
             raise Fault(1, f"the log is in UTF-16 without a byte order mark: convert it, as 'iconv -f {form} -t UTF-8' does")
-    text = data.decode("utf-16" if data.startswith((b"\xff\xfe", b"\xfe\xff")) else "utf-8-sig", "replace")
-    return list(enumerate(re.split(r"\r*\n", text), 1))
+    return io.TextIOWrapper(file, "utf-16" if is_wide else "utf-8-sig", errors="replace", newline="\n")
+
+
+def lines_of(path):
+    """The numbered lines of a file, without their ends."""
+    with open_log(path) as file:
+        return list(enumerate(re.split(r"\r*\n", file.read()), 1))
 
 
 def number(line, digits, most=GREATEST):
@@ -41,19 +55,22 @@ def number(line, digits, most=GREATEST):
 
 def runs_of(events):
     """Events in runs, each as long as a segment may be."""
-    return [events[place : place + MOST_EVENTS] for place in range(0, len(events), MOST_EVENTS)]
+    events = iter(events)
+    while run := list(itertools.islice(events, MOST_EVENTS)):
+        yield run
+
+
+def head_of(number, most, given):
+    """The line that a segment begins with, whose events have at most so many frames."""
+    version = 2 if most > MOST_FRAMES_OF_VERSION_1 else 1
+    return f"segment version={version} trace=0x{given.trace_id:016x} processors=1 processor=0 number={number}\n"
 
 
 def segments(runs, given):
-    """The text form of segments with these runs of events in the order of their sequences, of which each is a line and its frames."""
-    lines = []
+    """The text form of segments, one by one, with these runs of events in the order of their sequences. An event is a line and its stack."""
     for number, run in enumerate(runs, first_number(given)):
-        version = 2 if any(len(frames) > MOST_FRAMES_OF_VERSION_1 for _, frames in run) else 1
-        lines.append(f"segment version={version} trace=0x{given.trace_id:016x} processors=1 processor=0 number={number}\n")
-        for line, frames in run:
-            lines.append(f"{line}\n")
-            lines += [f"  0x{frame:016x}\n" for frame in frames]
-    return "".join(lines)
+        head = head_of(number, max(stack.frames for _, stack in run), given)
+        yield head + "".join([f"{line}\n{stack.text}" for line, stack in run])
 
 
 class Names:
@@ -106,19 +123,25 @@ def table_of(rows):
     return ",".join(HEADER) + "\n" + "".join(lines)
 
 
+def names_table_of(key, names):
+    """The text of a table of what opens or objects are of, by their sequences or addresses."""
+    return f"{key},name\n" + "".join(f"{its},{quoted(name)}\n" for its, name in sorted(names.items()))
+
+
 def more(places):
     """How many places there are behind the first one."""
     return f" ({len(places) - 1} more such)" if len(places) > 1 else ""
 
 
-def write(text, path=None):
-    """Writes a text to a file, or to standard output."""
+def write(texts, path=None):
+    """Writes texts one after the other to a file, or to standard output."""
     if path is None:
-        sys.stdout.buffer.write(text.encode())
+        for text in texts:
+            sys.stdout.buffer.write(text.encode())
         sys.stdout.flush()
     else:
         with open(path, "w", encoding="utf-8", newline="") as file:
-            file.write(text)
+            file.writelines(texts)
 
 
 def arguments(about):
@@ -146,21 +169,22 @@ def first_number(given):
     return given.number or 0
 
 
-def further(number):
-    """Says which number a further log of the trace begins with."""
-    return f"a further log of this trace goes on with --number {number}"
-
-
-def notes_of_trace(given, runs):
-    """The same where several logs seem to be wanted."""
+def notes_of_trace(given, segments):
+    """Says which number a further log of the trace begins with, behind so many segments, where several logs seem to be wanted."""
     if given.number is not None:
-        yield further(given.number + len(runs))
+        yield f"a further log of this trace goes on with --number {given.number + segments}"
 
 
-def arguments_of_log(about):
-    """The same for one that makes the text of segments, and a symbol table, of one log."""
+def segments_of(events):
+    """How many segments have so many events."""
+    return -(-events // MOST_EVENTS)
+
+
+def arguments_of_log(about, about_names):
+    """The same for one that makes the text of segments, a symbol table, and a table of names of one log."""
     parser = arguments(about)
     parser.add_argument("--symbols", metavar="NAMES.csv", help="write the names in the log to this file, as a symbol table")
+    parser.add_argument("--names", metavar="FILES.csv", help=about_names)
     about = "the trace's id, 1 where it is left out: the same for all logs of one boot"
     parser.add_argument("--trace-id", type=whole(GREATEST), default=1, metavar="ID", help=about)
     about = "the number of the first segment, 0 where it is left out: for a further log of one trace, one above those before"
@@ -176,14 +200,17 @@ def say(tool, text):
 
 
 def run(tool, work, given):
-    """Makes what is to be written, writes it, and then the notes. The status is 0, 3 for a fault of a log, and 5 for one of files.
-
-    The work gives the text, the rows of a symbol table or None, and the notes."""
+    """Makes what is to be written, writes it where all went well, and then the notes. The status is 0, 3 for a fault of a log, and 5 for
+    one of files."""
     try:
-        text, rows, notes = work(given)
-        if rows is not None:
-            write(table_of(rows), given.symbols)
-        write(text, given.output)
+        made = work(given)
+        notes = list(made.notes)
+        if made.symbols and given.symbols:
+            write([table_of(made.symbols.rows())], given.symbols)
+            notes += made.symbols.notes()
+        if made.names and given.names:
+            write(made.names, given.names)
+        write(made.text, given.output)
     except Fault as fault:
         line, why = fault.args
         say(tool, f"line {line}: {why}" if line else why)

@@ -1,9 +1,9 @@
 """What is known before a page is made: the files of its options, and the answers that several of its sections need."""
 import collections
 
+from hleaklib import names_of
 from stacklists import known_of, leaks_of
 
-from .opens import names_of
 from .rows import Lines
 from .sites import tester_of
 

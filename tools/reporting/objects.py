@@ -15,8 +15,8 @@ def objects_of(material):
         tags = trace.tags(row["object"])
         unbalanced = [tag for tag in tags if tag["over"] or tag["under"]]
         if row is rows[0]:
-            material.findings.append(finding_of(row, unbalanced[0]))
-        for head in room.first([head_of(row, tags, material.given.top)], 1):
+            material.findings.append(finding_of(name_of(material, row), unbalanced[0]))
+        for head in room.first([head_of(row, name_of(material, row), tags, material.given.top)], 1):
             stacks = [stacks_of(material, row["object"], tag, room) for tag in unbalanced[:most]]
             more = left_out(len(unbalanced), stacks, "unbalanced tag")
             parts.append(opened(row is rows[0], head, *stacks, more, class_="object"))
@@ -36,18 +36,24 @@ def balance_of(tag):
     return f"{tag['under']:,} dropped too often" if tag["under"] else "balanced"
 
 
-def head_of(row, tags, most):
+def name_of(material, row):
+    """An object, with what it is where that is known."""
+    name = material.files.names.get(row["object"])
+    return joined("Object ", element("code", row["object"]), *([" (", element("code", name), ")"] if name else []))
+
+
+def head_of(row, name, tags, most):
     """An object with its tags."""
     number = counted(row["unbalanced"], "unbalanced tag")
-    head = element("summary", element("h3", "Object ", element("code", row["object"])), element("b", number))
+    head = element("summary", element("h3", name), element("b", number))
     lines = [(element("code", tag["tag"]), f"{tag['references']:,}", f"{tag['dereferences']:,}", balance_of(tag)) for tag in tags[:most]]
     return joined(head, table(("Tag", "References", "Dereferences", "Balance"), lines), left_out(len(tags), lines, "tag"))
 
 
-def finding_of(row, tag):
+def finding_of(name, tag):
     over, under = counted(tag["over"], "reference"), counted(tag["under"], "dereference")
     told = f"{over} that nobody dropped" if tag["over"] else f"{under} too many"
-    return joined("Object ", element("code", row["object"]), " has under the tag ", element("code", tag["tag"]), f" {told}.")
+    return joined(name, " has under the tag ", element("code", tag["tag"]), f" {told}.")
 
 
 def stacks_of(material, number, tag, room):

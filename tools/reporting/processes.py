@@ -1,4 +1,6 @@
 """The processes with open handles or bad references: a curve of each, and the stacks behind them."""
+import heapq
+
 from .pages import Room, counted, element, facts, joined, left_out, note, opened, share_of
 from .pictures import curve_of
 from .questions import MOST_HANDLES
@@ -66,7 +68,7 @@ def bad_of(material, row, room, bad):
     bad.append((sites[0].count, row["process"], lines.call(sites[0].names)))
 
     def stack(site):
-        handles = site.keys.most_common(MOST_LISTED)
+        handles = heapq.nsmallest(MOST_LISTED, site.keys.items(), key=lambda it: (-it[1], int(it[0], 16)))
         items = [element("li", element("b", handle.decode()), f" {counted(times, 'time')}") for handle, times in handles]
         numbers = f"{site.count:,}", counted(len(site.keys), "handle")
         return stack_of(numbers, lines.of(site.names), calls_of_site(site), listed("Handles", items, len(site.keys)))

@@ -4,7 +4,7 @@ import re
 
 from hleaklib import Fault
 
-from .sites import Rows, Sites
+from .sites import STACK, Rows, Sites
 
 MOST_PROCESSES = 1000  # whose stacks are asked for, those with most open handles
 MOST_QUESTIONS = 48  # on how many handles stacks had at moments, while each process is asked by itself
@@ -125,11 +125,14 @@ class Trace:
 
     def bad(self, process):
         """The stacks that used handles which weren't open, and how often they used each."""
-        sites = Sites()
         _, lines = self.lines(f"bad --process {process['process']}{self.as_of(self.until)}")
-        for head, stack in map(self.rows.parted, lines):
+        times_of, sites = collections.defaultdict(dict), Sites()
+        for line in lines:  # (an answer may have a million, of which no two have the same handle and stack)
+            head, _, text = line.partition(STACK)
             handle, times = BAD.match(head).groups()
-            sites.add(stack, handle, int(times))
+            times_of[text][handle] = int(times)
+        for text, times in times_of.items():
+            sites.add_keys(self.rows.stack(text), times)
         return sites
 
     def tags(self, number):

@@ -10,8 +10,8 @@ from hleaklib import name_of
 
 MOST_STACKS, MOST_FRAMES = 20_000, 500_000  # that are kept to be found again
 
-# How the JSON of a stack begins, and what stands before each next frame. Within a string the quotes would be escaped.
-FIRST, NEXT = b'[{"address":"', b'},{"address":"'
+# What stands before a row's stack, how its JSON begins, and what is before each next frame. Within a string the quotes would be escaped.
+STACK, FIRST, NEXT = b',"stack":', b'[{"address":"', b'},{"address":"'
 
 # Modules whose calls say little about who leaks: of Windows, in its kernel and in its programs, and of Linux.
 SYSTEM = (
@@ -56,7 +56,7 @@ class Rows:
 
     def __call__(self, line):
         """The fields of a row."""
-        if b',"stack":' not in line:
+        if STACK not in line:
             return json.loads(line)
         head, stack = self.parted(line)
         row = json.loads(head + b"}")
@@ -64,9 +64,13 @@ class Rows:
         return row
 
     def parted(self, line):
-        """The JSON of a row before its stack, and the stack. (It is the last field, and within a string its quotes would be escaped.)"""
-        head, _, text = line.partition(b',"stack":')
-        return head, self.stacks.get(text) or self.read(text)
+        """The JSON of a row before its stack, which is the last field, and the stack."""
+        head, _, text = line.partition(STACK)
+        return head, self.stack(text)
+
+    def stack(self, text):
+        """The stack with this JSON, behind which the rest of its line stands."""
+        return self.stacks.get(text) or self.read(text)
 
     def read(self, text):
         if len(self.stacks) >= MOST_STACKS:
@@ -115,6 +119,12 @@ class Sites:
         stacks, keys = site.stacks, site.keys
         stacks[stack] = stacks.get(stack, 0) + count  # (a += would ask the counter for what it hasn't, which takes longer)
         keys[key] = keys.get(key, 0) + count
+
+    def add_keys(self, stack, counts):
+        """Adds a stack that comes so often for each of these keys."""
+        site = self.site(stack.names)
+        site.stacks[stack] += sum(counts.values())
+        site.keys.update(counts)
 
     def add_all(self, others):
         """Adds the sites of another list."""

@@ -24,7 +24,7 @@ def list_of(material):
     rows = list(room.first((row_of(material, site, at < WORST) for at, site in enumerate(material.leaking)), material.given.top))
     told = counted(len(known), "known stack"), counted(sum(site.count for site in known), "handle")
     return joined(
-        note("A handle that is open need not be a leak: some are kept open on purpose."),
+        note("A handle that is open need not be a leak: some are kept open on purpose." if rows else "No stack leaves a handle open."),
         *shared,
         TOOLS if len(rows) > 1 else "",
         element("div", *rows, id="list"),

@@ -4,7 +4,7 @@
 use crate::stopwatch::Stopwatch;
 use anyhow::Result;
 use htl_samples::{RandomTrace, SMALL};
-use htl_segment::Segment;
+use htl_segment::SegmentBytes;
 use htl_text::{dump, encode};
 use std::alloc::Global;
 
@@ -23,19 +23,22 @@ fn trace_of(segments: u32) -> RandomTrace {
     }
 }
 
-/// The text of all segments.
-fn text_of(alloc: Global, segments: &[Segment]) -> Result<Vec<u8>> {
+/// The text of a bundle's segments.
+fn text_of(alloc: Global, bundle: &[u8]) -> Result<Vec<u8>> {
     let mut text = Vec::new(alloc);
-    for segment in segments {
-        text.extend_from_slice(&dump(alloc, segment)?)?;
+    let mut rest = bundle;
+    while !rest.is_empty() {
+        let segment = SegmentBytes::check(rest)?;
+        dump(alloc, &segment, &mut text)?;
+        rest = &rest[segment.byte_len()..];
     }
     Ok(text)
 }
 
 pub fn measure(watch: &mut Stopwatch<'_>, per_processor: u32) -> Result<()> {
-    let segments = trace_of(per_processor).segments(watch.alloc())?;
+    let bundle = trace_of(per_processor).bundle(watch.alloc())?;
     watch.restart();
-    let text = text_of(watch.alloc(), &segments)?;
+    let text = text_of(watch.alloc(), &bundle)?;
     watch.lap("bytes of text dumped", text.len() as u64);
     let bytes = encode(watch.alloc(), &text)?;
     watch.lap("bytes of text encoded", text.len() as u64);

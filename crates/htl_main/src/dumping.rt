@@ -124,7 +124,7 @@ fn dump_whole<W: Sink>(
         fault) }
     ensures failed { (W.state out.new).failed ≡ is_failed_write result }
 {
-    let rest = dump_front(alloc, place, 0, bytes, out)?;
+    let rest = dump_front(alloc, place, 0, bytes, &mut Vec::new(alloc), out)?;
     finish(form, place, (bytes.len() - rest.len()) as u64, rest)
 }
 
@@ -161,6 +161,7 @@ fn dump_within<R: Source, W: Sink>(
         (R.state source.new).remaining }
 {
     let mut held = Vec::new(alloc);
+    let mut text = Vec::new(alloc);
     let mut start = 0;
     for _read in 0..most {
         let Ok(count) = source.read(buffer) else {
@@ -170,7 +171,7 @@ fn dump_within<R: Source, W: Sink>(
             return finish(form, place, start, &held);
         }
         held.extend_from_slice(&buffer[..count])?;
-        let left = dump_front(alloc, place, start, &held, out)?.len();
+        let left = dump_front(alloc, place, start, &held, &mut text, out)?.len();
         start += (held.len() - left) as u64;
         keep_last(&mut held, left);
     }
@@ -211,6 +212,7 @@ fn dump_front<'a, W: Sink>(
     place: u64,
     start: u64,
     bytes: &'a [u8],
+    text: &mut Vec<u8>,
     out: &mut W,
 ) -> Result<&'a [u8], RunFault>
     requires out { (W.state out.old).failed ≡ false }
@@ -226,7 +228,7 @@ fn dump_front<'a, W: Sink>(
     loop {
         match SegmentBytes::check(rest) {
             Ok(segment) => {
-                dump_segment(alloc, &segment, out)?;
+                dump_segment(alloc, &segment, text, out)?;
                 rest = &rest[segment.byte_len()..];
             }
             Err(fault) if fault.is_early_end() => return Ok(rest),
@@ -245,6 +247,7 @@ fn dump_front<'a, W: Sink>(
 fn dump_segment<W: Sink>(
     alloc: Global,
     segment: &SegmentBytes<'_>,
+    text: &mut Vec<u8>,
     out: &mut W,
 ) -> Result<(), RunFault>
     requires { (W.state out.old).failed ≡ false }
@@ -256,7 +259,7 @@ fn dump_segment<W: Sink>(
         (segment_text segment.now))) }
     ensures failed { (W.state out.new).failed ≡ is_failed_write result }
 {
-    let segment = segment.to_segment(alloc)?;
-    let text = dump(alloc, &segment)?;
-    write_lines(out, &text)
+    text.clear();
+    dump(alloc, segment, text)?;
+    write_lines(out, text)
 }

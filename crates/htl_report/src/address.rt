@@ -5,6 +5,7 @@ ghost use Rattle.htl_symbols.specs.Ranges.{resolved};
 ghost use Rattle.htl_numbers.specs.Written.{padded};
 ghost use Rattle.htl_report.specs.Addresses.{frame_line, named, stack_lines};
 
+use htl_numbers::write_hex_digits;
 use htl_symbols::Symbols;
 use std::alloc::AllocError;
 
@@ -54,13 +55,5 @@ pub fn write_address(out: &mut String, address: u64) -> Result<(), AllocError>
         ≡ string_bytes out.old ++ (codes "0x" ++ padded 16 address)) }
 {
     out.push_str("0x")?;
-    write_padded(out, address)
-}
-
-/// Writes the address in 16 hexadecimal digits.
-#[tactic(auto, using(htl_lemmas::proofs::Padding::padded_to))]
-pub(crate) fn write_padded(out: &mut String, address: u64) -> Result<(), AllocError>
-    ensures { OnOk result (string_bytes out.new ≡ string_bytes out.old ++ padded 16 address) }
-{
-    write!(out, "{address:016x}")
+    write_hex_digits(out, address)
 }

@@ -4,8 +4,9 @@ ghost use Rattle.std.specs.Prelude.{◌≡◌, ◌++◌, ◌<◌, OnOk, string_b
 ghost use Rattle.htl_report.specs.Parts.{count_part, counts, event_line, event_lines, object_part};
 ghost use Rattle.htl_report.specs.Parts.{shown_byte, shown_tag, until_part};
 
-use crate::address::{write_padded, write_stack};
+use crate::address::write_stack;
 use htl_event::{Count, SharedEvent};
+use htl_numbers::write_hex_digits;
 use htl_symbols::Symbols;
 use std::alloc::AllocError;
 
@@ -16,7 +17,7 @@ pub(crate) fn write_object(out: &mut String, object: u64) -> Result<(), AllocErr
         ≡ string_bytes out.old ++ object_part object) }
 {
     out.push_str(" object=0x")?;
-    write_padded(out, object)
+    write_hex_digits(out, object)
 }
 
 /// Writes the moment up to which events count, where one is given.

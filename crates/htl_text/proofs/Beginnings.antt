@@ -1,8 +1,8 @@
 -- What is being read is a segment that the text begins with.
-use Rattle.std.proofs.Common.{◌≡◌, ℕ, Bool, true, false, List, ◌∷◌, refl, ap, ◌∙◌}
+use Rattle.std.proofs.Common.{◌≡◌, ℕ, Bool, true, false, List, ◌∷◌, refl, ap, sym, ◌∙◌}
 use Rattle.std.specs.Prelude.{◌||◌, Option, Some, None, Result, Ok, Err, IfErr, if◌then◌else◌}
 use Rattle.std.specs.Option.{is_some}
-use Rattle.std.proofs.Math.Bool.{or-true}
+use Rattle.std.proofs.Math.Bool.{or-false, or-true}
 use Rattle.htl_event.specs.Events.{Event}
 use Rattle.htl_text.specs.declared.fault.FormFault.{FormFault}
 use Rattle.htl_text.specs.declared.fault.LineFault.{LineFault}
@@ -79,6 +79,14 @@ pub starts_on : (whole rest later : List (List ℕ)) (line : List ℕ) (n : ℕ)
     → kept rest ≡ kept (line ∷ later) → after_words n (words_of line) p ≡ Ok q → begins (kept whole) ≡ starts q later
 starts_on whole rest later line n p q start cut h =
     start ∙ (ap (λ k. is_some p.draft || begins k) cut ∙ starts_step n line later p q h)
+
+-- a frame is taken only while a segment's lines are being read, and these go on
+pub frame_on : (whole rest later : List (List ℕ)) (line address : ℕ) (p q : Progress) → begins (kept whole) ≡ starts p rest
+    → after_frame line address p.bytes p.draft ≡ Ok q → begins (kept whole) ≡ starts q later
+frame_on whole rest later line address p q start h =
+    let is = started line (item.Frame address) p.bytes p.draft q h in
+    let before : is_some p.draft ≡ true = sym (or-false (is_some p.draft)) ∙ is.1 in
+    start ∙ rw (before, is.0) refl
 
 -- so a refusal of memory is one of a text that begins with a segment
 pub needs_segment : {A : Type 0} (bytes : List ℕ) (p : Progress) (rest : List (List ℕ)) (answer : Result A TextFault)

@@ -12,6 +12,7 @@ pub mod Numerals
 pub mod DumpedLines
 pub mod DumpedFields
 pub mod Dumped
+pub mod FrameLines
 pub mod Beginnings
 pub mod EventLines
 pub mod EventPlaces

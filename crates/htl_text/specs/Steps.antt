@@ -169,6 +169,12 @@ StartsWithLine text line rest =
     (n : ℕ) (p : Progress)
     → read n (lines_of_text text) p ≡ go_on (after_words (n + 1) (words_of line) p) (read (n + 1) (lines_of_text rest))
 
+-- as far as reading goes, the text is the line of this frame and then the rest
+abbrev pub StartsWithFrame : List ℕ → ℕ → List ℕ → Type 0
+StartsWithFrame text address rest =
+    (n : ℕ) (p : Progress)
+    → read n (lines_of_text text) p ≡ go_on (after_frame (n + 1) address p.bytes p.draft) (read (n + 1) (lines_of_text rest))
+
 -- how the fault of a draft is reported, from the line at which it begins and the fault of what is held of it
 abbrev pub refused_of : ℕ → Option ℕ → Fault → TextFault
 refused_of line (Some i) fault = text.Line line (Segment (overfull_fault i (Some fault)))

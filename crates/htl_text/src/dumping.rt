@@ -1,7 +1,10 @@
 //! Dumping: the text of a segment.
-ghost use Rattle.std.specs.Prelude.{◌≡◌, ◌++◌, IfOk, OnOk, flat_map, string_bytes, true};
+ghost use Rattle.std.specs.Prelude.{◌≡◌, ◌+◌, ◌*◌, ◌/◌, ◌≤◌, ◌++◌, OnOk, flat_map, length};
+ghost use Rattle.std.specs.Prelude.{string_bytes, true};
 ghost use Rattle.std.specs.List.{list_all};
 ghost use Rattle.htl_numbers.specs.Written.{padded};
+ghost use Rattle.htl_segment.specs.Numbers.{number, numbers};
+ghost use Rattle.htl_segment.specs.Records.{event_of};
 ghost use Rattle.htl_text.specs.Items.{head_of};
 ghost use Rattle.htl_text.specs.Texts.{event_line, event_text, frame_line, handle_part, head_line};
 ghost use Rattle.htl_text.specs.Texts.{is_visible, object_part, origin, place_part, segment_text};
@@ -9,28 +12,25 @@ ghost use Rattle.htl_text.specs.Texts.{subject};
 ghost use Rattle.htl_text.specs.Texts.{tag_text, version_part};
 
 use crate::item::Head;
-use htl_event::{Kind, NoMemory, SharedEvent};
-use htl_segment::Segment;
+use byteorder::{ByteOrder, LittleEndian};
+use htl_event::{Kind, NoMemory};
+use htl_numbers::{hex_digits, write_hex_digits};
+use htl_segment::{Record, Records, SegmentBytes};
+use itoa::Buffer;
 use std::alloc::{AllocError, Global};
 
-/// Writes the lines of a segment, each ended by a line feed.
-pub fn dump(alloc: Global, segment: &Segment) -> Result<Vec<u8>, NoMemory>
-    ensures { IfOk result (λ bytes. bytes.items ≡ segment_text segment.now) }
+/// Puts the lines of a segment behind the bytes of a buffer, each ended by a line feed. Where memory
+/// is refused, a first part of them may stand there.
+pub fn dump(alloc: Global, segment: &SegmentBytes<'_>, out: &mut Vec<u8>) -> Result<(), NoMemory>
+    ensures { OnOk result (out.new.items ≡ out.old.items ++ segment_text segment.now) }
 {
-    let mut out = String::new(alloc);
-    write_segment(&mut out, segment)?;
-    Ok(out.into_bytes())
+    let mut line = String::new(alloc);
+    write_head(&mut line, head(segment))?;
+    out.extend_from_slice(line.as_bytes())?;
+    Ok(write_events(out, &mut line, segment.records())?)
 }
 
-fn write_segment(out: &mut String, segment: &Segment) -> Result<(), AllocError>
-    ensures { OnOk result (string_bytes out.new
-        ≡ string_bytes out.old ++ segment_text segment.now) }
-{
-    write_head(out, head(segment))?;
-    write_events(out, segment.events())
-}
-
-fn head(segment: &Segment) -> Head
+fn head(segment: &SegmentBytes<'_>) -> Head
     ensures { result ≡ head_of segment.now }
 {
     Head {
@@ -47,7 +47,7 @@ fn write_head(out: &mut String, head: Head) -> Result<(), AllocError>
     ensures { OnOk result (string_bytes out.new ≡ string_bytes out.old ++ head_line head) }
 {
     write_version(out, head.version)?;
-    write_padded(out, head.trace_id)?;
+    write_hex_digits(out, head.trace_id)?;
     write_place(out, head)
 }
 
@@ -70,34 +70,29 @@ fn write_place(out: &mut String, head: Head) -> Result<(), AllocError>
     )
 }
 
-/// Writes a number in 16 hexadecimal digits.
-#[tactic(auto, using(htl_lemmas::proofs::Padding::padded_to))]
-fn write_padded(out: &mut String, number: u64) -> Result<(), AllocError>
-    ensures { OnOk result (string_bytes out.new ≡ string_bytes out.old ++ padded 16 number) }
-{
-    write!(out, "{number:016x}")
-}
-
-fn write_events(out: &mut String, events: &[SharedEvent]) -> Result<(), AllocError>
-    ensures { OnOk result (string_bytes out.new
-        ≡ string_bytes out.old ++ flat_map event_text events.now) }
+/// Puts the lines of events behind the bytes. `line` is room for one of them.
+fn write_events(out: &mut Vec<u8>, line: &mut String, events: Records<'_>) -> Result<(), AllocError>
+    ensures { OnOk result (out.new.items ≡ out.old.items ++ flat_map event_text events.entry) }
 {
     for event in events {
-        write_event(out, event)?;
+        write_event(out, line, &event)?;
     }
     Ok(())
 }
 
-fn write_event(out: &mut String, event: &SharedEvent) -> Result<(), AllocError>
-    ensures { OnOk result (string_bytes out.new ≡ string_bytes out.old ++ event_text event.now) }
+fn write_event(out: &mut Vec<u8>, line: &mut String, event: &Record<'_>) -> Result<(), AllocError>
+    ensures { OnOk result (out.new.items ≡ out.old.items ++ event_text (event_of event.now)) }
 {
-    write_event_line(out, event)?;
-    write_frames(out, event.stack.frames())
+    line.clear();
+    write_event_line(line, event)?;
+    out.extend_from_slice(line.as_bytes())?;
+    write_frames(out, event.frames)
 }
 
 #[tactic(auto, unfolding(crate::specs::Texts::event_line))]
-fn write_event_line(out: &mut String, event: &SharedEvent) -> Result<(), AllocError>
-    ensures { OnOk result (string_bytes out.new ≡ string_bytes out.old ++ event_line event.now) }
+fn write_event_line(out: &mut String, event: &Record<'_>) -> Result<(), AllocError>
+    ensures { OnOk result (string_bytes out.new
+        ≡ string_bytes out.old ++ event_line (event_of event.now)) }
 {
     out.push_str(event.kind.word())?;
     write_subject(out, event)?;
@@ -105,7 +100,7 @@ fn write_event_line(out: &mut String, event: &SharedEvent) -> Result<(), AllocEr
 }
 
 /// Writes the fields of an event that its kind has.
-fn write_subject(out: &mut String, event: &SharedEvent) -> Result<(), AllocError>
+fn write_subject(out: &mut String, event: &Record<'_>) -> Result<(), AllocError>
     ensures { OnOk result (string_bytes out.new ≡ string_bytes out.old
         ++ subject event.now.kind event.now.handle event.now.object event.now.tag) }
 {
@@ -129,7 +124,7 @@ fn write_object(out: &mut String, object: u64, tag: [u8; 4]) -> Result<(), Alloc
         ≡ string_bytes out.old ++ object_part object tag) }
 {
     out.push_str(" object=0x")?;
-    write_padded(out, object)?;
+    write_hex_digits(out, object)?;
     out.push_str(" tag=")?;
     write_tag(out, tag)
 }
@@ -172,32 +167,44 @@ fn write_visible(out: &mut String, bytes: &[u8]) -> Result<(), AllocError>
 }
 
 #[tactic(auto, unfolding(crate::specs::Texts::origin))]
-fn write_origin(out: &mut String, event: &SharedEvent) -> Result<(), AllocError>
+fn write_origin(out: &mut String, event: &Record<'_>) -> Result<(), AllocError>
     ensures { OnOk result (string_bytes out.new ≡ string_bytes out.old
         ++ origin event.now.sequence event.now.process event.now.thread) }
 {
-    writeln!(
-        out,
-        " seq={} process={} thread={}",
-        event.sequence, event.process, event.thread
-    )
+    let mut buffer = Buffer::new();
+    out.push_str(" seq=")?;
+    out.push_str(buffer.format(event.sequence))?;
+    out.push_str(" process=")?;
+    out.push_str(buffer.format(event.process))?;
+    out.push_str(" thread=")?;
+    out.push_str(buffer.format(event.thread))?;
+    out.push('\n')
 }
 
-fn write_frames(out: &mut String, frames: &[u64]) -> Result<(), AllocError>
-    ensures { OnOk result (string_bytes out.new
-        ≡ string_bytes out.old ++ flat_map frame_line frames.now) }
+fn write_frames(out: &mut Vec<u8>, frames: &[u8]) -> Result<(), AllocError>
+    ensures { OnOk result (out.new.items ≡ out.old.items
+        ++ flat_map frame_line (numbers 0 (length frames.now / 8) frames.now)) }
 {
-    for frame in frames {
-        write_frame(out, *frame)?;
+    for place in 0..frames.len() / 8 {
+        out.extend_from_slice(&frame_line(address_at(frames, 8 * place)))?;
     }
     Ok(())
 }
 
-#[tactic(auto, unfolding(crate::specs::Texts::frame_line))]
-fn write_frame(out: &mut String, address: u64) -> Result<(), AllocError>
-    ensures { OnOk result (string_bytes out.new ≡ string_bytes out.old ++ frame_line address) }
+/// The address in the eight bytes at a place, the lowest byte first.
+#[tactic(auto, unfolding(htl_segment::specs::Numbers::number))]
+fn address_at(frames: &[u8], place: usize) -> u64
+    requires { place + 8 ≤ length frames.now }
+    ensures { result ≡ number place 8 frames.now }
 {
-    out.push_str("  0x")?;
-    write_padded(out, address)?;
-    out.push('\n')
+    LittleEndian::read_u64(&frames[place..])
+}
+
+#[tactic(auto, unfolding(crate::specs::Texts::frame_line))]
+fn frame_line(address: u64) -> [u8; 21]
+    ensures { result ≡ frame_line address }
+{
+    let mut line = *b"  0x0000000000000000\n";
+    line[4..20].copy_from_slice(&hex_digits(address));
+    line
 }

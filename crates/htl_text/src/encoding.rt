@@ -1,6 +1,6 @@
 //! Encoding: the bytes that a text encodes.
 ghost use Rattle.std.specs.Prelude.{◌≡◌, ◌<◌, ◌≤◌, ◌∷◌, ℕ, List, Ok, length, position};
-ghost use Rattle.std.specs.Prelude.{IfErr, IfOk, MatchResult};
+ghost use Rattle.std.specs.Prelude.{IfErr, IfOk, IfSome, MatchResult};
 ghost use Rattle.std.specs.Str.Lines.{strip_carriage_return};
 ghost use Rattle.htl_segment.specs.Bundles.{bundle};
 ghost use Rattle.htl_segment.specs.Content.{Content};
@@ -9,13 +9,14 @@ ghost use Rattle.htl_text.specs.Encoded.{Encodes, event_lines, FirstFault, IsOrN
 ghost use Rattle.htl_text.specs.Encoded.{IsRefused, kept};
 ghost use Rattle.htl_text.specs.Lines.{lines_of_text, without_mark};
 ghost use Rattle.htl_text.specs.Steps.{read, nothing_read, NeedsSegment, Reports};
-ghost use Rattle.htl_text.specs.Steps.{StartsWithLine};
+ghost use Rattle.htl_text.specs.Steps.{StartsWithFrame, StartsWithLine};
 ghost use Rattle.htl_text.specs.Words.{is_feed, line_end};
 
 use crate::draft::Draft;
 use crate::fault::{LineFault, TextFault};
 use crate::item::Item;
 use crate::lines::item;
+use crate::values::frame_value;
 use crate::words::is_skipped;
 use htl_event::Event;
 use std::alloc::Global;
@@ -65,12 +66,31 @@ fn read_text(alloc: Global, text: &[u8]) -> Result<Vec<u8>, TextFault>
     let mut rest = text;
     let mut number = 0;
     while !rest.is_empty() {
-        let (line, others) = split_line(rest);
         number += 1;
-        reader.read_line(number, line)?;
-        rest = others;
+        if let Some((address, others)) = split_frame(rest) {
+            reader.add_frame(number, address)?;
+            rest = others;
+        } else {
+            let (line, others) = split_line(rest);
+            reader.read_line(number, line)?;
+            rest = others;
+        }
     }
     reader.finish()
+}
+
+/// The length of `0x` and 16 digits.
+const ADDRESS_LEN: usize = 18;
+
+/// The address of a frame's line as `dump` prints it, if the text begins with one, and the text
+/// after that line. Most lines of a dumped text are such lines.
+fn split_frame(text: &[u8]) -> Option<(u64, &[u8])>
+    ensures line { IfSome result (λ found. StartsWithFrame text.entry.now found.0 found.1.now) }
+    ensures shorter { IfSome result (λ found. length found.1.now < length text.entry.now) }
+{
+    let (address, rest) = text.strip_prefix(b"  ")?.split_at_checked(ADDRESS_LEN)?;
+    let rest = rest.strip_prefix(b"\n")?;
+    Some((frame_value(address)?, rest))
 }
 
 /// The first line of a text, and the text after it.

@@ -2,7 +2,7 @@
 
 use crate::rows::assert_row;
 use htl_samples::RandomTrace;
-use htl_segment::{Fault, decode_bundle, from_hex};
+use htl_segment::{Fault, SegmentBytes, from_hex};
 use htl_text::{LineFault, TextFault, dump, encode, event_line};
 use std::alloc::Global;
 use std::process::Abort;
@@ -74,11 +74,12 @@ fn encoded(rt: &impl Abort, alloc: Global, text: &[u8]) -> Vec<u8> {
 
 /// The text of a bundle's segments.
 fn dumped(rt: &impl Abort, alloc: Global, bundle: &[u8]) -> Vec<u8> {
-    let segments = decode_bundle(alloc, bundle).ok().expect(rt, "a bundle");
     let mut text = Vec::new(alloc);
-    for segment in &segments {
-        let lines = dump(alloc, segment).expect(rt, "the memory");
-        text.extend_from_slice(&lines).expect(rt, "the memory");
+    let mut rest = bundle;
+    while !rest.is_empty() {
+        let segment = SegmentBytes::check(rest).ok().expect(rt, "a bundle");
+        dump(alloc, &segment, &mut text).expect(rt, "the memory");
+        rest = &rest[segment.byte_len()..];
     }
     text
 }

@@ -2,7 +2,7 @@
 use Rattle.std.proofs.Common.{rules, arith, ◌≡◌, ◌∙◌, length}
 use Rattle.htl_text.specs.Lines.{lines_of_text}
 use Rattle.htl_text.specs.Steps.{closed, nothing_read, read}
-use Rattle.htl_text.proofs.Beginnings.{needs_segment, starts_on}
+use Rattle.htl_text.proofs.Beginnings.{frame_on, needs_segment, starts_on}
 use Rattle.htl_text.proofs.FirstLine.{read_ended}
 use Rattle.htl_text.proofs.encoding.read_text.Goals as goal
 
@@ -24,5 +24,13 @@ loop-rest-preserved c = record {
   start = starts_on (lines_of_text c.args.text.now) (lines_of_text c.loop-rest.rest.now) (lines_of_text c.split_line.result.1.now)
       c.split_line.result.0.now _ c.loop-rest.reader c.read_line.new.self c.loop-rest.invariant.start c.split_line.ensures.kept
       c.in_ok-read_line.ensures.outcome;
+  few = search (rules, arith);
+}
+
+pub loop-rest-preserved-in-Some : goal.loop-rest-preserved-in-Some
+loop-rest-preserved-in-Some c = record {
+  left = search rules;
+  start = frame_on (lines_of_text c.args.text.now) (lines_of_text c.loop-rest.rest.now) (lines_of_text c.in-Some.others.now)
+      _ c.in-Some.address c.loop-rest.reader c.add_frame.new.self c.loop-rest.invariant.start c.in_ok-add_frame.ensures.outcome;
   few = search (rules, arith);
 }

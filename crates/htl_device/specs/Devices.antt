@@ -1,5 +1,5 @@
 -- What reads of a source and writes to a sink leave (this project's own).
-use Rattle.std.specs.Prelude.{◌+◌, ℕ, Bool, true, false, List, Option, Result, Err, take, length}
+use Rattle.std.specs.Prelude.{◌+◌, ℕ, true, false, List, Option, Result, Err, take, length}
 use Rattle.std.specs.Prelude.{drop, option_map, ◌≡◌, ◌<◌, ◌≤◌, ◌⊎◌, IfErr, IfOk, IfSome, OnOk, is_err}
 use Rattle.std.specs.Global.{Vec}
 use Rattle.std.specs.Io.KnownBytes.{Appends, Consumes}
@@ -32,3 +32,4 @@ pub record ReadsWhole (most : ℕ) (given : Option (List ℕ)) (old new : Source
   pub failed : IfErr result (λ fault. (fault ≡ NoMemory) ⊎ ((new.failed ≡ true)
       ⊎ ((most ≤ new.good_reads) × IfSome given (λ known. most ≤ length known))))
   pub bounded : new.good_reads ≤ old.good_reads + most
+  pub tails : new.tails ≡ old.tails

@@ -4,11 +4,12 @@ use Rattle.std.specs.Prelude.{if◌then◌else◌, is_err, drop, option_map, map
 use Rattle.std.specs.Io.KnownBytes.{ReadConsumes, WriteAppends}
 
 -- What is known of a source: whether a read of it failed, which stays so; whether the last read found the end; how many reads gave bytes,
--- as far as 64 bits count; and the bytes that reads will give, where they are known.
+-- and how often another reader of it was asked for, as far as 64 bits count; and the bytes that reads will give, where they are known.
 pub record SourceState : Type 0 where
   pub failed : Bool
   pub ended : Bool
   pub good_reads : ℕ
+  pub tails : ℕ
   pub remaining : Option (List ℕ)
 
 -- The source can be read: no read failed, and the end was not found.
@@ -44,9 +45,13 @@ ends sources = map has_ended sources
 abbrev pub IfKnown : List SourceState → (List (List ℕ) → Type 0) → Type 0
 IfKnown sources P = (texts : List (List ℕ)) → map remaining sources ≡ map Some texts → P texts
 
--- how many reads gave bytes after one more read with this result, as far as 64 bits count
+-- one more, as far as 64 bits count
+abbrev pub one_more : ℕ → ℕ
+one_more n = min (n + 1) (2 ^ 64 - 1)
+
+-- how many reads gave bytes after one more read with this result
 abbrev pub reads_after : {E : Type 0} → ℕ → Result ℕ E → ℕ
-reads_after reads (Ok n) = if n == 0 then reads else min (reads + 1) (2 ^ 64 - 1)
+reads_after reads (Ok n) = if n == 0 then reads else one_more reads
 reads_after reads (Err e) = reads
 
 -- a read finds the end where it gives none
@@ -61,6 +66,7 @@ pub record IsRead {E : Type 0} (old new : SourceState) (buffer : List ℕ) (resu
   pub fails : new.failed ≡ is_err result
   pub counts : new.good_reads ≡ reads_after old.good_reads result
   pub ends : new.ended ≡ finds_end result
+  pub tails : new.tails ≡ old.tails
 
 -- What is known of a sink: whether a write failed, or was given bytes and took none, which stays so; and the bytes that it holds, where
 -- they are known.
@@ -81,10 +87,15 @@ pub record IsWritten {E : Type 0} (old new : SinkState) (text : List ℕ) (resul
 
 -- a source of these bytes of which nothing was read
 abbrev pub fresh : Option (List ℕ) → SourceState
-fresh bytes = record { failed = false; ended = false; good_reads = 0; remaining = bytes }
+fresh bytes = record { failed = false; ended = false; good_reads = 0; tails = 0; remaining = bytes }
+
+-- the source once another reader of it was asked for
+abbrev pub tailed : SourceState → SourceState
+tailed source = record source { tails = one_more source.tails }
 
 -- the next bytes were skipped
 pub record IsSkipped (len : ℕ) (old new : SourceState) : Type 0 where
   pub bytes : new.remaining ≡ option_map (drop len) old.remaining
   pub ready : IsOpen new
   pub counts : new.good_reads ≤ old.good_reads
+  pub tails : new.tails ≡ old.tails

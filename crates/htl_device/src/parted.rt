@@ -2,7 +2,7 @@
 
 ghost use Rattle.std.specs.Prelude.{◌≡◌, ◌⊎◌, Bool, IfSome, OnSome, false, length, true};
 ghost use Rattle.htl_device.specs.Devices.{tail_of};
-ghost use Rattle.htl_device.specs.States.{IsOpen, IsSkipped};
+ghost use Rattle.htl_device.specs.States.{IsOpen, IsSkipped, tailed};
 
 use crate::{Reading, Source};
 use std::io::{Empty, Read};
@@ -22,10 +22,13 @@ pub trait Parted: Source {
         ensures len { IfSome result (λ len. IfSome (Self.state self.now).remaining
             (λ bytes. length bytes ≡ len)) };
 
-    /// Another reader, of the bytes that are left from an offset on.
-    fn tail(&self, offset: u64) -> Option<Self::Tail>
-        ensures { IfSome result (λ tail.
-            Self.Tail.remaining tail ≡ tail_of offset (Self.state self.now).remaining) };
+    /// Another reader, of the bytes that are left from an offset on. Each call counts, also one that
+    /// gives none.
+    fn tail(&mut self, offset: u64) -> Option<Self::Tail>
+        ensures bytes { IfSome result (λ tail.
+            Self.Tail.remaining tail ≡ tail_of offset (Self.state self.old).remaining) }
+        ensures state { Self.state self.new ≡ tailed (Self.state self.old) }
+        ensures parted { is_parted self.new ≡ is_parted self.old };
 
     /// Skips the next bytes, which were read by other readers. A source that can't be read from
     /// several places skips none.
@@ -45,7 +48,8 @@ impl<R: Read> Parted for Reading<R> {
         None
     }
 
-    fn tail(&self, _offset: u64) -> Option<Empty> {
+    fn tail(&mut self, _offset: u64) -> Option<Empty> {
+        self.tails = self.tails.saturating_add(1);
         None
     }
 

@@ -41,6 +41,8 @@ pub struct Reading<R> {
     /// Of which kind the error of the failed read is, where one has failed.
     pub failure: Option<ErrorKind>,
     reads: u64,
+    /// How often another reader was asked for. There is none.
+    pub(crate) tails: u64,
     ended: bool,
 }
 
@@ -55,6 +57,7 @@ impl<R: Read> Reading<R> {
             reader,
             failure: None,
             reads: 0,
+            tails: 0,
             ended: false,
         }
     }
@@ -65,6 +68,7 @@ impl<R: Read> Source for Reading<R> {
       failed = is_some s.failure;
       ended = s.ended;
       good_reads = s.reads;
+      tails = s.tails;
       remaining = R.remaining s.reader;
     } };
 

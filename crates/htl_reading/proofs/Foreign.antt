@@ -1,6 +1,6 @@
 -- Where the first foreign byte stands of a text that comes in pieces.
 use Rattle.std.proofs.Common.{◌≡◌, ◌<◌, ◌≤◌, ◌+◌, ◌++◌, ◌∷◌, [], ℕ, suc, Bool, true, false, not, List, Option, Some, None}
-use Rattle.std.proofs.Common.{length, arith, refl, cond, nat_lt, length-append}
+use Rattle.std.proofs.Common.{length, arith, refl, cond, length-append}
 use Rattle.std.specs.Prelude.{position, IfSome}
 use Rattle.std.specs.List.{prefix_len}
 use Rattle.std.specs.Io.KnownBytes.{Consumes}

@@ -3,6 +3,7 @@ pub mod FaultLaws
 pub mod KeptLaws
 pub mod PartLaws
 pub mod ReadLaws
+pub mod TailLaws
 pub mod SkipLaws
 pub mod RoundLaws
 pub mod Foreign

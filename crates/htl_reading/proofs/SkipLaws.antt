@@ -1,5 +1,5 @@
 -- A keeper took all that stands at the front of a source which skips it, or nothing.
-use Rattle.std.proofs.Common.{◌≡◌, ◌+◌, ◌<◌, ◌≤◌, ◌^◌, ℕ, Bool, false, List, [], length, take, arith, Option, IfSome, Result, Ok, Err}
+use Rattle.std.proofs.Common.{◌≡◌, ◌+◌, ◌<◌, ◌≤◌, ◌^◌, ◌∙◌, ℕ, List, [], length, take, ap, arith, subst, sym, Option, IfSome, Result, Ok, Err}
 use Rattle.std.specs.Prelude.{IfOk}
 use Rattle.std.proofs.lemmas.Option.{IfSome_then}
 use Rattle.htl_device.specs.Devices.{tail_of}
@@ -10,7 +10,7 @@ use Rattle.htl_segment.specs.Keepers.{Took}
 use Rattle.htl_reading.specs.Keepers.{TookAll}
 use Rattle.htl_reading.specs.Parts.{Skips, TookInOrder}
 use Rattle.htl_reading.proofs.PartLaws.{AreThere, order_splits, skipped_memory, skipped_read, taken_skipped}
-use Rattle.htl_reading.proofs.TakenLaws.{offset_memory, taken_still, taken_to_fault}
+use Rattle.htl_reading.proofs.TakenLaws.{offset_memory, taken_far, taken_none, taken_still, taken_to_fault}
 
 -- the answer that a source skipped up to an offset
 abbrev pub skipped : {E : Type 0} → ℕ → Result ℕ E
@@ -30,31 +30,41 @@ front_there gathers part keepers len left front =
     IfSome_then left front
     (λ bytes it. (let whole = order_splits gathers part keepers (take len bytes) it.1 in (it.0, whole.0, whole.1)))
 
-module _ {K E : Type 0} (gathers : K → K → List Content → Type 0) (old : SourceState) (before : K) (offset : ℕ) (few : offset ≤ 2 ^ 61) where
-  -- where nothing is skipped, the source and the keeper stay as they were
-  pub none_skipped : IsOpen old
-      → Skips {E = E} gathers old old before before offset (skipped offset)
-  none_skipped ready = record {
-    ready = ready;
-    counts = omega arith;
-    few = (omega arith, omega (arith, few));
-    taken = λ start given at. at;
-    memory = λ start given at. tt;
-    to_fault = λ start given at. taken_to_fault at MAX_READ_LEN;
-  }
+-- a source of which other readers were asked for, and which then skipped bytes
+module _ (old mid new : SourceState) (same : mid ≡ record old { tails = mid.tails }) (len : ℕ) (skips : IsSkipped len mid new) where
+  -- which bytes are left
+  behind : new.remaining ≡ tail_of len old.remaining
+  behind = skips.bytes ∙ ap (λ (source : SourceState). tail_of len source.remaining) same
 
-  module _ (new : SourceState) (len : ℕ) (short : len ≤ 2 ^ 61) (skips : IsSkipped len old new) (there : AreThere len old.remaining)
-      (after : K) where
+  fewer : new.good_reads ≤ old.good_reads
+  fewer = rw (← ap (λ (source : SourceState). source.good_reads) same) skips.counts
+
+module _ {K E : Type 0} (gathers : K → K → List Content → Type 0) (old : SourceState) (before : K) (offset : ℕ) (few : offset ≤ 2 ^ 61) where
+  -- where nothing is skipped, the source and the keeper stay as they were, but for other readers
+  pub none_skipped : (new : SourceState) → new ≡ record old { tails = new.tails } → IsOpen old
+      → Skips {E = E} gathers old new before before offset (skipped offset)
+  none_skipped new same ready = subst (λ (source : SourceState). Skips {E = E} gathers old source before before offset (skipped offset))
+      (sym same) (record {
+        ready = record { fine = ready.fine; inside = ready.inside };
+        counts = omega arith;
+        few = (omega arith, omega (arith, few));
+        taken = λ start given at. at;
+        memory = λ start given at. tt;
+        to_fault = λ start given at. taken_to_fault at MAX_READ_LEN;
+      })
+
+  module _ (mid new : SourceState) (same : mid ≡ record old { tails = mid.tails }) (len : ℕ) (short : len ≤ 2 ^ 61)
+      (skips : IsSkipped len mid new) (there : AreThere len old.remaining) (after : K) where
     -- where the keeper took the segments of so many bytes, the source skips them
     pub front_skipped : (end : ℕ) → end ≡ offset + len → IfSome old.remaining (λ bytes. (len ≤ length bytes) × TookAll gathers before after (take len bytes))
         → Skips {E = E} gathers old new before after offset (skipped end)
     front_skipped end is took = rw is (record {
       ready = skips.ready;
-      counts = skips.counts;
+      counts = fewer old mid new same len skips;
       few = (omega arith, omega (arith, few, short));
-      taken = λ start given at. rw skips.bytes (taken_skipped gathers start before offset len after at took);
+      taken = λ start given at. rw (behind old mid new same len skips) (taken_skipped gathers start before offset len after at took);
       memory = λ start given at. tt;
-      to_fault = λ start given at. rw skips.bytes (skipped_read gathers start before offset len MAX_READ_LEN at there);
+      to_fault = λ start given at. rw (behind old mid new same len skips) (skipped_read gathers start before offset len MAX_READ_LEN at there);
     })
 
     -- where memory for the segments was refused, the source skips them, and memory may be asked for there
@@ -62,17 +72,22 @@ module _ {K E : Type 0} (gathers : K → K → List Content → Type 0) (old : S
         → Skips {E = E} gathers old new before after offset (refused fault)
     front_refused fault some = record {
       ready = skips.ready;
-      counts = skips.counts;
+      counts = fewer old mid new same len skips;
       few = tt;
       taken = λ start given at. tt;
-      memory = λ start given at. rw skips.bytes (skipped_memory gathers start before offset len new.ended some skips.ready.inside at there);
-      to_fault = λ start given at. rw skips.bytes (skipped_read gathers start before offset len MAX_READ_LEN at there);
+      memory = λ start given at. rw (behind old mid new same len skips)
+          (skipped_memory gathers start before offset len new.ended some skips.ready.inside at there);
+      to_fault = λ start given at. rw (behind old mid new same len skips) (skipped_read gathers start before offset len MAX_READ_LEN at there);
     }
 
 -- ---- one round after another
 
 module _ {K E : Type 0} (gathers : K → K → List Content → Type 0) (old mid : SourceState) (before between : K) (offset : ℕ)
     (first : Skips {E = E} gathers old mid before between 0 (skipped offset)) where
+  -- so the source had as many bytes
+  pub skipped_far : (most : ℕ) → most ≤ offset → IfSome old.remaining (λ bytes. most ≤ length bytes)
+  skipped_far most inside = taken_far (first.taken before old.remaining (taken_none gathers before old.remaining)) most inside
+
   -- the keeper was called, and took none
   pub still_skipped : (next : K) → Took gathers between next []
       → Skips {E = E} gathers old mid before next 0 (skipped offset)

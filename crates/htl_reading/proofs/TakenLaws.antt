@@ -219,6 +219,12 @@ module _ {S K : Type 0} {gathers : S → K → List Content → Type 0} {old new
   of_many : (most : ℕ) → most ≤ reads → most ≤ length bytes
   of_many most many = given_many (Some bytes) left (taken at.segments rest) most at.read (omega (arith, at.each, many))
 
+  -- and the segments that were taken have theirs
+  of_taken : (most : ℕ) → most ≤ offset → most ≤ length bytes
+  of_taken most inside =
+      given_many (Some bytes) left (taken at.segments rest) most at.read
+      (omega (arith, inside, at.offset_is, length-append (bundle at.segments) rest))
+
   -- ---- how far a source is read
 
   -- no further than what was taken
@@ -295,6 +301,10 @@ module _ {S K : Type 0} {gathers : S → K → List Content → Type 0} {old new
   -- where so many reads gave bytes, the source has as many bytes
   pub taken_many : (most : ℕ) → most ≤ reads → IfSome given (λ bytes. most ≤ length bytes)
   taken_many most many = IfSome_then given at.known (λ bytes is. of_many is most many)
+
+  -- where segments of so many bytes were taken, too
+  pub taken_far : (most : ℕ) → most ≤ offset → IfSome given (λ bytes. most ≤ length bytes)
+  taken_far most inside = IfSome_then given at.known (λ bytes is. of_taken is most inside)
 
   -- no further than what was taken
   pub taken_to_fault : (most : ℕ) → IsReadToFault most given left

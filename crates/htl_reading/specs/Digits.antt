@@ -30,3 +30,4 @@ pub record ReadsDigits (most : ℕ) (given : Option (List ℕ)) (old new : Sourc
   pub memory : result ≡ Err NoMemory → (new.ended ≡ false) × (read : List ℕ) × (0 < length read) × Consumes given new.remaining read
   pub failed : result ≡ Err Read → (new.failed ≡ true) ⊎ ((most ≤ new.good_reads) × IfSome given (λ known. most ≤ length known))
   pub bounded : new.good_reads ≤ old.good_reads + most
+  pub tails : new.tails ≡ old.tails

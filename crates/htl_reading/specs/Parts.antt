@@ -1,5 +1,6 @@
 -- For the clauses of private functions: the parts of a source's bytes, and what the keepers of its workers took.
-use Rattle.std.specs.Prelude.{◌≡◌, ◌≤◌, ◌^◌, ℕ, Bool, false, List, [], ◌∷◌, ◌++◌, All, Option, Some, IfOk, IfSome, OnErr, Result}
+use Rattle.std.specs.Prelude.{◌≡◌, ◌≤◌, ◌+◌, ◌^◌, nat_lt, if◌then◌else◌, ℕ, Bool, List, [], ◌∷◌, ◌++◌, All}
+use Rattle.std.specs.Prelude.{Option, Some, IfOk, IfSome, OnErr, Result}
 use Rattle.std.specs.Io.Take.{take_remaining}
 use Rattle.htl_segment.specs.Content.{Content}
 use Rattle.htl_segment.specs.Bundles.{Splits}
@@ -38,6 +39,23 @@ ArePartsOf gathers remaining keeper [] bytes = bytes ≡ []
 ArePartsOf gathers remaining keeper (part ∷ parts) bytes =
     (piece : List ℕ) × (rest : List ℕ) × (bytes ≡ piece ++ rest) × IsPartOf gathers remaining keeper part piece
     × ArePartsOf gathers remaining keeper parts rest
+
+-- ---- other readers
+
+-- so many workers cut a source into at most so many parts
+abbrev pub most_parts : ℕ → ℕ
+most_parts workers = if nat_lt workers 2 then 0 else workers
+
+-- other readers of the source were asked for, at most so many
+pub record AsksFew (most : ℕ) (old new : SourceState) : Type 0 where
+  pub none : most ≡ 0 → new.tails ≡ old.tails
+  pub few : new.tails ≤ old.tails + most
+
+-- and nothing else of it changed
+pub record IsTailed {R : Type 0} (state : R → SourceState) (is_parted : R → Bool) (most : ℕ) (old new : R) : Type 0 where
+  pub asks : AsksFew most (state old) (state new)
+  pub same : state new ≡ record (state old) { tails = (state new).tails }
+  pub parted : is_parted new ≡ is_parted old
 
 -- ---- skipping what workers took
 

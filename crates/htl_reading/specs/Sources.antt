@@ -1,5 +1,5 @@
 -- How the reading of one source ends, and how far it is read (this project's own). What a source gives is known where it reports its bytes.
-use Rattle.std.specs.Prelude.{◌≡◌, ◌<◌, ◌≤◌, ◌+◌, ◌⊎◌, ⊤, ℕ, Bool, true, false, List, [], ◌++◌, length, Option, Some, None, IfSome}
+use Rattle.std.specs.Prelude.{◌≡◌, ◌<◌, ◌≤◌, ◌+◌, ◌*◌, ◌⊎◌, ⊤, ℕ, Bool, true, false, List, [], ◌++◌, length, Option, Some, None, IfSome}
 use Rattle.std.specs.Prelude.{OnOk, Result, Err, codes, min, nat_eq, nat_lt, take, if◌then◌else◌}
 use Rattle.std.specs.List.{starts_with}
 use Rattle.std.specs.Io.KnownBytes.{Consumes}
@@ -8,6 +8,7 @@ use Rattle.htl_device.specs.declared.source.TheConstants.{MAX_READ_LEN}
 use Rattle.htl_segment.specs.Content.{Content}
 use Rattle.htl_segment.specs.Bundles.{BundleFault, IsRest, RestAt, SegmentAt, Splits, bundle, is_early_end}
 use Rattle.htl_segment.specs.Faults.{first_fault}
+use Rattle.htl_reading.specs.declared.ends.TheConstants.{MIN_PART_LEN}
 use Rattle.htl_reading.specs.declared.fault.SourceFault.{SourceFault}
 use Rattle.htl_reading.specs.declared.fault.SourceFault.TheVariants.{Segment, Read, NoMemory}
 use Rattle.htl_segment.specs.Numbers.{number}
@@ -74,8 +75,18 @@ pub record IsReadToFault (most : ℕ) (given left : Option (List ℕ)) : Type 0 
   pub few : length last ≤ most
   pub read : Consumes given left (before ++ last)
 
--- How a source of these bytes is read by a call that ends with this result, and in which at most `most` reads give bytes.
-pub record IsSourceRead {S : Type 0} (most : ℕ) (given : Option (List ℕ)) (old new : SourceState) (result : Result S SourceFault) : Type 0
+-- How many other readers of a source of these bytes so many workers asked for: one worker for none, and several for at most three each in
+-- one round. Each round but the last takes 4,194,304 bytes or more.
+pub record AsksReaders (workers : ℕ) (given : Option (List ℕ)) (old new : SourceState) : Type 0 where
+  pub alone : workers < 2 → new.tails ≡ old.tails
+  pub rounds : ℕ
+  pub few : new.tails ≤ old.tails + (rounds + 1) * (3 * workers)
+  pub long : IfSome given (λ bytes. rounds * MIN_PART_LEN ≤ length bytes)
+
+-- How a source of these bytes is read by so many workers, in a call that ends with this result, and in which at most `most` reads give
+-- bytes.
+pub record IsSourceRead {S : Type 0} (workers most : ℕ) (given : Option (List ℕ)) (old new : SourceState) (result : Result S SourceFault)
+    : Type 0
   where
     -- A call that ends well has found the end.
     pub ended : OnOk result (new.ended ≡ true)
@@ -86,3 +97,4 @@ pub record IsSourceRead {S : Type 0} (most : ℕ) (given : Option (List ℕ)) (o
     pub no_fault : result ≡ Err Read → IsReadToFault 0 given new.remaining
     pub bounded : new.good_reads ≤ old.good_reads + most
     pub to_fault : IsReadToFault MAX_READ_LEN given new.remaining
+    pub readers : AsksReaders workers given old new

@@ -1,5 +1,5 @@
 -- What a keeper took of one source: all that it gives, or what stands before a fault (this project's own).
-use Rattle.std.specs.Prelude.{⊤, ℕ, Bool, List, [], IfErr, IfOk, IfSome, OnOk, Option, Result, Some}
+use Rattle.std.specs.Prelude.{⊤, ℕ, List, [], IfErr, IfOk, IfSome, OnOk, Option, Result, Some}
 use Rattle.std.specs.Borrow.{MutBor}
 use Rattle.std.specs.Io.KnownBytes.{Consumes}
 use Rattle.htl_device.specs.States.{SourceState}
@@ -37,23 +37,24 @@ TookBefore gathers old new left bytes (Segment offset fault) = TookUpTo gathers 
 TookBefore gathers old new left bytes Read = TookRead gathers old new left bytes
 TookBefore gathers old new left bytes NoMemory = ⊤
 
--- How a keeper takes the segments of a source of these bytes, of which at most `most` reads give bytes: what it has after a call that
--- ends well, and after each fault; which fault is reported; and how the source is read.
-pub record TakesSource {S K : Type 0} (most : ℕ) (gathers : S → K → List Content → Type 0) (given : Option (List ℕ)) (start after : K)
+-- How a keeper takes the segments of a source of these bytes, by so many workers and at most `most` reads that give bytes: what it has
+-- after a call that ends well, and after each fault; which fault is reported; and how the source is read.
+pub record TakesSource {S K : Type 0} (workers most : ℕ) (gathers : S → K → List Content → Type 0) (given : Option (List ℕ))
+    (start after : K)
     (old new : SourceState)
     (result : Result (Option EarlyEnd) SourceFault) : Type 0 where
   pub ok : IfOk result (λ early_end. IfSome given (TookToEnd gathers start after early_end))
   pub err : IfErr result (λ fault. IfSome given (λ bytes. IsReportedOfBundle new.remaining new.ended bytes fault))
   pub kept : IfErr result (λ fault. IfSome given (λ bytes. TookBefore gathers start after new.remaining bytes fault))
-  pub reading : IsSourceRead most given old new result
+  pub reading : IsSourceRead workers most given old new result
 
 -- How the segments of such a source are gathered, by a call that gives back the keeper that takes them.
-pub record GathersSource {S K : Type 0} (most : ℕ) (gathers : S → K → List Content → Type 0) (given : Option (List ℕ)) (start : K)
+pub record GathersSource {S K : Type 0} (workers most : ℕ) (gathers : S → K → List Content → Type 0) (given : Option (List ℕ)) (start : K)
     (old new : SourceState)
     (result : Result (Bundle K) SourceFault) : Type 0 where
   pub ok : IfOk result (λ bundle. IfSome given (TookToEnd gathers start bundle.segments bundle.early_end))
   pub err : IfErr result (λ fault. IfSome given (λ bytes. IsReportedOfBundle new.remaining new.ended bytes fault))
-  pub reading : IsSourceRead most given old new result
+  pub reading : IsSourceRead workers most given old new result
 
 -- Between two reads something is done to a keeper. It then has taken what it had, unless memory is refused. What is done is given by
 -- what may come of a call.

@@ -103,6 +103,7 @@ impl Block {
         ensures fails { (R.state source.new).failed ≡ is_err result }
         ensures counts { (R.state source.new).good_reads
             ≡ reads_after (R.state source.old).good_reads result }
+        ensures tails { (R.state source.new).tails ≡ (R.state source.old).tails }
         ensures ends { (R.state source.new).ended ≡ finds_end result }
     {
         let count = source.read(&mut self.bytes[self.end..self.end + MAX_READ_LEN])?;

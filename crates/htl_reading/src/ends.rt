@@ -1,6 +1,7 @@
 //! Where the parts of several workers end.
 
-ghost use Rattle.std.specs.Prelude.{◌≤◌, IfOk, length};
+ghost use Rattle.std.specs.Prelude.{◌≤◌, ◌+◌, ◌*◌, All, IfOk, IfSome, OnOk, length};
+ghost use Rattle.htl_reading.specs.Parts.{IsTailed, most_parts};
 
 use htl_device::{Parted, Reading, read_whole};
 use htl_segment::whole_len;
@@ -26,10 +27,13 @@ pub fn ends<R: Parted>(
     workers: u32,
     most: u64,
     len: u64,
-    source: &R,
+    source: &mut R,
 ) -> Result<Vec<u64>, AllocError>
+    requires { MIN_PART_LEN ≤ most }
     // Each part is read by a thread of its own, so no more of these are started than workers.
-    ensures { IfOk result (λ ends. length ends.items ≤ workers) }
+    ensures few { IfOk result (λ ends. length ends.items ≤ most_parts workers) }
+    ensures far { IfOk result (λ ends. All (λ end. MIN_PART_LEN ≤ end) ends.items) }
+    ensures tails { IsTailed R.state R.is_parted (2 * most_parts workers) source.old source.new }
 {
     let parts = u64::from(workers).min(len / MIN_PART_LEN);
     let mut ends = Vec::new(alloc);
@@ -38,23 +42,36 @@ pub fn ends<R: Parted>(
     }
     let each = (len / parts).min(most);
     for part in 1..parts {
-        if let Some(end) = find_segment(alloc, source, each.saturating_mul(part)) {
-            ends.push(end)?;
-        }
+        let end = find_segment(alloc, source, each.saturating_mul(part));
+        add_end(&mut ends, end)?;
     }
-    let last = if each < most {
-        Some(len)
+    if each < most {
+        ends.push(len)?;
     } else {
-        find_segment(alloc, source, each.saturating_mul(parts))
-    };
-    if let Some(end) = last {
-        ends.push(end)?;
+        let end = find_segment(alloc, source, each.saturating_mul(parts));
+        add_end(&mut ends, end)?;
     }
     Ok(ends)
 }
 
+/// Adds an end, where one was found.
+fn add_end(ends: &mut Vec<u64>, found: Option<u64>) -> Result<(), AllocError>
+    requires far { All (λ end. MIN_PART_LEN ≤ end) ends.old.items }
+    requires found { IfSome found (λ end. MIN_PART_LEN ≤ end) }
+    ensures few { length ends.new.items ≤ length ends.old.items + 1 }
+    ensures far { OnOk result (All (λ end. MIN_PART_LEN ≤ end) ends.new.items) }
+{
+    if let Some(end) = found {
+        ends.push(end)?;
+    }
+    Ok(())
+}
+
 /// The first offset at which a whole segment seems to stand, from this one on.
-fn find_segment<R: Parted>(alloc: Global, source: &R, near: u64) -> Option<u64> {
+fn find_segment<R: Parted>(alloc: Global, source: &mut R, near: u64) -> Option<u64>
+    ensures behind { IfSome result (λ place. near ≤ place) }
+    ensures tails { IsTailed R.state R.is_parted 2 source.old source.new }
+{
     match find_within(alloc, source, near, SHORT_SEARCH_LEN) {
         Some(place) => Some(place),
         None => find_within(alloc, source, near, MAX_SEARCH_LEN),
@@ -62,7 +79,10 @@ fn find_segment<R: Parted>(alloc: Global, source: &R, near: u64) -> Option<u64> 
 }
 
 /// The first offset at which a whole segment seems to stand, among this number of bytes.
-fn find_within<R: Parted>(alloc: Global, source: &R, near: u64, len: u64) -> Option<u64> {
+fn find_within<R: Parted>(alloc: Global, source: &mut R, near: u64, len: u64) -> Option<u64>
+    ensures behind { IfSome result (λ place. near ≤ place) }
+    ensures tails { IsTailed R.state R.is_parted 1 source.old source.new }
+{
     let tail = source.tail(near)?;
     let bytes = read_whole(alloc, &mut Reading::new(tail.take(len))).ok()?;
     near.checked_add(first_whole(&bytes)? as u64)

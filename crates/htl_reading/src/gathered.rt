@@ -60,7 +60,7 @@ impl Gathered {
         requires leaves { LeavesTaken K.gathers (F.post between.now) }
         ensures taken { (start : K) (given : Option (List ℕ)) → IsTakenTo K.gathers
             start keeper.old given (R.state source.old).remaining self.block.held self.offset 1
-            → TakesSource most K.gathers given start keeper.new
+            → TakesSource 1 most K.gathers given start keeper.new
             (R.state source.old) (R.state source.new) result }
         ensures bounded { (R.state source.new).good_reads + 1
             ≤ (R.state source.old).good_reads + most }

@@ -20,7 +20,8 @@
 //! `specs/Taking` what a keeper took of it. In `proofs/`, `TakenLaws` shows which segments reads give,
 //! `FaultLaws` which faults are reported, `KeptLaws` which segments a keeper has after one, `ReadLaws`
 //! that how a source is read doesn't depend on the value that is returned, `PartLaws` that the parts of
-//! several workers give the segments of all bytes, and `SkipLaws` and `RoundLaws` that their rounds do.
+//! several workers give the segments of all bytes, `SkipLaws` and `RoundLaws` that their rounds do, and
+//! `TailLaws` how many other readers are asked for.
 #![tactic(auto)]
 
 mod block;

@@ -4,7 +4,9 @@ ghost use Rattle.std.specs.Prelude.{
   ◌≡◌,
   ◌≤◌,
   ◌<◌,
+  ◌*◌,
   ◌^◌,
+  ◌⊎◌,
   ℕ,
   All,
   IfSome,
@@ -18,7 +20,10 @@ ghost use Rattle.std.specs.Prelude.{drop, false, length, map, take, true};
 ghost use Rattle.std.specs.Io.Take.{take_remaining};
 ghost use Rattle.htl_device.specs.States.{IsOpen};
 ghost use Rattle.htl_reading.specs.Keepers.{TookAll};
-ghost use Rattle.htl_reading.specs.Parts.{ArePartsOf, IsAnother, IsPartOf, Skips, TookInOrder};
+ghost use Rattle.htl_reading.specs.Parts.{ArePartsOf, IsAnother, IsPartOf, IsTailed, Skips};
+ghost use Rattle.htl_reading.specs.Parts.{TookInOrder, most_parts};
+ghost use Rattle.htl_reading.specs.Sources.{AsksReaders};
+ghost use Rattle.htl_reading.specs.declared.ends.TheConstants.{MIN_PART_LEN};
 
 use crate::ends::ends;
 use crate::reading::gather_on;
@@ -75,8 +80,10 @@ pub fn take_parts<T: Threads + Sync, R: Parted, K: JoiningKeeper + Drop + Send>(
     keeper: &mut K,
 ) -> Result<u64, NoMemory>
     requires { IsOpen (R.state source.old) }
-    ensures { Skips K.gathers (R.state source.old) (R.state source.new) keeper.old keeper.new 0
-        result }
+    ensures skips { Skips K.gathers (R.state source.old) (R.state source.new)
+        keeper.old keeper.new 0 result }
+    ensures readers { AsksReaders workers (R.state source.old).remaining (R.state source.old)
+        (R.state source.new) }
 {
     let spare = Vec::new(alloc);
     let Some(front) = gather_front(rt, alloc, workers, u64::MAX, source, keeper, spare) else {
@@ -99,15 +106,17 @@ pub fn gather_front<T: Threads + Sync, R: Parted, K: JoiningKeeper + Drop + Send
     alloc: Global,
     workers: u32,
     most: u64,
-    source: &R,
+    source: &mut R,
     keeper: &K,
     spare: Vec<K>,
 ) -> Option<Front<K>>
+    requires most { MIN_PART_LEN ≤ most }
     requires fresh { All (λ spare. IsAnother K.gathers keeper.now spare []) spare.items }
-    ensures parted { OnSome result (R.is_parted source.now ≡ true) }
-    ensures some { IfSome result (λ front. 0 < front.len) }
+    ensures tails { IsTailed R.state R.is_parted (3 * most_parts workers) source.old source.new }
+    ensures parted { OnSome result (R.is_parted source.new ≡ true) }
+    ensures some { IfSome result (λ front. MIN_PART_LEN ≤ front.len) }
     ensures few { IfSome result (λ front. front.len ≤ 2 ^ 61) }
-    ensures taken { IfSome result (λ front. IfSome (R.state source.now).remaining (λ bytes.
+    ensures taken { IfSome result (λ front. IfSome (R.state source.old).remaining (λ bytes.
         (front.len ≤ length bytes)
         × TookInOrder K.gathers keeper.now front.keepers.items (take front.len bytes))) }
 {
@@ -133,14 +142,17 @@ pub fn gather_front<T: Threads + Sync, R: Parted, K: JoiningKeeper + Drop + Send
 /// The parts of a source's bytes that end at these offsets, and where the last one does.
 fn cut<R: Parted, K: JoiningKeeper + Drop>(
     alloc: Global,
-    source: &R,
+    source: &mut R,
     keeper: &K,
     mut spare: Vec<K>,
     ends: &[u64],
 ) -> Option<(Vec<SourcePart<R::Tail, K>>, u64)>
-    requires { All (λ spare. IsAnother K.gathers keeper.now spare []) spare.items }
-    ensures { IfSome result (λ cut. IfSome (R.state source.now).remaining (λ bytes.
+    requires fresh { All (λ spare. IsAnother K.gathers keeper.now spare []) spare.items }
+    requires far { All (λ end. MIN_PART_LEN ≤ end) ends.now }
+    ensures parts { IfSome result (λ cut. IfSome (R.state source.old).remaining (λ bytes.
         ArePartsOf K.gathers R.Tail.remaining keeper.now cut.0.items (take cut.1 bytes))) }
+    ensures far { IfSome result (λ cut. (cut.1 ≡ 0) ⊎ (MIN_PART_LEN ≤ cut.1)) }
+    ensures tails { IsTailed R.state R.is_parted (length ends.now) source.old source.new }
 {
     let mut parts = Vec::new(alloc);
     let mut from = 0;
@@ -157,15 +169,16 @@ fn cut<R: Parted, K: JoiningKeeper + Drop>(
 /// The part of this number of bytes at an offset of a source.
 fn part_at<R: Parted, K: JoiningKeeper + Drop>(
     alloc: Global,
-    source: &R,
+    source: &mut R,
     keeper: &K,
     spare: &mut Vec<K>,
     from: u64,
     len: u64,
 ) -> Option<SourcePart<R::Tail, K>>
     requires { All (λ spare. IsAnother K.gathers keeper.now spare []) spare.old.items }
-    ensures part { IfSome result (λ part. IfSome (R.state source.now).remaining (λ bytes.
+    ensures part { IfSome result (λ part. IfSome (R.state source.old).remaining (λ bytes.
         IsPartOf K.gathers R.Tail.remaining keeper.now part (take len (drop from bytes)))) }
+    ensures tails { IsTailed R.state R.is_parted 1 source.old source.new }
     ensures spare { All (λ spare. IsAnother K.gathers keeper.now spare []) spare.new.items }
 {
     Some(SourcePart {

@@ -35,7 +35,7 @@ pub fn gather_bundle<T: Threads + Sync, R: Parted, K: JoiningKeeper + Drop + Sen
     mut keeper: K,
 ) -> Result<Bundle<K>, SourceFault>
     requires { IsOpen (R.state source.old) }
-    ensures { GathersSource MAX_READS K.gathers (R.state source.old).remaining keeper
+    ensures { GathersSource workers MAX_READS K.gathers (R.state source.old).remaining keeper
         (R.state source.old) (R.state source.new) result }
 {
     let offset = take_parts(rt, alloc, workers, source, &mut keeper)?;
@@ -55,8 +55,8 @@ pub fn read_bundle<T: Threads + Sync, R: Parted>(
         × IsLeft bundle.segments.items rest bundle.early_end)) }
     ensures err { IfErr result (λ fault. IfSome (R.state source.old).remaining (λ bytes.
         IsReportedOfBundle (R.state source.new).remaining (R.state source.new).ended bytes fault)) }
-    ensures reading { IsSourceRead MAX_READS (R.state source.old).remaining (R.state source.old)
-        (R.state source.new) result }
+    ensures reading { IsSourceRead workers MAX_READS (R.state source.old).remaining
+        (R.state source.old) (R.state source.new) result }
 {
     let Bundle {
         segments,
@@ -94,8 +94,8 @@ pub fn take_source<
     requires ready { IsOpen (R.state source.old) }
     requires callable { F.IsAlwaysCallable between.now }
     requires leaves { LeavesTaken K.gathers (F.post between.now) }
-    ensures { TakesSource MAX_READS K.gathers (R.state source.old).remaining keeper.old keeper.new
-        (R.state source.old) (R.state source.new) result }
+    ensures { TakesSource workers MAX_READS K.gathers (R.state source.old).remaining
+        keeper.old keeper.new (R.state source.old) (R.state source.new) result }
 {
     let offset = take_rounds(rt, alloc, workers, source, keeper, between)?;
     take_reads(alloc, MAX_READS, offset, source, keeper, between)
@@ -115,7 +115,7 @@ pub(crate) fn gather_on<R: Source, K: Keeper + Drop>(
     requires few { offset + (most + 1) * MAX_READ_LEN < 2 ^ 64 }
     ensures { (start : K) (given : Option (List ℕ))
         → IsTakenTo K.gathers start keeper given (R.state source.old).remaining [] offset 0
-        → GathersSource most K.gathers given start (R.state source.old) (R.state source.new)
+        → GathersSource 1 most K.gathers given start (R.state source.old) (R.state source.new)
         result }
 {
     let nothing = |keeper: &mut K| -> Result<(), NoMemory>
@@ -147,7 +147,7 @@ fn take_reads<R: Source, K: Keeper, F: Fn(&mut K) -> Result<(), NoMemory>>(
     requires leaves { LeavesTaken K.gathers (F.post between.now) }
     ensures { (start : K) (given : Option (List ℕ))
         → IsTakenTo K.gathers start keeper.old given (R.state source.old).remaining [] offset 0
-        → TakesSource most K.gathers given start keeper.new (R.state source.old)
+        → TakesSource 1 most K.gathers given start keeper.new (R.state source.old)
         (R.state source.new) result }
 {
     let mut buffer = [0u8; MIN_READ_LEN];

@@ -1,10 +1,12 @@
 //! Rounds: several workers read the front of a source, some 32 MB for each worker at a time.
 
-ghost use Rattle.std.specs.Prelude.{◌≡◌, ◌≤◌, ◌^◌, [], ℕ, List, IfOk, OnOk, false};
+ghost use Rattle.std.specs.Prelude.{◌≡◌, ◌≤◌, ◌^◌, ◌+◌, ◌*◌, ◌⊎◌, [], ℕ, List, IfOk, OnOk, false};
 ghost use Rattle.htl_segment.specs.Keepers.{Took};
 ghost use Rattle.htl_device.specs.States.{IsOpen};
 ghost use Rattle.htl_reading.specs.Keepers.{TookAll};
-ghost use Rattle.htl_reading.specs.Parts.{AreEmpty, Skips, TookInOrder};
+ghost use Rattle.htl_reading.specs.Parts.{AreEmpty, AsksFew, Skips, TookInOrder, most_parts};
+ghost use Rattle.htl_reading.specs.Sources.{AsksReaders};
+ghost use Rattle.htl_reading.specs.declared.ends.TheConstants.{MIN_PART_LEN};
 ghost use Rattle.htl_reading.specs.Taking.{LeavesTaken};
 
 use crate::parts::{MAX_LEN, gather_front};
@@ -49,13 +51,15 @@ pub fn take_rounds<
     requires ready { IsOpen (R.state source.old) }
     requires callable { F.IsAlwaysCallable between.now }
     requires leaves { LeavesTaken K.gathers (F.post between.now) }
-    ensures { Skips K.gathers (R.state source.old) (R.state source.new) keeper.old keeper.new 0
-        result }
+    ensures skips { Skips K.gathers (R.state source.old) (R.state source.new)
+        keeper.old keeper.new 0 result }
+    ensures readers { AsksReaders workers (R.state source.old).remaining (R.state source.old)
+        (R.state source.new) }
 {
     let mut spare = Vec::new(alloc);
     let mut offset = 0;
     // The bound makes the loop end. No source has so many rounds: each reads some megabytes.
-    for _ in 0..u32::MAX {
+    for _round in 0..u32::MAX {
         let end = take_round(rt, alloc, workers, offset, source, keeper, &mut spare)?;
         if end == offset {
             break;
@@ -86,6 +90,8 @@ fn take_round<T: Threads + Sync, R: Parted, K: SegmentKeeper>(
     requires spare { AreEmpty spare.old.items }
     ensures skips { Skips K.gathers (R.state source.old) (R.state source.new) keeper.old keeper.new
         offset result }
+    ensures far { IfOk result (λ end. (end ≡ offset) ⊎ (offset + MIN_PART_LEN ≤ end)) }
+    ensures tails { AsksFew (3 * most_parts workers) (R.state source.old) (R.state source.new) }
     ensures spare { OnOk result (AreEmpty spare.new.items) }
 {
     let none = Segments::new(alloc);

@@ -10,7 +10,6 @@ use htl_reading::{Bundle, EarlyEnd, SourceFault, early_end, gather_bundle, read_
 use htl_samples::{RandomTrace, SMALL};
 use htl_segment::{Fault, Picks, Segment, decode_bundle};
 use std::alloc::Global;
-use std::cell::Cell;
 use std::io;
 use std::io::Read;
 use std::process::Abort;
@@ -56,8 +55,8 @@ struct Bytes<'a> {
     reading: Reading<&'a [u8]>,
     /// The number of bytes that were skipped.
     skipped: u64,
-    /// The number of other readers that were asked for.
-    tails: Cell<u64>,
+    /// How often another reader was asked for.
+    tails: u64,
 }
 
 impl<'a> Bytes<'a> {
@@ -68,14 +67,17 @@ impl<'a> Bytes<'a> {
             bytes,
             reading: Reading::new(bytes),
             skipped: 0,
-            tails: Cell::new(0),
+            tails: 0,
         }
     }
 }
 
 impl<'a> Source for Bytes<'a> {
     // What is left isn't told.
-    ghost state = { λ s. record (⟦<Reading<&'a [u8]> as Source>⟧.state s.reading) { remaining = None } };
+    ghost state = { λ s. record (⟦<Reading<&'a [u8]> as Source>⟧.state s.reading) {
+      tails = s.tails;
+      remaining = None;
+    } };
 
     fn ended(&self) -> bool {
         self.reading.ended()
@@ -107,8 +109,8 @@ impl<'a> Parted for Bytes<'a> {
         Some(self.bytes.len() as u64)
     }
 
-    fn tail(&self, offset: u64) -> Option<Tail<'a>> {
-        self.tails.set(self.tails.get().saturating_add(1));
+    fn tail(&mut self, offset: u64) -> Option<Tail<'a>> {
+        self.tails = self.tails.saturating_add(1);
         let bytes = self.bytes.get(offset as usize..)?;
         Some(Tail { bytes })
     }
@@ -163,18 +165,6 @@ fn by_all(rt: &(impl Abort + Threads + Sync), alloc: Global, bytes: &[u8], has_f
             0
         };
         assert_row(rt, workers, source.skipped, skipped);
-        assert_tails(rt, workers, &source);
-    }
-}
-
-/// One worker asks for no other reader. Several ask for one each, and for at most two at each place
-/// between two of them, where a segment is searched for.
-fn assert_tails(rt: &impl Abort, workers: u32, source: &Bytes) {
-    let tails = source.tails.get();
-    if workers == 1 {
-        assert_row(rt, workers, tails, 0);
-    } else {
-        assert!(rt; 0 < tails && tails < 3 * u64::from(workers));
     }
 }
 
@@ -208,7 +198,6 @@ fn picked(
     let picks = Picks::new(alloc, Interest::Process(1));
     let mut source = Bytes::new(bytes);
     let Bundle { segments, .. } = gather_bundle(rt, alloc, workers, &mut source, picks)?;
-    assert_tails(rt, workers, &source);
     let Picks {
         outlines,
         lists,

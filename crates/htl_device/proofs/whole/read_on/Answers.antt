@@ -25,4 +25,5 @@ returns-in_err-extend_from_slice-clause-read g c = λ given start.
       );
       failed = search rules;
       bounded = grind (arith, common_steps);
+      tails = grind (arith, common_steps);
     }

@@ -1,5 +1,5 @@
 -- What was read is digits and blanks, or has a foreign byte in its last piece.
-use Rattle.std.proofs.Common.{rules, ◌≡◌, ◌<◌, ◌≤◌, ◌+◌, ◌++◌, ℕ, false, length, take, arith, sym, subst, ◌∙◌, Some, None, position}
+use Rattle.std.proofs.Common.{rules, ◌≡◌, ◌<◌, ◌≤◌, ◌+◌, ◌++◌, false, length, take, arith, sym, subst, ◌∙◌, Some, None, position}
 use Rattle.std.proofs.KnownBytes.{Consumes-trans}
 use Rattle.std.proofs.lemmas.Grind.{common_steps}
 use Rattle.std.proofs.lemmas.List.{length-append}
@@ -32,6 +32,7 @@ returns-in-Some-clause-read g c = λ given start.
       memory = λ is. absurd (cc is);
       failed = λ is. absurd (cc is);
       bounded = grind (arith, common_steps);
+      tails = grind (arith, common_steps);
     }
 
 pub returns-in_err-extend_from_slice-clause-read : goal.returns-in_err-extend_from_slice-clause-read
@@ -54,6 +55,7 @@ returns-in_err-extend_from_slice-clause-read g c = λ given start.
       );
       failed = search rules;
       bounded = grind (arith, common_steps);
+      tails = grind (arith, common_steps);
     }
 
 pub loop-read-preserved : goal.loop-read-preserved
@@ -71,5 +73,6 @@ loop-read-preserved g c =
       each = grind (arith, common_steps);
       counted = grind (arith, common_steps);
       bounded = grind (arith, common_steps);
+      tails = grind (arith, common_steps);
       whole = grind (arith, common_steps);
     }

@@ -16,5 +16,6 @@ invariant-loop-read g l = record {
   each : l._read ≤ length l.text.items;
   counted : l._read ≤ (g.R.Source.state l.source).good_reads;
   bounded : (g.R.Source.state l.source).good_reads + 1 ≤ (g.R.Source.state l.fn.source).good_reads + l._read;
+  tails : (g.R.Source.state l.source).tails ≡ (g.R.Source.state l.fn.source).tails;
   whole : length l.buffer ≡ MAX_READ_LEN;
 }

@@ -1,5 +1,5 @@
 -- The first read gives a foreign byte, or the others go on from it.
-use Rattle.std.proofs.Common.{rules, ◌≡◌, ◌≤◌, ◌+◌, ℕ, length, take, arith, sym, subst, ◌∙◌, Some, position}
+use Rattle.std.proofs.Common.{rules, ◌≡◌, ◌≤◌, ◌+◌, length, take, arith, sym, subst, ◌∙◌, Some, position}
 use Rattle.std.specs.Io.KnownBytes.{Consumes}
 use Rattle.std.proofs.lemmas.Grind.{common_steps}
 use Rattle.htl_segment.specs.Hexadecimal.{is_foreign}
@@ -29,6 +29,7 @@ returns-in-Some g c =
       memory = λ is. absurd (cc is);
       failed = λ is. absurd (cc is);
       bounded = grind (arith, common_steps);
+      tails = grind (arith, common_steps);
     }
 
 pub returns : goal.returns
@@ -45,4 +46,5 @@ returns g c =
       memory = is.memory;
       failed = is.failed;
       bounded = grind (arith, common_steps);
+      tails = grind (arith, common_steps);
     }

@@ -1,10 +1,11 @@
--- What the workers took is what they took in order.
-use Rattle.std.proofs.Common.{◌≡◌, ◌≤◌, ◌<◌, ℕ, List, IfSome, Some, None, length, min, take, ap, arith, Option, slice_index_or}
+-- What the workers took is what they took in order, and their readers are those of the ends and of the parts.
+use Rattle.std.proofs.Common.{◌≡◌, ◌≤◌, ◌<◌, ◌*◌, ℕ, List, IfSome, Some, None, length, min, take, ap, arith, Option, slice_index_or}
 use Rattle.std.proofs.lemmas.Grind.{common_steps}
 use Rattle.std.proofs.lemmas.List.{length-map}
-use Rattle.htl_reading.specs.Parts.{ArePartsOf, TookInOrder}
+use Rattle.htl_reading.specs.Parts.{ArePartsOf, TookInOrder, most_parts}
 use Rattle.htl_reading.specs.declared.parts.SourcePart.{SourcePart}
 use Rattle.htl_reading.proofs.PartLaws.{Gathers, gathered_in_order}
+use Rattle.htl_reading.proofs.TailLaws.{same_left, tailed_more}
 use Rattle.htl_reading.proofs.parts.gather_front.Goals as goal
 
 each : (g : _) (c : goal.After-drop-ends-2 g) (i : ℕ) (part : SourcePart _ _) (outcome : Option _) → i < length c.in_ok-parts.parts.items
@@ -14,8 +15,29 @@ each g c i part outcome inside =
     let job = (c.in-Ok.ensures.each i outcome inside).1 in
     rw (job.job_is part) (job.call.met)
 
+pub returns-then-end-eq0-clause-tails : goal.returns-then-end-eq0-clause-tails
+returns-then-end-eq0-clause-tails g c =
+    tailed_more g.R.Source.state g.R.Parted.is_parted (2 * most_parts c.args.workers) _ _ c.args.source.now c.ends.new.source c.cut.new.source
+    (grind (arith, common_steps)) c.ends.ensures.tails c.cut.ensures.tails
+
+pub returns-in_default-clause-tails : goal.returns-in_default-clause-tails
+returns-in_default-clause-tails g c =
+    tailed_more g.R.Source.state g.R.Parted.is_parted (2 * most_parts c.args.workers) _ _ c.args.source.now c.ends.new.source c.cut.new.source
+    (grind (arith, common_steps)) c.ends.ensures.tails c.cut.ensures.tails
+
+pub returns-in_err-all_of-clause-tails : goal.returns-in_err-all_of-clause-tails
+returns-in_err-all_of-clause-tails g c =
+    tailed_more g.R.Source.state g.R.Parted.is_parted (2 * most_parts c.args.workers) _ _ c.args.source.now c.ends.new.source c.cut.new.source
+    (grind (arith, common_steps)) c.ends.ensures.tails c.cut.ensures.tails
+
+pub returns-clause-tails : goal.returns-clause-tails
+returns-clause-tails g c =
+    tailed_more g.R.Source.state g.R.Parted.is_parted (2 * most_parts c.args.workers) _ _ c.args.source.now c.ends.new.source c.cut.new.source
+    (grind (arith, common_steps)) c.ends.ensures.tails c.cut.ensures.tails
+
 pub returns-clause-taken : goal.returns-clause-taken
-returns-clause-taken g c = in_order (g.R.Source.state c.args.source.now).remaining c.in_ok-len.ensures.len c.in_ok-parts.ensures
+returns-clause-taken g c = in_order (g.R.Source.state c.args.source.now).remaining c.in_ok-len.ensures.len
+    (rw (same_left (g.R.Source.state c.args.source.now) (g.R.Source.state c.ends.new.source) c.ends.ensures.tails.same) at c.in_ok-parts.ensures.parts)
   where
     inside : c.in_ok-parts.end ≤ min c.in_ok-len.field-0 2305843009213693952
     inside = grind (arith, common_steps)

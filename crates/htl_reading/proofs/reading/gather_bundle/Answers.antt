@@ -11,24 +11,25 @@ returns-in_err-offset g c =
     let p = err_from_is_err_and c.from_residual.result c.from_residual.ensures.1 in
     let given = (g.R.Source.state c.args.source.now).remaining in
     let none = taken_none g.K.Keeper.gathers c.args.keeper given in
-    let skips = c.in_err-offset.ensures in
+    let skips = c.in_err-offset.ensures.skips in
     rw (p.1, p.2) (record {
       ok = tt;
       err = skips.memory c.args.keeper given none;
-      reading = read_fine MAX_READS given
+      reading = read_fine c.args.workers MAX_READS given
           (g.R.Source.state c.args.source.now) (g.R.Source.state c.take_parts.new.source) _ (λ is. cc is) skips.ready.fine tt (omega (arith, skips.counts))
-          (skips.to_fault c.args.keeper given none);
+          (skips.to_fault c.args.keeper given none)
+          c.in_err-offset.ensures.readers;
     })
 
 pub returns : goal.returns
 returns g c =
     let given = (g.R.Source.state c.args.source.now).remaining in
-    let skips = c.in_ok-offset.ensures in
+    let skips = c.in_ok-offset.ensures.skips in
     let on = c.gather_on.ensures c.args.keeper given (skips.taken c.args.keeper given (taken_none g.K.Keeper.gathers c.args.keeper given)) in
     record {
       ok = on.ok;
       err = on.err;
-      reading = read_later MAX_READS given
+      reading = read_later c.args.workers MAX_READS given
           (g.R.Source.state c.args.source.now) (g.R.Source.state c.gather_on.new.source) (g.R.Source.state c.take_parts.new.source) c.gather_on.result
-          skips.counts on.reading;
+          skips.counts c.in_ok-offset.ensures.readers on.reading;
     }

@@ -10,7 +10,7 @@ returns-in_err-early_end g c = λ start given at.
     rw (p.1, p.2) (record {
       ok = tt;
       err = takes.err;
-      reading = read_ill c.args.most given (g.R.Source.state c.args.source.now) (g.R.Source.state c.take_reads.new.source) _ takes.reading;
+      reading = read_ill 1 c.args.most given (g.R.Source.state c.args.source.now) (g.R.Source.state c.take_reads.new.source) _ takes.reading;
     })
 
 pub returns : goal.returns
@@ -19,5 +19,5 @@ returns g c = λ start given at.
     record {
       ok = takes.ok;
       err = tt;
-      reading = read_well c.args.most given (g.R.Source.state c.args.source.now) (g.R.Source.state c.take_reads.new.source) _ _ takes.reading;
+      reading = read_well 1 c.args.most given (g.R.Source.state c.args.source.now) (g.R.Source.state c.take_reads.new.source) _ _ takes.reading;
     }

@@ -16,10 +16,11 @@ returns-clause-ok g c =
 pub returns-in_err-segments-clause-reading : goal.returns-in_err-segments-clause-reading
 returns-in_err-segments-clause-reading g c =
     let p = err_from_is_err_and c.from_residual.result c.from_residual.ensures.1 in
-    rw (p.1, p.2) (read_ill MAX_READS (g.R.Source.state c.args.source.now).remaining (g.R.Source.state c.args.source.now)
+    rw (p.1, p.2) (read_ill c.args.workers MAX_READS (g.R.Source.state c.args.source.now).remaining (g.R.Source.state c.args.source.now)
     (g.R.Source.state c.gather_bundle.new.source) _ c.in_err-segments.ensures.reading)
 
 pub returns-clause-reading : goal.returns-clause-reading
 returns-clause-reading g c =
-    read_well MAX_READS (g.R.Source.state c.args.source.now).remaining (g.R.Source.state c.args.source.now) (g.R.Source.state c.gather_bundle.new.source) _ _
+    read_well c.args.workers MAX_READS (g.R.Source.state c.args.source.now).remaining (g.R.Source.state c.args.source.now)
+    (g.R.Source.state c.gather_bundle.new.source) _ _
     c.in_ok-segments.ensures.reading

@@ -7,7 +7,7 @@ use Rattle.std.specs.Prelude.{is_err}
 use Rattle.htl_device.specs.declared.source.TheConstants.{MAX_READ_LEN}
 use Rattle.htl_reading.specs.Keepers.{IsTakenTo}
 use Rattle.htl_reading.proofs.KeptLaws.{kept_nothing}
-use Rattle.htl_reading.proofs.ReadLaws.{read_fine}
+use Rattle.htl_reading.proofs.ReadLaws.{asks_none, asks_then, read_fine}
 use Rattle.htl_reading.proofs.TakenLaws.{first_behind, first_kept, taken_and_more, taken_before, taken_before_refused, taken_ended}
 use Rattle.htl_reading.proofs.TakenLaws.{taken_kept, taken_memory, taken_more, taken_refused, taken_to_end, taken_to_fault}
 use Rattle.htl_reading.proofs.reading.take_reads.Goals as goal
@@ -30,6 +30,7 @@ returns-in_default g c =
         no_fault = λ is. taken_to_fault kept 0;
         bounded = grind (arith, common_steps);
         to_fault = taken_to_fault kept MAX_READ_LEN;
+        readers = asks_none 1 given (g.R.Source.state c.args.source.now) (g.R.Source.state c.read.new.self) (grind (arith, common_steps));
       };
     }
 
@@ -47,9 +48,10 @@ returns-then-count-eq0 g c =
       ok = taken_to_end (taken_ended at end) None (end.end refl) (λ segments is rest. refl);
       err = tt;
       kept = tt;
-      reading = read_fine c.args.most given (g.R.Source.state c.args.source.now) (g.R.Source.state c.read.new.self) _ (λ is. cc is) fine ended
+      reading = read_fine 1 c.args.most given (g.R.Source.state c.args.source.now) (g.R.Source.state c.read.new.self) _ (λ is. cc is) fine ended
           (grind (arith, common_steps))
-          (taken_and_more at MAX_READ_LEN got few);
+          (taken_and_more at MAX_READ_LEN got few)
+          (asks_none 1 given (g.R.Source.state c.args.source.now) (g.R.Source.state c.read.new.self) (grind (arith, common_steps)));
     }
 
 -- ---- its bytes were refused
@@ -64,9 +66,10 @@ returns-in_err-len g c =
       ok = tt;
       err = taken_refused at _ _ got c.in_err-len.ensures.err;
       kept = taken_before_refused at _ got c.in_err-len.ensures.kept;
-      reading = read_fine c.args.most given (g.R.Source.state c.args.source.now) (g.R.Source.state c.read.new.self) _
+      reading = read_fine 1 c.args.most given (g.R.Source.state c.args.source.now) (g.R.Source.state c.read.new.self) _
           (λ is. c.in_err-len.ensures.no_read (cc is)) fine tt (grind (arith, common_steps))
-          (taken_and_more at MAX_READ_LEN got few);
+          (taken_and_more at MAX_READ_LEN got few)
+          (asks_none 1 given (g.R.Source.state c.args.source.now) (g.R.Source.state c.read.new.self) (grind (arith, common_steps)));
     })
 
 -- ---- they were taken
@@ -84,9 +87,10 @@ returns-in_err-new g c =
       ok = tt;
       err = taken_memory taken _ (omega arith) inside;
       kept = kept_nothing given;
-      reading = read_fine c.args.most given (g.R.Source.state c.args.source.now) (g.R.Source.state c.read.new.self) _ (λ is. cc is) fine tt
+      reading = read_fine 1 c.args.most given (g.R.Source.state c.args.source.now) (g.R.Source.state c.read.new.self) _ (λ is. cc is) fine tt
           (grind (arith, common_steps))
-          (taken_to_fault taken MAX_READ_LEN);
+          (taken_to_fault taken MAX_READ_LEN)
+          (asks_none 1 given (g.R.Source.state c.args.source.now) (g.R.Source.state c.read.new.self) (grind (arith, common_steps)));
     })
 
 began : (g : _) (c : goal.After-read_on g) (start : _) (given : Option (List ℕ))
@@ -113,5 +117,8 @@ returns g c = λ start given at.
         no_fault = on.reading.no_fault;
         bounded = grind (arith, common_steps);
         to_fault = on.reading.to_fault;
+        readers = asks_then 1 given (g.R.Source.state c.args.source.now) (g.R.Source.state c.read.new.self) (g.R.Source.state c.read_on.new.source)
+            (asks_none 1 given (g.R.Source.state c.args.source.now) (g.R.Source.state c.read.new.self) (grind (arith, common_steps)))
+            (on.reading.readers.alone (omega arith));
       };
     }

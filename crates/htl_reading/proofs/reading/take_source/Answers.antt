@@ -12,27 +12,28 @@ returns-in_err-offset g c =
     let p = err_from_is_err_and c.from_residual.result c.from_residual.ensures.1 in
     let given = (g.R.Source.state c.args.source.now).remaining in
     let none = taken_none g.K.Keeper.gathers c.args.keeper.now given in
-    let skips = c.in_err-offset.ensures in
+    let skips = c.in_err-offset.ensures.skips in
     rw (p.1, p.2) (record {
       ok = tt;
       err = skips.memory c.args.keeper.now given none;
       kept = kept_nothing given;
-      reading = read_fine MAX_READS given
+      reading = read_fine c.args.workers MAX_READS given
           (g.R.Source.state c.args.source.now) (g.R.Source.state c.take_rounds.new.source) _ (λ is. cc is) skips.ready.fine tt (omega (arith, skips.counts))
-          (skips.to_fault c.args.keeper.now given none);
+          (skips.to_fault c.args.keeper.now given none)
+          c.in_err-offset.ensures.readers;
     })
 
 pub returns : goal.returns
 returns g c =
     let given = (g.R.Source.state c.args.source.now).remaining in
-    let skips = c.in_ok-offset.ensures in
+    let skips = c.in_ok-offset.ensures.skips in
     let on = c.take_reads.ensures c.args.keeper.now given
     (skips.taken c.args.keeper.now given (taken_none g.K.Keeper.gathers c.args.keeper.now given)) in
     record {
       ok = on.ok;
       err = on.err;
       kept = on.kept;
-      reading = read_later MAX_READS given
+      reading = read_later c.args.workers MAX_READS given
           (g.R.Source.state c.args.source.now) (g.R.Source.state c.take_reads.new.source) (g.R.Source.state c.take_rounds.new.source) c.take_reads.result
-          skips.counts on.reading;
+          skips.counts c.in_ok-offset.ensures.readers on.reading;
     }

@@ -6,7 +6,7 @@ use Rattle.std.proofs.lemmas.Result.{err_from_is_err_and}
 use Rattle.std.specs.Prelude.{is_err}
 use Rattle.htl_device.specs.declared.source.TheConstants.{MAX_READ_LEN}
 use Rattle.htl_reading.proofs.KeptLaws.{kept_nothing}
-use Rattle.htl_reading.proofs.ReadLaws.{read_fine}
+use Rattle.htl_reading.proofs.ReadLaws.{asks_none, read_fine}
 use Rattle.htl_reading.proofs.TakenLaws.{taken_and_more, taken_before, taken_before_refused, taken_ended, taken_kept, taken_many, taken_memory}
 use Rattle.htl_reading.proofs.TakenLaws.{taken_more, taken_refused, taken_still, taken_to_end, taken_to_fault}
 use Rattle.htl_reading.proofs.gathered.Gathered.read_on.Goals as goal
@@ -20,9 +20,10 @@ returns-in_err-between-clause-taken g c =
       ok = tt;
       err = taken_memory (inv.taken start given at) _ some inv.inside;
       kept = kept_nothing given;
-      reading = read_fine c.args.most given (g.R.Source.state c.args.source.now) (g.R.Source.state c.loop-reads.source) _ (λ is. cc is) inv.fine tt
+      reading = read_fine 1 c.args.most given (g.R.Source.state c.args.source.now) (g.R.Source.state c.loop-reads.source) _ (λ is. cc is) inv.fine tt
           (grind (arith, common_steps))
-          (taken_to_fault (inv.taken start given at) MAX_READ_LEN);
+          (taken_to_fault (inv.taken start given at) MAX_READ_LEN)
+          (asks_none 1 given (g.R.Source.state c.args.source.now) (g.R.Source.state c.loop-reads.source) (grind (arith, common_steps)));
     })
 
 pub returns-in_err-make_room-clause-taken : goal.returns-in_err-make_room-clause-taken
@@ -34,9 +35,10 @@ returns-in_err-make_room-clause-taken g c =
       ok = tt;
       err = taken_memory (inv.taken start given at) _ some inv.inside;
       kept = kept_nothing given;
-      reading = read_fine c.args.most given (g.R.Source.state c.args.source.now) (g.R.Source.state c.loop-reads.source) _ (λ is. cc is) inv.fine tt
+      reading = read_fine 1 c.args.most given (g.R.Source.state c.args.source.now) (g.R.Source.state c.loop-reads.source) _ (λ is. cc is) inv.fine tt
           (grind (arith, common_steps))
-          (taken_to_fault (inv.taken start given at) MAX_READ_LEN);
+          (taken_to_fault (inv.taken start given at) MAX_READ_LEN)
+          (asks_none 1 given (g.R.Source.state c.args.source.now) (g.R.Source.state c.loop-reads.source) (grind (arith, common_steps)));
     })
 
 pub returns-in_default-clause-taken : goal.returns-in_default-clause-taken
@@ -56,6 +58,7 @@ returns-in_default-clause-taken g c =
         no_fault = λ is. taken_to_fault kept 0;
         bounded = grind (arith, common_steps);
         to_fault = taken_to_fault kept MAX_READ_LEN;
+        readers = asks_none 1 given (g.R.Source.state c.args.source.now) (g.R.Source.state c.read.new.source) (grind (arith, common_steps));
       };
     }
 
@@ -72,9 +75,10 @@ returns-then-count-eq0-clause-taken g c =
           (rw c.held.ensures at c.early_end.ensures);
       err = tt;
       kept = tt;
-      reading = read_fine c.args.most given (g.R.Source.state c.args.source.now) (g.R.Source.state c.read.new.source) _ (λ is. cc is) fine ended
+      reading = read_fine 1 c.args.most given (g.R.Source.state c.args.source.now) (g.R.Source.state c.read.new.source) _ (λ is. cc is) fine ended
           (grind (arith, common_steps))
-          (taken_and_more (c.loop-reads.invariant.taken start given at) MAX_READ_LEN behind c.in-Ok.ensures.bound);
+          (taken_and_more (c.loop-reads.invariant.taken start given at) MAX_READ_LEN behind c.in-Ok.ensures.bound)
+          (asks_none 1 given (g.R.Source.state c.args.source.now) (g.R.Source.state c.read.new.source) (grind (arith, common_steps)));
     }
 
 pub returns-in_err-take-clause-taken : goal.returns-in_err-take-clause-taken
@@ -87,9 +91,10 @@ returns-in_err-take-clause-taken g c =
       ok = tt;
       err = taken_refused (c.loop-reads.invariant.taken start given at) _ _ behind c.in_err-take.ensures.err;
       kept = taken_before_refused (taken_still (c.loop-reads.invariant.taken start given at) still) _ behind c.in_err-take.ensures.kept;
-      reading = read_fine c.args.most given (g.R.Source.state c.args.source.now) (g.R.Source.state c.read.new.source) _
+      reading = read_fine 1 c.args.most given (g.R.Source.state c.args.source.now) (g.R.Source.state c.read.new.source) _
           (λ is. c.in_err-take.ensures.no_read (cc is)) fine tt (grind (arith, common_steps))
-          (taken_and_more (c.loop-reads.invariant.taken start given at) MAX_READ_LEN behind c.in-Ok.ensures.bound);
+          (taken_and_more (c.loop-reads.invariant.taken start given at) MAX_READ_LEN behind c.in-Ok.ensures.bound)
+          (asks_none 1 given (g.R.Source.state c.args.source.now) (g.R.Source.state c.read.new.source) (grind (arith, common_steps)));
     })
 
 pub loop-reads-preserved : goal.loop-reads-preserved
@@ -116,6 +121,7 @@ loop-reads-preserved g c =
         length-append c.loop-reads.self.block.held behind.more,
         length-drop found.len c.read.new.self.held,
       );
+      tails = grind (arith, common_steps);
       counted = grind (arith, common_steps);
       bounded = grind (arith, common_steps);
     }
@@ -137,5 +143,6 @@ returns-clause-taken g c =
         no_fault = λ is. taken_to_fault taken 0;
         bounded = grind (arith, common_steps);
         to_fault = taken_to_fault taken MAX_READ_LEN;
+        readers = asks_none 1 given (g.R.Source.state c.args.source.now) (g.R.Source.state c.loop-reads.source) (grind (arith, common_steps));
       };
     }

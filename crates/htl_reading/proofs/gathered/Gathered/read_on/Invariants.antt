@@ -14,6 +14,7 @@ invariant-loop-reads g l = record {
   fine : (g.R.Source.state l.source).failed ≡ false;
   inside : (g.R.Source.state l.source).ended ≡ false;
   short : l.self.offset + length l.self.block.held ≤ l.fn.self.offset + length l.fn.self.block.held + l._reads * MAX_READ_LEN;
+  tails : (g.R.Source.state l.source).tails ≡ (g.R.Source.state l.fn.source).tails;
   counted : l._reads ≤ (g.R.Source.state l.source).good_reads;
   bounded : (g.R.Source.state l.source).good_reads + 1 ≤ (g.R.Source.state l.fn.source).good_reads + l._reads;
 }

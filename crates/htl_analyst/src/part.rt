@@ -29,7 +29,7 @@ impl<A: Allocator> Part<A> {
     ghost use Rattle.htl_analyst.specs.Same.{IsSamePart};
 
     /// The held segments, in rising order of their numbers.
-    pub(crate) fn held(&self) -> &[Segment]
+    pub fn held(&self) -> &[Segment]
         ensures { result.now ≡ self.now.held }
     {
         self.held.as_slice()

@@ -10,8 +10,7 @@ use Rattle.htl_command.specs.declared.question.Job.{Job}
 use Rattle.htl_command.specs.declared.question.Setting.{Setting}
 use Rattle.htl_main.specs.Causes.{IsCause}
 use Rattle.htl_main.specs.Coverages.{Covers, IsCoverage}
-use Rattle.htl_main.specs.CutInputs.{AreCut, AreCutEnds, Decoding, IsDecoding, decoding}
-use Rattle.htl_main.specs.Inputs.{DecodeAll}
+use Rattle.htl_main.specs.CutInputs.{AreCut, Decoding, IsDecoding, decoding}
 use Rattle.htl_main.specs.Loading.{AreLoaded, AreLoadedOf, in_setting}
 use Rattle.htl_main.specs.Origins.{IsBetween}
 use Rattle.htl_main.specs.Printed.{IsText, Printed, WorkersFit}
@@ -34,9 +33,9 @@ use Rattle.htl_main.proofs.MomentLaws.{complete_until}
 
 -- the segments of inputs and their cut ends, which were handed on, are what the inputs are decoded to
 pub decoded_as : (form : InputForm) (inputs : List (List ℕ)) (segments : List Content) (cuts kept : Vec CutEnd Global) (lent : List CutEnd)
-    → DecodeAll form inputs segments → AreCutEnds form.hex inputs cuts.items → kept ≡ cuts → lent ≡ kept.items
+    → IsDecoding form inputs (decoding segments cuts.items) → kept ≡ cuts → lent ≡ kept.items
     → IsDecoding form inputs (decoding segments lent)
-decoded_as form inputs segments cuts kept lent all are same lent_is = record { segments = all; cuts = rw (lent_is, same) are }
+decoded_as form inputs segments cuts kept lent given same lent_is = rw (lent_is, same) given
 
 -- what a run loads of its inputs, where its workers fit
 pub loaded_of : (job : Job) (inputs : List (List ℕ)) (symbols : Option (List ℕ)) (given : Decoding) (T : Trace) (table : List Range)

@@ -21,7 +21,7 @@ use Rattle.htl_question.specs.Rows.{found, summary}
 use Rattle.htl_question.specs.declared.answer.Totals.{Totals}
 use Rattle.htl_question.specs.declared.question.Question.TheVariants as questions
 use Rattle.htl_main.specs.Analysts.{AreAnswers}
-use Rattle.htl_main.specs.Folding.{AreFolded, IsCaseOfFirsts}
+use Rattle.htl_main.specs.Folding.{AreTaken, IsCaseOfFirsts}
 use Rattle.htl_main.specs.Answers.{IsAnswer}
 use Rattle.htl_main.proofs.Bases.{summarized, summary_says}
 use Rattle.htl_main.proofs.FoldLaws.{all_keys, all_of_case, is_right}
@@ -59,11 +59,11 @@ summaries_agree T S C totals gaps processes objects is =
 
 -- what was folded is an analyst of each trace that has the first segments of all keys, with exactly the keys of their case
 pub folded_analysts_agree : (T : Trace) (segments : List Content) (a : State) (C : Trace) → IsTrace T
-    → ((s : Content) → IsFirstOf segments s → Contains T.segments s) → AreFolded (Some a) segments → IsCaseOfFirsts segments C
+    → ((s : Content) → IsFirstOf segments s → Contains T.segments s) → AreTaken segments (Some a) → IsCaseOfFirsts segments C
     → IsRight a T × IsTakenCase T (keys a) C
-folded_analysts_agree T segments a C trace each folded case =
-    let some = folded.taken.0 in
-    let took = folded.taken.1 in
+folded_analysts_agree T segments a C trace each taken case =
+    let some = taken.0 in
+    let took = taken.1 in
     let one = some_member C.segments case.is_case.some in
     let of_C = at_member (λ s. (s.trace_id ≡ C.id) × (s.processors ≡ C.processors)) C.segments one.0 case.is_case.trace.same one.1 in
     let of_T = at_member (λ s. (s.trace_id ≡ T.id) × (s.processors ≡ T.processors)) T.segments one.0 trace.same

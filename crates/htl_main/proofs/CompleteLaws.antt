@@ -1,5 +1,5 @@
 -- What is complete with some cut ends stays so with more segments, together with other cut ends with which these are complete.
-use Rattle.std.proofs.Common.{◌≡◌, ◌<◌, ◌∙◌, ℕ, List, ◌++◌, All, map, ap, sym, subst, inl, inr}
+use Rattle.std.proofs.Common.{◌≡◌, ◌<◌, ◌∙◌, ℕ, List, ◌++◌, ap, sym, subst, inl, inr}
 use Rattle.std.specs.Prelude.{Contains, Option, Some}
 use Rattle.std.proofs.lemmas.List.Elements.{All-append, All-contains, All-from_recursion, Contains-append_cases, Contains-append_right}
 use Rattle.htl_event.proofs.Members.{Contains-from_map, Contains-map, at_member, each_member, some_member}
@@ -7,7 +7,7 @@ use Rattle.htl_reading.specs.declared.outcome.SegmentName.{SegmentName}
 use Rattle.htl_segment.specs.Content.{Content}
 use Rattle.htl_segment.specs.Traces.{HasKey, Trace}
 use Rattle.htl_case.specs.Cases.{IsCase, IsCaseOf}
-use Rattle.htl_main.specs.Completeness.{IsComplete, IsKnown, IsOfKey, MissesUpTo, name_of}
+use Rattle.htl_main.specs.Completeness.{IsComplete, IsKnown, MissesUpTo, name_of}
 use Rattle.htl_main.specs.declared.cut_inputs.CutEnd.{CutEnd}
 use Rattle.htl_main.proofs.CutLaws.{HaveNames, name_at}
 

@@ -1,7 +1,7 @@
 -- Bytes are written in hexadecimal digits, and texts one after another encode segments, or the first that is refused is reported.
 use Rattle.std.proofs.Common.{◌≡◌, ◌≢◌, ◌+◌, ◌<◌, ℕ, Bool, true, false, List, [], ◌∷◌, ◌++◌, length, map, take, refl, sym, ap, ◌∙◌}
 use Rattle.std.proofs.Common.{arith, subst, append_assoc, append-nil, Option, Some, Result, Ok, Err}
-use Rattle.std.specs.Prelude.{slice_get, IfErr, OnOk}
+use Rattle.std.specs.Prelude.{slice_get, IfErr, IfSome, OnOk}
 use Rattle.std.specs.Io.KnownBytes.{Appends}
 use Rattle.std.proofs.KnownBytes.{Appends-nil, Appends-trans}
 use Rattle.std.proofs.Math.ListN.{set}
@@ -26,8 +26,7 @@ use Rattle.htl_main.specs.declared.fault.RunFault.{RunFault}
 use Rattle.htl_main.specs.declared.fault.RunFault.TheVariants.{Write}
 use Rattle.htl_device.proofs.KnownBytes.{prefix_after}
 use Rattle.htl_main.proofs.DumpLaws.{prefix_more}
-use Rattle.htl_main.proofs.ReadingLaws.{ReadBefore, ended_there, ill, knows_next, left_there}
-use Rattle.htl_main.proofs.SourceLaws.{Knows}
+use Rattle.htl_main.proofs.ReadingLaws.{Next, at_next, ended_there, ill, left_there}
 
 -- ---- hexadecimal digits
 
@@ -120,26 +119,24 @@ pub some_begin : (text bytes : List ℕ) → Gives text bytes → 0 < length byt
 some_begin text bytes gives some = some_begin_of text bytes gives.0 gives.1 gives.2 some
 
 -- the texts before one are encoded, and what is reported of that one is reported
-pub stops_encoding : {R : Type 0} (state : R → SourceState) (first now : List R) (place : ℕ) (x : R) (here : slice_get now place ≡ Some x)
-    {is_text : Bool} (before : ReadBefore is_text (map state first) (map state now) place) (y : R) (texts : List (List ℕ)) (fault : RunFault)
-    (segments : List Content) → (all : map remaining (map state first) ≡ map (λ (t : List ℕ). Some t) texts)
-    → EncodeAll (take place texts) segments
-    → ((knows : Knows texts place (remaining (state x)))
-    → IsReportedOfText (remaining (state y)) (has_ended (state y)) place knows.input fault)
+pub stops_encoding : {R : Type 0} {state : R → SourceState} {is_text : Bool} {first now : List R} {place : ℕ} {x : R}
+    (next : Next state is_text first now place x) (y : R) (texts : List (List ℕ)) (fault : RunFault) (segments : List Content)
+    → map remaining (map state first) ≡ map (λ (t : List ℕ). Some t) texts → EncodeAll (take place texts) segments
+    → IfSome (remaining (state x)) (λ text. IsReportedOfText (remaining (state y)) (has_ended (state y)) place text fault)
     → EncodingStops texts (lefts (map state (set now place y))) (ends (map state (set now place y))) fault
-stops_encoding state first now place x here before y texts fault segments all encoded reported =
-    let knows = knows_next state first now place x here before texts all in
+stops_encoding {state} {place} next y texts fault segments all encoded told =
+    let one = at_next next texts all (λ text. IsReportedOfText (remaining (state y)) (has_ended (state y)) place text fault) told in
     record {
       place = place;
-      text = knows.input;
-      here = knows.here;
+      text = one.text;
+      here = one.here;
       left = remaining (state y);
-      left_is = left_there state first now place x here before y;
+      left_is = left_there next y;
       ended = has_ended (state y);
-      ended_is = ended_there state first now place x here before y;
+      ended_is = ended_there next y;
       segments = segments;
       before = encoded;
-      reported = reported knows;
+      reported = one.holds;
     }
 
 -- ---- how a run that encodes ends

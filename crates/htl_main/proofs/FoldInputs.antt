@@ -1,7 +1,7 @@
 -- A folder takes inputs one after another, and a reading that forgets ends for a fault of theirs or of what was taken.
 use Rattle.std.proofs.Common.{◌≡◌, ◌≢◌, ◌⊎◌, ◌<◌, ◌≤◌, ℕ, Bool, true, false, List, [], ◌∷◌, ◌++◌, length, take}
 use Rattle.std.proofs.Common.{refl, sym, ap, ◌∙◌, subst, arith, inl, inr, append_assoc, append-nil, length-append}
-use Rattle.std.proofs.Common.{Option, Some, None, IfErr, IfOk, IfSome, Result, Ok, Err}
+use Rattle.std.proofs.Common.{Option, Some, None, IfErr, IfOk, IfSome, MatchResult, Result, Ok, Err, Vec, Global}
 use Rattle.std.specs.Prelude.{Contains, OnOk, slice_get}
 use Rattle.std.proofs.lemmas.Result.{on_ok_weaker}
 use Rattle.htl_event.proofs.Members.{Contains-here}
@@ -32,8 +32,9 @@ use Rattle.htl_main.specs.CutInputs.{AreCutEnds}
 use Rattle.htl_main.specs.Ends.{IsEnd, IsEndRefused, IsInput}
 use Rattle.htl_main.specs.Faults.{of_case, of_digits, of_hex, of_segment, of_source}
 use Rattle.htl_main.specs.Folders.{AreAllTaken, Folds, GaveOwn, IsAddedToFolded, IsMissingOf, IsNotAdded, IsOfInput, IsSymbolsFault, KeepsAll}
-use Rattle.htl_main.specs.Folders.{folds_of, number_of}
-use Rattle.htl_main.specs.Folding.{AreAccepted, AreFolded, AreGiven, AreReadToFold, AreTaken, AsksFoldsMemory, Folding, IsBeginningRefused}
+use Rattle.htl_main.specs.Folders.{IsBegun, TookInputs, TookToFault, folds_of, number_of}
+use Rattle.htl_main.specs.Folding.{AreAccepted, AreFolded, AreGiven, AreReadToFold, AreRising, AreTaken, AsksFoldsMemory, Folding}
+use Rattle.htl_main.specs.Folding.{IsBeginningRefused}
 use Rattle.htl_main.specs.Folding.{IsCollectionOf, IsFolded, IsFoldedFar, IsFoldedUpTo, IsFoldingRefused, IsFoldsFault, IsHalfKnown, IsMissingOfFirsts}
 use Rattle.htl_main.specs.Folding.{StopsFolding, TakesUpTo, counted, folding}
 use Rattle.htl_main.specs.Inputs.{DecodeAll, HasBytes}
@@ -50,6 +51,7 @@ use Rattle.htl_main.specs.declared.origin.Between.TheVariants.{Nothing}
 use Rattle.htl_main.proofs.EndLaws.{input_of, source_of, source_refused}
 use Rattle.htl_main.proofs.FoldLaws.{all_counted}
 use Rattle.htl_main.proofs.ReadingLaws.{ends_too, ill, read_then, well}
+use Rattle.htl_main.proofs.RisingLaws.{accepted_rise}
 
 -- ---- what a keeper took
 
@@ -233,6 +235,7 @@ module _ (first now : Option State) (n : ℕ) (given before : List Content) (was
         accepted = subst (AreAccepted before) (sym all) takes.accepted;
         folded = record {
           taken = subst (λ (l : List Content). AreTaken (before ++ l) now) (sym all) (folds.kept before was);
+          rising = subst (λ (l : List Content). AreRising (before ++ l)) (sym all) (accepted_rise before folds.taken was.rising takes.accepted);
           far = far;
         };
         number = folds.number ∙ ap counted (sym all);
@@ -257,12 +260,11 @@ module _ (first now : Option State) (n : ℕ) (given before : List Content) (was
       absurd (omega (arith, some, long, cut, nothing, number))
 
 -- what a folder took since it was made
-pub since : (analyst : Option State) (old new : Folder) (given : List Content)
-    → Folds analyst old.analyst old.unfit old.segments [] → old.analyst ≡ analyst → Took folds_of old new given
+pub since : (analyst : Option State) (old new : Folder) (given : List Content) → IsBegun analyst old → Took folds_of old new given
     → Folds analyst new.analyst new.unfit new.segments given
-since analyst old new given none same took =
-    subst (λ (a : Option State). Folds a new.analyst new.unfit new.segments given) same
-    (took old [] (subst (λ (a : Option State). Folds a old.analyst old.unfit old.segments []) (sym same) none))
+since analyst old new given begun took =
+    subst (λ (a : Option State). Folds a new.analyst new.unfit new.segments given) begun.same
+    (took old [] (subst (λ (a : Option State). Folds a old.analyst old.unfit old.segments []) (sym begun.same) begun.none))
 
 memory_or_not : (fault : RunFault) → (fault ≡ faults.Memory) ⊎ (fault ≢ faults.Memory)
 memory_or_not faults.Memory = inl refl
@@ -318,7 +320,11 @@ module _ (of : Folding) where
       taken = folds.taken;
       unfit = unfit;
       takes = folds.takes of.before was;
-      kept = on_ok_weaker ended (λ is_far. record { taken = folds.kept of.before was; far = is_far }) far;
+      kept = on_ok_weaker ended (λ is_far. record {
+        taken = folds.kept of.before was;
+        rising = accepted_rise of.before folds.taken was.rising (folds.takes of.before was).accepted;
+        far = is_far;
+      }) far;
       why = why;
     }
 
@@ -330,34 +336,30 @@ module _ (of : Folding) where
     refused_unfit now n given fault folds far decoded =
         up_to now (Some fault) n (faults.Case fault) given decoded folds far (fit, refl)
 
-    module _ (old mid : Folder) (none : Folds first old.analyst old.unfit old.segments []) (same : old.analyst ≡ first) where
-      abbrev pub GaveBy : RunFault → Type 0
-      GaveBy fault =
-          fault ≢ faults.Memory → (given : List Content) × AreGiven of.setting.form of.inputs (lefts of.after) fault given × Took folds_of old mid given
-
+    module _ (old mid : Folder) (begun : IsBegun first old) where
       -- for refused memory, after the last read
-      pub refused_fold : {T : Type 0} (result : Result T RunFault) → 0 < mid.segments
-          → OnOk result ((given : List Content) × DecodeAll of.setting.form of.inputs given × Took folds_of old mid given)
-          → IfErr result (StopsFolding of) → IfErr result GaveBy → AsksFoldsMemory of
-      refused_fold (Ok done) some all stops gave = (
+      pub refused_fold : (result : Result (Vec CutEnd Global) RunFault) → 0 < mid.segments
+          → MatchResult result (λ cuts. TookInputs old mid of.setting.form of.inputs cuts.items)
+          (TookToFault old mid of.setting.form of.after of.inputs) → AsksFoldsMemory of
+      refused_fold (Ok done) some took = (
         fit,
         inr (inl (
-          all.0,
-          some_given first mid.analyst mid.segments all.0 of.before was mid.unfit (since first old mid all.0 none same all.2) some,
+          took.given,
+          some_given first mid.analyst mid.segments took.given of.before was mid.unfit (since first old mid took.given begun took.took) some,
           faults.Memory,
-          all.1,
+          took.decoded,
         )),
       )
-      refused_fold (Err fault) some all stops gave =
+      refused_fold (Err fault) some took =
           elim (memory_or_not fault) [
-            | inl is ↦ (fit, inl (subst (StopsFolding of) is stops))
+            | inl is ↦ (fit, inl (subst (StopsFolding of) is took.stops))
             | inr other ↦
-                let own = gave other in (
+                let own = took.kept other in (
                   fit,
                   inr (inl (
                     own.0,
                     some_given first mid.analyst mid.segments own.0 of.before was mid.unfit
-                        (since first old mid own.0 none same own.2) some,
+                        (since first old mid own.0 begun own.2) some,
                     fault,
                     own.1,
                   )),
@@ -368,22 +370,22 @@ module _ (of : Folding) where
       pub refused_read : (now : Option State) (unfit : Option CaseFault) (n : ℕ) (fault : RunFault)
           → ((a : Option State) (given : List Content) → Folds a mid.analyst mid.unfit mid.segments given → Folds a now unfit n given)
           → ((given : List Content) → Folds first mid.analyst mid.unfit mid.segments given → OnOk ended (IsFoldedFar now))
-          → StopsFolding of fault → IsOfInput fault → GaveBy fault → Ends now fault
-      refused_read now unfit n faults.Memory carry far stops is gave = (fit, inl stops)
-      refused_read now unfit n (faults.Segment at offset fault) carry far stops is gave =
-          let own = gave (λ e. cc e) in
-          let since_then = since first old mid own.0 none same own.2 in
+          → TookToFault old mid of.setting.form of.after of.inputs fault → IsOfInput fault → Ends now fault
+      refused_read now unfit n faults.Memory carry far told is = (fit, inl told.stops)
+      refused_read now unfit n (faults.Segment at offset fault) carry far told is =
+          let own = told.kept (λ e. cc e) in
+          let since_then = since first old mid own.0 begun own.2 in
           up_to now unfit n (faults.Segment at offset fault) own.0 own.1 (carry first own.0 since_then) (far own.0 since_then)
-          (fit, stops)
-      refused_read now unfit n (faults.Hex at fault) carry far stops is gave =
-          let own = gave (λ e. cc e) in
-          let since_then = since first old mid own.0 none same own.2 in
-          up_to now unfit n (faults.Hex at fault) own.0 own.1 (carry first own.0 since_then) (far own.0 since_then) (fit, stops)
-      refused_read now unfit n (faults.Read at) carry far stops is gave =
-          let own = gave (λ e. cc e) in
-          let since_then = since first old mid own.0 none same own.2 in
-          up_to now unfit n (faults.Read at) own.0 own.1 (carry first own.0 since_then) (far own.0 since_then) (fit, stops)
-      refused_read now unfit n fault carry far stops is gave = absurd is
+          (fit, told.stops)
+      refused_read now unfit n (faults.Hex at fault) carry far told is =
+          let own = told.kept (λ e. cc e) in
+          let since_then = since first old mid own.0 begun own.2 in
+          up_to now unfit n (faults.Hex at fault) own.0 own.1 (carry first own.0 since_then) (far own.0 since_then) (fit, told.stops)
+      refused_read now unfit n (faults.Read at) carry far told is =
+          let own = told.kept (λ e. cc e) in
+          let since_then = since first old mid own.0 begun own.2 in
+          up_to now unfit n (faults.Read at) own.0 own.1 (carry first own.0 since_then) (far own.0 since_then) (fit, told.stops)
+      refused_read now unfit n fault carry far told is = absurd is
 
   -- ---- once all segments were taken
 
@@ -558,7 +560,7 @@ module _ (is_text : Bool) (old new : List SourceState) where
 
 -- before the first reading nothing is folded
 pub nothing_folded : AreFolded None []
-nothing_folded = record { taken = refl; far = tt }
+nothing_folded = record { taken = refl; rising = λ s t first. absurd first; far = tt }
 
 module _ (setting : Setting) (symbols : Option (List ℕ)) (texts : List (List ℕ)) (after : List SourceState)
     (Keeps : List Content → Type 0) where

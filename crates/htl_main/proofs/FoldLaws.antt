@@ -1,21 +1,20 @@
 -- An analyst that took a list of segments is right about the first of each key, and takes the next one or finds it unfit.
 use Rattle.std.proofs.Common.{◌≡◌, ◌≢◌, ℕ, ◌+◌, ◌<◌, ◌≤◌, Bool, true, false, cond, List, [], ◌∷◌, ◌++◌, length, length-set, refl, sym, ap, ◌∙◌, subst}
 use Rattle.std.proofs.Common.{inl, inr, ◌⊎◌, arith, Some, None, Option, eq-eqb, eqb, eqb-true, ltb, ltb-true}
-use Rattle.std.specs.Prelude.{Contains, ◌↔◌, ◌||◌, count_by, is_some, map, slice_get}
-use Rattle.std.proofs.lemmas.Bool.{and_from, and_parts, cases_Bool, cases_eq, cases_lt, lt-ltb}
-use Rattle.std.proofs.Common.{leb, leb-true, leb-false}
+use Rattle.std.specs.Prelude.{Contains, ◌↔◌, ◌||◌, count_by, is_some, map}
+use Rattle.std.proofs.lemmas.Bool.{and_from, and_parts, cases_eq, cases_lt, lt-ltb}
+use Rattle.std.proofs.lemmas.List.{get_or_past}
 use Rattle.std.proofs.lemmas.List.Sums.{sum_by-cons}
 use Rattle.htl_event.specs.Events.{Event}
 use Rattle.htl_event.specs.Handles.{IsGreatestSequence}
-use Rattle.htl_event.proofs.Members.{Contains-cases, Contains-from_map, Contains-here, Contains-map, Contains-nil, Contains-there}
+use Rattle.htl_event.proofs.Members.{Contains-from_map, Contains-here, Contains-map, Contains-nil, Contains-there}
 use Rattle.htl_event.proofs.Members.{at_member, each_member, some_member}
-use Rattle.htl_segment.specs.Content.{Content, EventsFit, Fits}
+use Rattle.htl_segment.specs.Content.{Content, Fits}
 use Rattle.htl_segment.specs.Keys.{run_below}
 use Rattle.htl_segment.specs.Traces.{Trace, HasKey, all_events, key_is_in}
-use Rattle.htl_segment.specs.declared.version.Version.{Version}
 use Rattle.htl_segment.proofs.Spans.{above}
 use Rattle.htl_segment.proofs.Traces.{members_agree}
-use Rattle.htl_taken.specs.Gaps.{IsGapBefore, IsGaps, processor_of}
+use Rattle.htl_taken.specs.Gaps.{IsGaps}
 use Rattle.htl_taken.specs.Numbers.{Numbers, front_at, numbers_at, with_loose}
 use Rattle.htl_taken.specs.declared.gap.Gap.{Gap}
 use Rattle.htl_taken.proofs.Gaps.{gaps_agree}
@@ -25,12 +24,12 @@ use Rattle.htl_analyst.specs.Keys.{HasTaken, keys, number_taken}
 use Rattle.htl_analyst.specs.Moments.{IsLeastLastFolded}
 use Rattle.htl_analyst.specs.Refusals.{HoldsOther, IsOfState, TakeAccepted}
 use Rattle.htl_analyst.specs.Right.{IsCollection, IsOwned, IsRight, IsState, run_events}
-use Rattle.htl_analyst.specs.States.{State, folded_at, held_at}
+use Rattle.htl_analyst.specs.States.{Part, State, folded_at, held_at, no_part}
 use Rattle.htl_analyst.specs.TakenAll.{HasKeyOf, HasTakenAll, IsFirstOf}
 use Rattle.htl_analyst.specs.TakenEvents.{taken_events}
-use Rattle.htl_analyst.proofs.Firsts.{first_of_key, is_member, still_first}
+use Rattle.htl_analyst.proofs.Firsts.{first_of_key, is_member}
 use Rattle.htl_analyst.proofs.Held.{collection_of, number, one_segment}
-use Rattle.htl_analyst.proofs.KeyEvents.{keys_taken, taken_keys}
+use Rattle.htl_analyst.proofs.KeyEvents.{taken_keys}
 use Rattle.htl_analyst.proofs.TakenAll.{all_were_taken, take_has_taken_one_more}
 use Rattle.htl_analyst.proofs.Updates.{place-set_other}
 use Rattle.htl_analyst.specs.Steps.{taken_as}
@@ -41,10 +40,9 @@ use Rattle.htl_case.specs.Faults.{key_of}
 use Rattle.htl_case.proofs.Sizes.{size_is}
 use Rattle.htl_main.specs.CaseOutlines.{AreFrontsOf, IsMissed}
 use Rattle.htl_main.specs.declared.coverage.Missed.{Missed}
-use Rattle.htl_main.specs.Coverages.{IsCoverage}
-use Rattle.htl_main.specs.Folders.{IsFallen, IsNewTo, Keeps, KeepsAll, TookNext}
-use Rattle.htl_main.specs.declared.coverage.Coverage.{Coverage}
-use Rattle.htl_main.specs.Folding.{Accepts, AreFolded, AreOfTraceOf, IsCaseOfFirsts, IsCollectionOf, IsFoldedFar, IsUnbroken, IsUnfit}
+use Rattle.htl_main.specs.Folders.{FallsIn, IsFirstToFall, IsNewTo, Keeps, TookNext}
+use Rattle.htl_main.specs.Folding.{Accepts, AreFolded, AreOfTraceOf, AreRising, Fall, FallsAt, IsCaseOfFirsts, IsCollectionOf, IsFoldedFar, IsUnbroken}
+use Rattle.htl_main.specs.Folding.{IsUnfit}
 use Rattle.htl_case.specs.declared.fault.CaseFault.TheVariants as cases
 use Rattle.htl_command.specs.Needs.{needs_events}
 use Rattle.htl_question.specs.Questions.{is_of_events}
@@ -201,22 +199,29 @@ module _ (segments : List Content) (a : State) (T : Trace) (took : HasTakenAll s
       Contains-mapped : (h : Content) → Contains (held_at a.parts p) h → Contains (map number (held_at a.parts p)) h.number
       Contains-mapped h has = Contains-map number (held_at a.parts p) h has
 
-  -- what is not in an unbroken run is held
-  pub held_of : (t : Content) → IsFirstOf segments t → (IsUnbroken segments t → ⊥) → Contains (held_at a.parts t.processor) t
-  held_of t first broken =
+  -- what isn't below a front is held
+  pub low_or_held : (t : Content) → IsFirstOf segments t → (t.number < front_at a.taken t.processor) ⊎ Contains (held_at a.parts t.processor) t
+  low_or_held t first =
       let p = t.processor in
       let within = of_processor t first in
       let part = right.state.each p within in
       elim ((took.keys p t.number).1 (t, is_member segments t first, refl, refl)) [
-        | inl below ↦
-            absurd (broken (λ n le. (took.keys p n).0 (inl (omega (arith, below, le)))))
+        | inl below ↦ inl below
         | inr loose ↦
             let found = Contains-from_map number (held_at a.parts p) t.number
             (subst (λ (ns : List ℕ). Contains ns t.number) (sym part.numbers) loose) in
             let h = held_in_list p found.0 within found.1 in
-            subst (Contains (held_at a.parts p))
+            inr (subst (Contains (held_at a.parts p))
             (one_segment T.segments all.collection.in_order found.0 t ((all.members found.0).1 h.1) ((all.members t).1 first) h.0 found.2)
-            found.1
+            found.1)
+      ]
+
+  -- nor what is not in an unbroken run
+  pub held_of : (t : Content) → IsFirstOf segments t → (IsUnbroken segments t → ⊥) → Contains (held_at a.parts t.processor) t
+  held_of t first broken =
+      elim (low_or_held t first) [
+        | inl below ↦ absurd (broken (λ n le. (took.keys t.processor n).0 (inl (omega (arith, below, le)))))
+        | inr held ↦ held
       ]
 
   -- an event below a front of a processor is at most the last that was folded
@@ -252,93 +257,142 @@ are_of_trace : (segments : List Content) (a : State) (s : Content) → HasTakenA
 are_of_trace segments a s took id count = each_member (λ t. (t.trace_id ≡ s.trace_id) × (t.processors ≡ s.processors)) segments
     (λ t has. (let ids = at_member (AreIdsOf a) segments t took.ids has in (ids.0 ∙ sym id, ids.1 ∙ sym count)))
 
--- Segments from before were folded as far as they could be, and others taken since: one more is accepted that the analyst takes.
-module _ (before earlier : List Content) (a : State) where
-  -- an unbroken run from before is below the fronts
-  front_above : (first : Option State) → AreFolded first before → KeepsAll first (Some a) → (t : Content) → IsFirstOf before t
-      → IsUnbroken before t → t.number < front_at a.taken t.processor
-  front_above None was keeps t has unbroken = absurd (subst (λ (ts : List Content). IsFirstOf ts t) was.taken has)
-  front_above (Some first) was keeps t has unbroken =
-      let p = t.processor in
-      let kept = keeps.fronts p in
-      elim (cases_lt t.number (front_at first.taken p)) [
-        | inl lt ↦ omega (arith, lt, kept)
-        | inr le ↦ absurd (was.far p ((was.taken.1.keys p (front_at first.taken p)).1 (unbroken (front_at first.taken p) le)))
+-- what a new segment makes fall beside all that was taken, and beside what the analyst holds and has folded
+module _ (segments : List Content) (a : State) (s : Content) (took : HasTakenAll segments a) (some : segments ≢ []) (new : IsNewTo a s) where
+  -- is the same
+  pub falls_in_state : (n : ℕ) → FallsAt segments s n → FallsIn a s n
+  falls_in_state n falls =
+      let all = firsts_of segments a took in
+      let t = falls.0 in
+      let place = low_or_held segments a all.0 took some all.1 t falls.1 in
+      elim falls.2 [
+        | inl low ↦
+            let fall = low.0 in
+            elim place [
+              | inl below ↦
+                  let last = at_most_last segments a all.0 took some all.1 t fall.earlier falls.1 below fall.has_earlier in
+                  let falling = fall.falling in
+                  let at = ap (λ (q : ℕ). (folded_at a.parts q).last_sequence) fall.processor in
+                  inl (low.1, fall.event, fall.has_event, omega (arith, last, falling, at))
+              | inr held ↦ inr (t, subst (λ (q : ℕ). Contains (held_at a.parts q) t) fall.processor held, inl low)
+            ]
+        | inr high ↦
+            let fall = high.0 in
+            elim place [
+              | inl below ↦
+                  let over = fall.number in
+                  let at = ap (front_at a.taken) fall.processor in
+                  absurd (new.new (inl (omega (arith, over, below, at))))
+              | inr held ↦ inr (t, subst (λ (q : ℕ). Contains (held_at a.parts q) t) (sym fall.processor) held, inr high)
+            ]
       ]
 
-  module _ (first : Option State) (s : Content) (was : AreFolded first before) (some : before ++ earlier ≢ [])
-      (took : HasTakenAll (before ++ earlier) a) (keeps : KeepsAll first (Some a)) (accepted : TakeAccepted a s)
-      (rising : IsFallen a s false) where
-    content_agrees : (t : Content) → IsFirstOf (before ++ earlier) t → key_of t ≡ key_of s → (IsUnbroken (before ++ earlier) t → ⊥)
-        → t ≢ s → ⊥
-    content_agrees t is_first same broken other =
-        let all = firsts_of (before ++ earlier) a took in
-        let same_p : t.processor ≡ s.processor = ap (λ (k : ℕ × ℕ). k.0) same in
-        accepted.agrees (record {
-          held = t;
-          here = subst (λ (p : ℕ). Contains (held_at a.parts p) t) same_p (held_of (before ++ earlier) a all.0 took some all.1 t is_first broken);
-          number = ap (λ (k : ℕ × ℕ). k.1) same;
-          other = other;
-        })
+  pub falls_in_list : Fits s → (n : ℕ) → FallsIn a s n → FallsAt segments s n
+  falls_in_list fits n falls =
+      let all = firsts_of segments a took in
+      let own = fits.processor in
+      let count = new.processors in
+      let within : s.processor < a.processors = omega (arith, own, count) in
+      elim falls [
+        | inl self ↦
+            let e = self.1 in
+            let low = self.3 in
+            let high = above s.version 0 s.events fits.events e self.2 in
+            let last = last_is_of segments a all.0 took some all.1 s.processor within (omega (arith, high, low)) in
+            let under = last.3 in
+            let is = last.6 in
+            let behind : (last.0).number < s.number =
+            elim (cases_lt (last.0).number s.number) [
+              | inl lt ↦ lt
+              | inr le ↦ absurd (new.new (inl (omega (arith, le, under))))
+            ] in (
+              last.0,
+              last.1,
+              inl (
+                record {
+                  processor = last.2;
+                  number = behind;
+                  event = e;
+                  earlier = last.4;
+                  has_event = self.2;
+                  has_earlier = last.5;
+                  falling = omega (arith, low, is);
+                },
+                self.0,
+              ),
+            )
+        | inr held ↦ (
+          held.0,
+          (held_in_list segments a all.0 took some all.1 s.processor held.0 within held.1).1,
+          held.2,
+        )
+      ]
 
-    rises_above : (HasKeyOf (before ++ earlier) s.processor s.number → ⊥) → (t : Content) → IsFirstOf before t → IsUnbroken before t
-        → t.processor ≡ s.processor → (e f : Event) → Contains s.events e → Contains t.events f → f.sequence < e.sequence
-    rises_above new t is_first unbroken same e f in_s in_t =
-        let all = firsts_of (before ++ earlier) a took in
-        let last = at_most_last (before ++ earlier) a all.0 took some all.1 t f (still_first before earlier t is_first)
-        (front_above first was keeps t is_first unbroken) in_t in
-        let fresh : IsNewTo a s = record {
-          trace_id = accepted.of_state.trace_id;
-          processors = accepted.of_state.processors;
-          new = λ taken. new ((took.keys s.processor s.number).0 taken);
-        } in
-        let above = rising fresh e in_s in
-        let at : (folded_at a.parts t.processor).last_sequence ≡ (folded_at a.parts s.processor).last_sequence =
-        ap (λ (q : ℕ). (folded_at a.parts q).last_sequence) same in
-        omega (arith, last, above, at)
+-- Where the segments rise, those that the analyst holds do.
+pub held_rise : (segments : List Content) (a : State) (p : ℕ) → HasTakenAll segments a → segments ≢ [] → AreRising segments
+    → (h k : Content) → Contains (held_at a.parts p) h → Contains (held_at a.parts p) k → Fall h k → ⊥
+held_rise segments a p took some rising h k in_h in_k =
+    let all = firsts_of segments a took in
+    elim (cases_lt p a.processors) [
+      | inl within ↦ rising h k (held_in_list segments a all.0 took some all.1 p h within in_h).1
+          (held_in_list segments a all.0 took some all.1 p k within in_k).1
+      | inr past ↦
+          let is = right_of_all segments a all.0 took some all.1 in
+          let long = is.state.parts in
+          let none : held_at a.parts p ≡ [] = ap (λ (k : Part). k.held) (get_or_past a.parts p no_part (omega (arith, past, long))) in
+          absurd (Contains-nil h (subst (λ (hs : List Content). Contains hs h) none in_h))
+    ]
 
-    -- a segment that the analyst takes, and that doesn't fall, is accepted after those before
-    pub accepts_next : Accepts before earlier s
-    accepts_next = record {
-      trace = are_of_trace (before ++ earlier) a s took accepted.of_state.trace_id accepted.of_state.processors;
-      content = content_agrees;
-      rises = rises_above;
-    }
+-- a segment that the analyst takes, and that makes none fall, is accepted after those before
+module _ (before earlier : List Content) (a : State) (s : Content) (some : before ++ earlier ≢ []) (took : HasTakenAll (before ++ earlier) a)
+    (accepted : TakeAccepted a s) (rising : IsFirstToFall a s None) where
+  content_agrees : (t : Content) → IsFirstOf (before ++ earlier) t → key_of t ≡ key_of s → (IsUnbroken (before ++ earlier) t → ⊥)
+      → t ≢ s → ⊥
+  content_agrees t is_first same broken other =
+      let all = firsts_of (before ++ earlier) a took in
+      let same_p : t.processor ≡ s.processor = ap (λ (k : ℕ × ℕ). k.0) same in
+      accepted.agrees (record {
+        held = t;
+        here = subst (λ (p : ℕ). Contains (held_at a.parts p) t) same_p (held_of (before ++ earlier) a all.0 took some all.1 t is_first broken);
+        number = ap (λ (k : ℕ × ℕ). k.1) same;
+        other = other;
+      })
+
+  none_falls : (HasKeyOf (before ++ earlier) s.processor s.number → ⊥) → (n : ℕ) → FallsAt (before ++ earlier) s n → ⊥
+  none_falls new n falls =
+      let fresh : IsNewTo a s = record {
+        trace_id = accepted.of_state.trace_id;
+        processors = accepted.of_state.processors;
+        new = λ taken. new ((took.keys s.processor s.number).0 taken);
+      } in
+      rising fresh n (falls_in_state (before ++ earlier) a s took some fresh n falls)
+
+  pub accepts_next : Accepts before earlier s
+  accepts_next = record {
+    trace = are_of_trace (before ++ earlier) a s took accepted.of_state.trace_id accepted.of_state.processors;
+    content = content_agrees;
+    rises = λ new t first. (
+      λ fall. none_falls new s.number (t, first, inl (fall, refl)),
+      λ fall. none_falls new t.number (t, first, inr (fall, refl)),
+    );
+  }
 
 -- ---- a segment that is not taken
 
 module _ (segments : List Content) (a : State) (s : Content) (took : HasTakenAll segments a) (some : segments ≢ []) where
-  -- an event that isn't above all that was folded
-  pub falls : (fits : Fits s) → IsFallen a s true → IsUnfit segments s (cases.Falling s.processor s.number)
-  falls fits fallen =
-      let e = fallen.1 in
-      let all = firsts_of segments a took in
-      let high = above s.version 0 s.events fits.events e fallen.2 in
-      let low = fallen.3 in
-      let count = fallen.0.processors in
-      let own = fits.processor in
-      let within : s.processor < a.processors = omega (arith, own, count) in
-      let last = last_is_of segments a all.0 took some all.1 s.processor within (omega (arith, high, low)) in
-      let t = last.0 in
-      let behind : t.number < s.number =
-      elim (cases_lt t.number s.number) [
-        | inl lt ↦ lt
-        | inr le ↦ (let below = last.3 in absurd (fallen.0.new (inl (omega (arith, le, below)))))
-      ] in
-      let is = last.6 in (
-        refl,
-        are_of_trace segments a s took fallen.0.trace_id fallen.0.processors,
-        (λ there. fallen.0.new ((took.keys s.processor s.number).1 there)),
-        t,
-        last.1,
-        last.2,
-        behind,
-        e,
-        last.4,
-        fallen.2,
-        last.5,
-        omega (arith, low, is),
-      )
+  -- a new one that makes a segment fall
+  pub falls : (n : ℕ) → Fits s → IsFirstToFall a s (Some n) → IsUnfit segments s (cases.Falling s.processor n)
+  falls n fits fallen =
+      let new = fallen.0 in
+      record {
+        processor = refl;
+        trace = are_of_trace segments a s took new.trace_id new.processors;
+        new = λ there. new.new ((took.keys s.processor s.number).1 there);
+        falls = record {
+          holds = falls_in_list segments a s took some new fits n fallen.1.holds;
+          least = λ m lt at. fallen.1.least m lt (falls_in_state segments a s took some new m at);
+        };
+      }
 
   -- another content is held
   pub conflicts : IsOfState a s → (other : HoldsOther a s) → s.processor < a.processors
@@ -374,57 +428,6 @@ module _ (segments : List Content) (a : State) (s : Content) (took : HasTakenAll
         (λ t has. (let ids = at_member (AreIdsOf a) segments t took.ids has in
         (ids.0 ∙ sym same, λ equal. differ (sym equal ∙ ids.1)))),
   )
-
--- a key that isn't taken is none of the state's
-pub not_a_key : (a : State) (p n : ℕ) → (HasTaken a p n → ⊥) → keys a p n ≡ false
-not_a_key a p n none = elim (cases_Bool (keys a p n)) [
-  | inl is ↦ absurd (none (keys_taken a p n is))
-  | inr not_so ↦ not_so
-]
-
--- the first event of what fits has the least sequence
-pub first_least : (version : Version) (e : Event) (es : List Event) → EventsFit version 0 (e ∷ es) → (x : Event) → Contains (e ∷ es) x
-    → e.sequence ≤ x.sequence
-first_least version e es fit x has =
-    elim (Contains-cases e es x has) [
-      | inl same ↦ subst (λ (y : Event). e.sequence ≤ y.sequence) same (omega arith)
-      | inr later ↦ (let high = above version e.sequence es fit.2 x later in omega (arith, high))
-    ]
-
--- where the first event is above what was folded, all are; where it isn't, the segment falls
-pub fallen_by_first : (a : State) (s : Content) (e : Event) (last : ℕ) → Fits s → slice_get s.events 0 ≡ Some e
-    → last ≡ (folded_at a.parts s.processor).last_sequence → IsNewTo a s → IsFallen a s (leb e.sequence last)
-fallen_by_first a s e last fits first is new = by_test (leb e.sequence last) refl
-  where
-    all_of : (es : List Event) → EventsFit s.version 0 es → slice_get es 0 ≡ Some e → (x : Event) → Contains es x → e.sequence ≤ x.sequence
-    all_of [] fit at x has = absurd (cc at)
-    all_of (y ∷ ys) fit at x has =
-        let same : y ≡ e = cc at in
-        subst (λ (z : Event). z.sequence ≤ x.sequence) same (first_least s.version y ys fit x has)
-
-    has_first : (es : List Event) → slice_get es 0 ≡ Some e → Contains es e
-    has_first [] at = absurd (cc at)
-    has_first (y ∷ ys) at = let same : y ≡ e = cc at in subst (Contains (y ∷ ys)) same (Contains-here y ys)
-
-    by_test : (test : Bool) → leb e.sequence last ≡ test → IsFallen a s test
-    by_test true is_low = (new, e, has_first s.events first, (let low = leb-true e.sequence last is_low in omega (arith, low, is)))
-    by_test false is_high = λ again x has.
-        (let high = leb-false e.sequence last is_high in
-        let least = all_of s.events fits.events first x has in
-        omega (arith, high, least, is))
-
--- a segment without events doesn't fall, nor does one that isn't new
-pub not_fallen : (a : State) (s : Content) → (IsNewTo a s → ⊥) → IsFallen a s false
-not_fallen a s old new = absurd (old new)
-
--- a segment without events doesn't fall
-pub none_fallen : (a : State) (s : Content) → slice_get s.events 0 ≡ None → IsFallen a s false
-none_fallen a s none = go s.events none
-  where
-    go : (es : List Event) → slice_get es 0 ≡ None → IsNewTo a s → (x : Event) → Contains es x
-        → (folded_at a.parts s.processor).last_sequence < x.sequence
-    go [] at new x has = absurd (Contains-nil x has)
-    go (y ∷ ys) at new x has = absurd (cc at)
 
 -- ---- a segment that is taken
 
@@ -481,7 +484,7 @@ keeps_same a b is = record {
 
 -- an analyst that took segments, and one more that doesn't fall, took all of them
 pub takes_one : (segments : List Content) (a b : State) (s : Content) (took : Took) → HasTakenAll segments a → Fits s
-    → b ≡ taken_as took a s → TakeAccepted a s → ((took ≡ New) ↔ (HasTaken a s.processor s.number → ⊥)) → IsFallen a s false
+    → b ≡ taken_as took a s → TakeAccepted a s → ((took ≡ New) ↔ (HasTaken a s.processor s.number → ⊥)) → IsFirstToFall a s None
     → ((p n : ℕ) → HasTaken b p n ↔ (HasTaken a p n ⊎ ((p ≡ s.processor) × (n ≡ s.number))))
     → ((T : Trace) → IsRight a T → Contains T.segments s → IsRight b T) → TookNext segments s a b
 takes_one segments a b s took before fits is accepted new rising keys right = record {

@@ -9,8 +9,9 @@ use Rattle.htl_analyst.specs.States.{State}
 use Rattle.htl_analyst.specs.TakenAll.{HasTakenAll}
 use Rattle.htl_case.specs.declared.fault.CaseFault.{CaseFault}
 use Rattle.htl_main.specs.Folders.{Folds, Keeps, KeepsAll, TookFit, TookNext}
-use Rattle.htl_main.specs.Folding.{Accepts, AreAcceptedAfter, AreFolded, AreTaken, IsOfPlace, IsUnfit, TakesUpTo}
+use Rattle.htl_main.specs.Folding.{Accepts, AreAcceptedAfter, AreFolded, AreRising, AreTaken, IsOfPlace, IsUnfit, TakesUpTo}
 use Rattle.htl_main.proofs.FoldLaws.{accepts_next}
+use Rattle.htl_main.proofs.RisingLaws.{accepted_rise}
 
 not_empty : (xs : List Content) (s : Content) → xs ++ s ∷ [] ≢ []
 not_empty xs s none =
@@ -34,13 +35,20 @@ keeps_on (Some first) old new before then = record {
   number = (let a = before.number in let b = then.number in omega (arith, a, b));
 }
 
+-- what was taken rises
+rise_so_far : (first now : Option State) (unfit : Option CaseFault) (n : ℕ) (given : List Content) (so_far : Folds first now unfit n given)
+    (before : List Content) → AreFolded first before → AreRising (before ++ so_far.taken)
+rise_so_far first now unfit n given so_far before was = accepted_rise before so_far.taken was.rising (so_far.takes before was).accepted
+
 -- ---- one segment more
 
 module _ (first : Option State) (old new : State) (given : List Content) (n m : ℕ) (s : Content)
     (so_far : Folds first (Some old) None n given) (more : m ≡ min (n + 1) (2 ^ 64 - 1))
-    (next : (segments : List Content) → segments ≢ [] → HasTakenAll segments old → TookNext segments s old new) where
+    (next : (segments : List Content) → segments ≢ [] → HasTakenAll segments old → AreRising segments → TookNext segments s old new) where
   taken_next : (before : List Content) → AreFolded first before → TookNext (before ++ so_far.taken) s old new
-  taken_next before was = (let kept = so_far.kept before was in next (before ++ so_far.taken) kept.0 kept.1)
+  taken_next before was =
+      (let kept = so_far.kept before was in
+      next (before ++ so_far.taken) kept.0 kept.1 (rise_so_far first (Some old) None n given so_far before was))
 
   takes_next : (before : List Content) → AreFolded first before → TakesUpTo before (given ++ s ∷ []) (so_far.taken ++ s ∷ []) None
   takes_next before was =
@@ -52,7 +60,7 @@ module _ (first : Option State) (old new : State) (given : List Content) (n m : 
         later = [];
         cut = ap (λ (l : List Content). l ++ s ∷ []) all ∙ sym (append-nil (so_far.taken ++ s ∷ []));
         accepted = accepted_more before [] so_far.taken s takes.accepted
-            (accepts_next before so_far.taken old first s was kept.0 kept.1 so_far.keeps took.accepted took.rising);
+            (accepts_next before so_far.taken old s kept.0 kept.1 took.accepted took.rising);
         ends = refl;
       }
 
@@ -83,7 +91,11 @@ module _ (first : Option State) (new : State) (given : List Content) (n : ℕ) (
   none_first (Some state) keeps = absurd keeps
 
   none_taken : so_far.taken ≡ []
-  none_taken = so_far.kept [] (record { taken = rw (none_first first so_far.keeps) refl; far = rw (none_first first so_far.keeps) tt })
+  none_taken = so_far.kept [] (record {
+    taken = rw (none_first first so_far.keeps) refl;
+    rising = λ s t first. absurd first;
+    far = rw (none_first first so_far.keeps) tt;
+  })
 
   -- the first segment begins what was taken
   pub took_first : Folds first (Some new) None 1 (given ++ s ∷ [])
@@ -174,16 +186,18 @@ module _ (first : Option State) (old new : State) (given : List Content) (n : �
     (so_far : Folds first (Some old) None n given) where
   -- the next segment is unfit, and the analyst stays as it was
   pub unfit_next : (unfit : Option CaseFault) → is_some unfit ≡ true → (is_some unfit ≡ true → new ≡ old)
-      → ((segments : List Content) → segments ≢ [] → HasTakenAll segments old → TookFit segments s n old new unfit)
+      → ((segments : List Content) → segments ≢ [] → HasTakenAll segments old → AreRising segments → TookFit segments s n old new unfit)
       → Folds first (Some new) unfit n (given ++ s ∷ [])
   unfit_next None is same next = absurd (cc is)
   unfit_next (Some fault) is same next =
       rw (same is) (found_unfit first (Some old) given n s fault so_far
-      (λ before was. (let kept = so_far.kept before was in next (before ++ so_far.taken) kept.0 kept.1)))
+      (λ before was.
+      (let kept = so_far.kept before was in
+      next (before ++ so_far.taken) kept.0 kept.1 (rise_so_far first (Some old) None n given so_far before was))))
 
   -- the next segment was taken behind those before it
   pub fit_next : (unfit : Option CaseFault) (m : ℕ) → is_some unfit ≡ false → m ≡ min (n + 1) (2 ^ 64 - 1) → Keeps old new
-      → ((segments : List Content) → segments ≢ [] → HasTakenAll segments old → TookFit segments s n old new unfit)
+      → ((segments : List Content) → segments ≢ [] → HasTakenAll segments old → AreRising segments → TookFit segments s n old new unfit)
       → Folds first (Some new) unfit m (given ++ s ∷ [])
   fit_next None m is more keeps next = took_next first old new given n m s so_far more next keeps
   fit_next (Some fault) m is more keeps next = absurd (cc is)

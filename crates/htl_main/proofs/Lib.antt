@@ -9,6 +9,8 @@ pub mod FewSegments
 pub mod OfProcessor
 pub mod Covered
 pub mod Collections
+pub mod FallingLaws
+pub mod RisingLaws
 pub mod FoldLaws
 pub mod FolderLaws
 pub mod FoldInputs
@@ -19,6 +21,8 @@ pub mod Bases
 pub mod OneAnswer
 pub mod OneOutcome
 pub mod OneCoverage
+pub mod Touched
+pub mod Absences
 pub mod UnfoldedLaws
 pub mod OneSource
 pub mod DigitsLaws

@@ -1,7 +1,7 @@
 -- Which processor of a trace is the first that misses a segment, and which cut end isn't known; and why a run ends that looks for gaps and symbols.
 use Rattle.std.proofs.Common.{◌≡◌, ℕ, zero, suc, ◌+◌, ◌-◌, ◌^◌, ◌<◌, ◌≤◌, Bool, true, false, List, [], ◌∷◌, ◌++◌, Option, Some, None, ◌⊎◌}
 use Rattle.std.proofs.Common.{refl, ap, subst, sym, ◌∙◌, arith, inl, inr, length, length-append, take, drop, All}
-use Rattle.std.specs.Prelude.{Contains, slice_get, option_map, nat_lt, if◌then◌else◌, is_some, map, IfNone, IfSome}
+use Rattle.std.specs.Prelude.{Contains, slice_get, nat_lt, if◌then◌else◌, is_some, map, IfNone, IfSome}
 use Rattle.std.proofs.lemmas.Bool.{cases_lt, ltb-false, ltb-true}
 use Rattle.std.proofs.lemmas.List.{take_more}
 use Rattle.std.proofs.lemmas.List.Elements.{All-append, All-cons, All-nil, Contains-append_cases, Contains-append_left, Contains-append_right}
@@ -13,7 +13,7 @@ use Rattle.htl_analyst.proofs.Held.{one_segment}
 use Rattle.htl_case.specs.Cases.{IsCaseOf}
 use Rattle.htl_case.specs.Faults.{AreOfOneTrace}
 use Rattle.htl_case.proofs.Outcomes.{case_one_count, case_one_trace}
-use Rattle.htl_taken.specs.Gaps.{IsGap, IsGapBefore, IsGaps, processor_of}
+use Rattle.htl_taken.specs.Gaps.{IsGap, IsGapBefore, processor_of}
 use Rattle.htl_taken.specs.declared.gap.Gap.{Gap}
 use Rattle.htl_taken.specs.declared.gap.Gap.TheVariants.{Between, Absent}
 use Rattle.htl_tables.proofs.FirstNoted.{get_cases}
@@ -24,7 +24,7 @@ use Rattle.htl_segment.specs.Outlines.{outline_of}
 use Rattle.htl_segment.specs.declared.outline.Outline.{Outline}
 use Rattle.htl_main.specs.CaseOutlines.{AreFronts, AreOutlinesOf, IsFirstShort, IsMissed, IsShortUpTo, lesser}
 use Rattle.htl_main.specs.Causes.{IsCauseAfter}
-use Rattle.htl_main.specs.Completeness.{IsFirstUnknown, IsKnown, IsLeastMissing, IsOfKey, Misses, MissesUpTo, ReportsMissing, name_of}
+use Rattle.htl_main.specs.Completeness.{IsFirstUnknown, IsKnown, IsLeastMissing, IsOfKey, Misses, MissesUpTo, ReportsMissing}
 use Rattle.htl_main.specs.CutInputs.{Decoding}
 use Rattle.htl_main.specs.declared.cut_inputs.CutEnd.{CutEnd}
 use Rattle.htl_case.specs.Complete.{IsFirstMissing}

@@ -89,8 +89,8 @@ always (Err fault) holds = tt
 
 module _ {T : Type 0} (place : ℕ) (old new : SourceState) where
   -- so it is read as a source of the run, whatever is made of its segments
-  decoded_well : {S : Type 0} (made : S) (value : T)
-      → IsSourceRead MAX_READS (remaining old) old new (made_of made)
+  decoded_well : {S : Type 0} {workers : ℕ} (made : S) (value : T)
+      → IsSourceRead workers MAX_READS (remaining old) old new (made_of made)
       → IsRead false MAX_READS place old new (well value)
   decoded_well made value is = record {
     ended = is.ended;
@@ -103,8 +103,8 @@ module _ {T : Type 0} (place : ℕ) (old new : SourceState) where
   }
 
   -- or as one that ends within a segment and may not
-  decoded_early : {S : Type 0} (made : S) (fault : RunFault) → IsSegmentOf place fault
-      → IsSourceRead MAX_READS (remaining old) old new (made_of made)
+  decoded_early : {S : Type 0} {workers : ℕ} (made : S) (fault : RunFault) → IsSegmentOf place fault
+      → IsSourceRead workers MAX_READS (remaining old) old new (made_of made)
       → IsRead false MAX_READS place old new (ill {S = T} fault)
   decoded_early made fault segment is = rw (segment.2) record {
     ended = tt;
@@ -117,15 +117,15 @@ module _ {T : Type 0} (place : ℕ) (old new : SourceState) where
   }
 
   -- a source that was read by a call that ends well is read so by one that ends well or for a fault of its segments
-  pub accepted_read : {S : Type 0} (made : S) (result : Result T RunFault) → IfErr result (IsSegmentOf place)
-      → IsSourceRead MAX_READS (remaining old) old new (made_of made)
+  pub accepted_read : {S : Type 0} {workers : ℕ} (made : S) (result : Result T RunFault) → IfErr result (IsSegmentOf place)
+      → IsSourceRead workers MAX_READS (remaining old) old new (made_of made)
       → IsRead false MAX_READS place old new result
   accepted_read made (Ok value) segment is = decoded_well made value is
   accepted_read made (Err fault) segment is = decoded_early made fault segment is
 
   -- or as one with a fault
-  pub decoded_ill : {S : Type 0} (fault : SourceFault)
-      → IsSourceRead MAX_READS (remaining old) old new
+  pub decoded_ill : {S : Type 0} {workers : ℕ} (fault : SourceFault)
+      → IsSourceRead workers MAX_READS (remaining old) old new
       (told {S = S} fault)
       → IsRead false MAX_READS place old new (ill {S = T} (of_source place fault))
   decoded_ill {S} fault is = record {

@@ -1,5 +1,5 @@
 -- What the outlines of one processor say of its keys and sequences is so of its segments.
-use Rattle.std.proofs.Common.{◌≡◌, ℕ, zero, suc, ◌+◌, ◌^◌, ◌<◌, ◌≤◌, List, [], ◌∷◌, ◌++◌, map, max, take, All}
+use Rattle.std.proofs.Common.{◌≡◌, ℕ, zero, suc, ◌+◌, ◌<◌, ◌≤◌, List, [], ◌∷◌, ◌++◌, map, max, take, All}
 use Rattle.std.proofs.Common.{refl, ap, subst, sym, ◌∙◌, arith}
 use Rattle.std.specs.Prelude.{get_or, Contains}
 use Rattle.std.specs.List.{AllByRecursion}
@@ -17,11 +17,11 @@ use Rattle.htl_segment.proofs.Greatest.{greatest_joined, greatest_none}
 use Rattle.htl_segment.proofs.OutlineLaws.{last_is_greatest}
 use Rattle.htl_taken.specs.Gaps.{IsGaps}
 use Rattle.htl_taken.specs.GapLists.{gaps_of}
-use Rattle.htl_taken.specs.Rising.{Rises, reach_from}
+use Rattle.htl_taken.specs.Rising.{reach_from}
 use Rattle.htl_taken.specs.declared.gap.Gap.{Gap}
 use Rattle.htl_main.specs.CaseOutlines.{AreOutlinesOf, greatest_from, numbers_of}
 use Rattle.htl_case.specs.Complete.{IsFirstMissing, IsUnbrokenTo}
-use Rattle.htl_main.proofs.Covered.{AreFrom, AreOwn, segment_numbers, cut, first_is, from_first, more_gaps, next_back, own_front, rises}
+use Rattle.htl_main.proofs.Covered.{AreFrom, AreOwn, segment_numbers, cut, first_is, from_first, more_gaps, next_back, own_front}
 use Rattle.htl_main.proofs.Covered.{unbroken_to}
 use Rattle.htl_case.proofs.Scanned.{processor_rises}
 

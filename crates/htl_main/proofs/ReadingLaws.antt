@@ -1,12 +1,12 @@
 -- Sources are read one after another to their ends, up to the one at which a run ends.
 use Rattle.std.proofs.Common.{◌≡◌, ◌<◌, ◌≤◌, ◌+◌, ℕ, Bool, false, List, length, map, take, All, refl, sym, ap, ◌∙◌, arith, inl, inr}
-use Rattle.std.proofs.Common.{Option, Some, Result, Ok, Err}
+use Rattle.std.proofs.Common.{IfSome, Option, Some, Result, Ok, Err, get_or, length-set}
 use Rattle.std.specs.Prelude.{IfErr, option_map, slice_get}
 use Rattle.std.proofs.Math.ListN.{set}
 use Rattle.std.proofs.lemmas.Bool.{false_from_ne_true}
 use Rattle.std.proofs.lemmas.List.{length-map, map-set, take_all}
 use Rattle.std.proofs.lemmas.List.Elements.{All-contains, All-set}
-use Rattle.std.proofs.lemmas.Option.{slice_get-map, slice_get_within}
+use Rattle.std.proofs.lemmas.Option.{slice_get-get_or, slice_get-map, slice_get_within}
 use Rattle.htl_device.specs.States.{AreOpen, IsOpen, SourceState, ends, good_reads, has_ended, has_failed, lefts, remaining}
 use Rattle.htl_device.specs.declared.whole.TheConstants.{MAX_READS}
 use Rattle.htl_device.specs.declared.source.TheConstants.{MAX_READ_LEN}
@@ -19,7 +19,7 @@ use Rattle.htl_main.specs.Readings.{AreRead}
 use Rattle.htl_main.specs.Sources.{AreReadToFault, AreReadWithin, EndsBefore, IsReportedAt, IsReportedOfSource, IsTrueAt}
 use Rattle.htl_main.specs.declared.fault.RunFault.{RunFault}
 use Rattle.htl_main.specs.declared.fault.RunFault.TheVariants.{Memory, Read, Workers}
-use Rattle.htl_main.proofs.SourceLaws.{Knows, ended_next, endless_at, known_now, knows_now, none_read, none_read_within, one_read, one_read_within}
+use Rattle.htl_main.proofs.SourceLaws.{at_known, ended_next, endless_at, known_now, knows_now, none_read, none_read_within, one_read, one_read_within}
 use Rattle.htl_main.proofs.SourceLaws.{other_value, read_no_fault, slice_get-set_other, stopped_at, stopped_before, true_nowhere, true_of_all, true_of_new}
 use Rattle.htl_main.proofs.SourceLaws.{true_there, value_there}
 
@@ -43,6 +43,7 @@ all_texts state sources texts place all done =
 
 -- The sources before a place were read to their ends, and the others weren't read.
 pub record ReadBefore (is_text : Bool) (first now : List SourceState) (place : ℕ) : Type 0 where
+  pub same_length : length now ≡ length first
   pub left : (k : ℕ) → place ≤ k → slice_get now k ≡ slice_get first k
   pub ended : (k : ℕ) → k < place → IsTrueAt (map has_ended now) k
   pub fine : All (λ source. has_failed source ≡ false) now
@@ -54,6 +55,7 @@ module _ (is_text : Bool) (first : List SourceState) where
   pub none_before : AreOpen first
       → ReadBefore is_text first first 0
   none_before ready = record {
+    same_length = refl;
     left = λ k above. refl;
     ended = λ k below. absurd (omega (arith, below));
     fine = λ k d below. (ready k d below).fine;
@@ -65,6 +67,7 @@ module _ (is_text : Bool) (first : List SourceState) where
   pub unread : {S : Type 0} → AreOpen first
       → AreRead is_text first first (ill {S = S} Workers)
   unread ready = record {
+    same_length = refl;
     ended = tt;
     in_order = λ earlier later below. inr refl;
     reported = λ place failed. absurd (true_nowhere has_failed first place (λ k d below. (ready k d below).fine) failed);
@@ -81,6 +84,7 @@ module _ (is_text : Bool) (first : List SourceState) where
         → length now ≤ place
         → AreRead is_text first now (well {S = S} value)
     all_read place value before all = record {
+      same_length = before.same_length;
       ended = true_of_all has_ended now (λ k within. before.ended k (omega (arith, all, within)));
       in_order = stopped_before has_ended first now place before.ended before.left;
       reported = λ at failed. absurd (true_nowhere has_failed now at before.fine failed);
@@ -96,6 +100,7 @@ module _ (is_text : Bool) (first : List SourceState) where
         → AreRead is_text first now (ill {S = S} fault)
         → AreRead is_text first now (ill {S = T} fault)
     ends_too fault read = record {
+      same_length = read.same_length;
       ended = tt;
       in_order = read.in_order;
       reported = λ at failed. (let same : fault ≡ Read at = cc (read.reported at failed) in rw same refl);
@@ -112,6 +117,7 @@ module _ (is_text : Bool) (first : List SourceState) where
         → IfErr result (λ fault. (place : ℕ) → EndsBefore fault place → ⊥)
         → AreRead is_text first now result
     read_then value (Ok done) read never names = record {
+      same_length = read.same_length;
       ended = read.ended;
       in_order = read.in_order;
       reported = λ at failed. absurd (cc (read.reported at failed));
@@ -122,6 +128,7 @@ module _ (is_text : Bool) (first : List SourceState) where
       to_fault = read.to_fault;
     }
     read_then value (Err fault) read never names = record {
+      same_length = read.same_length;
       ended = tt;
       in_order = read.in_order;
       reported = λ at failed. absurd (cc (read.reported at failed));
@@ -138,6 +145,9 @@ module _ (is_text : Bool) (first : List SourceState) where
       bytes_of : slice_get (map remaining first) place ≡ Some (remaining x)
       bytes_of = known_now remaining first now place x (before.left place (omega arith)) here
 
+      as_long : length (set now place y) ≡ length first
+      as_long = length-set now place y ∙ before.same_length
+
       few : good_reads y ≤ good_reads x + MAX_READS → AreReadWithin (map good_reads first) (map good_reads (set now place y))
       few one = one_read_within good_reads (map good_reads first) now place x y within before.bounded
           (known_now good_reads first now place x (before.left place (omega arith)) here) one
@@ -150,6 +160,7 @@ module _ (is_text : Bool) (first : List SourceState) where
           let fine : has_failed y ≡ false = false_from_ne_true (has_failed y)
           (λ failed. cc (is.reported failed)) in
           record {
+            same_length = as_long;
             left = λ k above. slice_get-set_other now place k y (λ e. omega (arith, above, e)) ∙ before.left k (omega (arith, above));
             ended = ended_next has_ended now place y within is.ended before.ended;
             fine = All-set (λ source. has_failed source ≡ false) now place y fine before.fine;
@@ -163,6 +174,7 @@ module _ (is_text : Bool) (first : List SourceState) where
           → IsRead is_text MAX_READS place x y (ill {S = S} fault)
           → AreRead is_text first (set now place y) (ill {S = T} fault)
       read_to fault is = record {
+        same_length = as_long;
         ended = tt;
         in_order = stopped_at has_ended first now place y before.ended before.left;
         reported = λ at failed.
@@ -194,6 +206,7 @@ module _ (is_text : Bool) (first : List SourceState) where
           → AreRead is_text first (set now place y) (ill {S = T} Memory)
       refused_after value is =
           record {
+            same_length = as_long;
             ended = tt;
             in_order = stopped_at has_ended first now place y before.ended before.left;
             reported = λ at failed.
@@ -219,47 +232,64 @@ unread_later remaining first now texts place y left all later above =
 
 -- ---- one source after another, in a loop
 
--- The sources before a place were read, and x, which stands there, is next.
-module _ {R : Type 0} (state : R → SourceState) (first now : List R) (place : ℕ) (x : R) (here : slice_get now place ≡ Some x)
-    {is_text : Bool} (before : ReadBefore is_text (map state first) (map state now) place) where
+-- The sources before a place were read to their ends, and x, which stands there, is next.
+pub record Next {R : Type 0} (state : R → SourceState) (is_text : Bool) (first now : List R) (place : ℕ) (x : R) : Type 0 where
+  pub here : slice_get now place ≡ Some x
+  pub before : ReadBefore is_text (map state first) (map state now) place
+
+-- the source at the place that a loop has come to
+pub next_of : {R : Type 0} (state : R → SourceState) (first now : List R) (place : ℕ) (d : R) {is_text : Bool}
+    → ReadBefore is_text (map state first) (map state now) place → place < length now → Next state is_text first now place (get_or now place d)
+next_of state first now place d before within = record { here = slice_get-get_or now place d within; before = before }
+
+-- a fact of the text at a place
+pub record AtText (texts : List (List ℕ)) (place : ℕ) (P : List ℕ → Type 0) : Type 0 where
+  pub text : List ℕ
+  pub here : slice_get texts place ≡ Some text
+  pub holds : P text
+
+module _ {R : Type 0} {state : R → SourceState} {is_text : Bool} {first now : List R} {place : ℕ} {x : R}
+    (next : Next state is_text first now place x) where
   here_now : slice_get (map state now) place ≡ Some (state x)
-  here_now = slice_get-map state now place ∙ ap (option_map state) here
+  here_now = slice_get-map state now place ∙ ap (option_map state) next.here
 
   within_now : place < length (map state now)
   within_now = slice_get_within (map state now) place (state x) here_now
 
   left_now : slice_get (map state now) place ≡ slice_get (map state first) place
-  left_now = before.left place (omega arith)
+  left_now = next.before.left place (omega arith)
 
   -- it can be read
   pub next_open : AreOpen (map state first) → IsOpen (state x)
   next_open all = All-contains (λ source. IsOpen source) (map state first) (state x) all
       (at_place (map state first) place (state x) (sym left_now ∙ here_now))
 
-  -- where the bytes of all sources are known, so are its own
-  pub knows_next : (texts : List (List ℕ)) → map remaining (map state first) ≡ map (λ (t : List ℕ). Some t) texts
-      → Knows texts place (remaining (state x))
-  knows_next texts all = knows_now remaining (map state first) (map state now) texts place (state x) left_now here_now all
+  -- where the bytes of all sources are known, a fact of its own is one of the text there
+  pub at_next : (texts : List (List ℕ)) → map remaining (map state first) ≡ map (λ (t : List ℕ). Some t) texts → (P : List ℕ → Type 0)
+      → IfSome (remaining (state x)) P → AtText texts place P
+  at_next texts all P fact =
+      let knows = knows_now remaining (map state first) (map state now) texts place (state x) left_now here_now all in
+      record { text = knows.input; here = knows.here; holds = at_known texts place (remaining (state x)) P knows fact }
 
   -- It is y once it was read.
   module _ (y : R) where
     -- one source more was read to its end
     pub one_more : {S : Type 0} (value : S) → IsRead is_text MAX_READS place (state x) (state y) (well {S = S} value)
         → ReadBefore is_text (map state first) (map state (set now place y)) (place + 1)
-    one_more value is = rw (map-set state now place y) (one_before is_text (map state first) (map state now) place (state x) (state y) before
-        within_now here_now value is)
+    one_more value is = rw (map-set state now place y) (one_before is_text (map state first) (map state now) place (state x) (state y)
+        next.before within_now here_now value is)
 
     -- the run ends for its fault
     pub ends_there : {S T : Type 0} (fault : RunFault) → IsRead is_text MAX_READS place (state x) (state y) (ill {S = S} fault)
         → AreRead is_text (map state first) (map state (set now place y)) (ill {S = T} fault)
-    ends_there fault is = rw (map-set state now place y) (read_to is_text (map state first) (map state now) place (state x) (state y) before
-        within_now here_now fault is)
+    ends_there fault is = rw (map-set state now place y) (read_to is_text (map state first) (map state now) place (state x) (state y)
+        next.before within_now here_now fault is)
 
     -- or for refused memory, once it was read to its end
     pub refused_there : {S T : Type 0} (value : S) → IsRead is_text MAX_READS place (state x) (state y) (well {S = S} value)
         → AreRead is_text (map state first) (map state (set now place y)) (ill {S = T} Memory)
     refused_there value is = rw (map-set state now place y) (refused_after is_text (map state first) (map state now) place (state x) (state y)
-        before within_now here_now value is)
+        next.before within_now here_now value is)
 
     -- what is left of it, and whether its end was found
     pub left_there : slice_get (lefts (map state (set now place y))) place ≡ Some (remaining (state y))
@@ -272,23 +302,22 @@ module _ {R : Type 0} (state : R → SourceState) (first now : List R) (place : 
     pub later_there : (texts : List (List ℕ)) → map remaining (map state first) ≡ map (λ (t : List ℕ). Some t) texts → (later : ℕ)
         → place < later → slice_get (lefts (map state (set now place y))) later ≡ slice_get (map (λ (t : List ℕ). Some t) texts) later
     later_there texts all = rw (map-set state now place y) (unread_later remaining (map state first) (map state now) texts place (state y)
-        before.left all)
+        next.before.left all)
 
     -- the sources before it are decoded, and what is reported of it is reported
     pub stops_there : (form : InputForm) (texts : List (List ℕ)) (fault : RunFault) (segments : List Content)
-        → (all : map remaining (map state first) ≡ map (λ (t : List ℕ). Some t) texts) → DecodeAll form (take place texts) segments
-        → ((knows : Knows texts place (remaining (state x)))
-        → IsReportedOfSource form (remaining (state y)) (has_ended (state y)) place knows.input fault)
+        → map remaining (map state first) ≡ map (λ (t : List ℕ). Some t) texts → DecodeAll form (take place texts) segments
+        → IfSome (remaining (state x)) (λ bytes. IsReportedOfSource form (remaining (state y)) (has_ended (state y)) place bytes fault)
         → StopsAtInput form (IsReportedAt form (lefts (map state (set now place y))) (ends (map state (set now place y)))) texts fault
-    stops_there form texts fault segments all decoded reported =
-        let knows = knows_next texts all in
+    stops_there form texts fault segments all decoded told =
+        let one = at_next texts all (λ bytes. IsReportedOfSource form (remaining (state y)) (has_ended (state y)) place bytes fault) told in
         record {
           place = place;
-          input = knows.input;
-          here = knows.here;
+          input = one.text;
+          here = one.here;
           segments = segments;
           before = decoded;
-          reported = (remaining (state y), has_ended (state y), left_there, ended_there, reported knows);
+          reported = (remaining (state y), has_ended (state y), left_there, ended_there, one.holds);
         }
 
 -- all were read in the loop

@@ -1,5 +1,6 @@
--- The spans of the segments so far, with that of one input more, tell of each segment which input it is of.
-use Rattle.std.proofs.Common.{◌≡◌, ◌⊎◌, ◌<◌, ◌≤◌, ◌+◌, ℕ, zero, suc, List, [], ◌∷◌, ◌++◌, All, false, length, Some, None, refl, arith, inl, inr}
+-- The spans of the segments so far, with that of one input more, tell of each segment which input it is of; and so all inputs are decoded.
+use Rattle.std.proofs.Common.{◌≡◌, ◌⊎◌, ◌<◌, ◌≤◌, ◌+◌, ℕ, zero, suc, List, [], ◌∷◌, ◌++◌, All, false, length, take, Option, Some, None}
+use Rattle.std.proofs.Common.{refl, arith, inl, inr, subst}
 use Rattle.std.specs.Prelude.{Contains, nat_lt, slice_get}
 use Rattle.std.proofs.lemmas.Bool.{le-ltb, lt-ltb}
 use Rattle.std.proofs.lemmas.List.Elements.{All-append, All-cons, All-head, All-nil, All-tail}
@@ -8,9 +9,15 @@ use Rattle.std.proofs.lemmas.Option.{slice_get_within}
 use Rattle.htl_command.specs.declared.question.InputForm.{InputForm}
 use Rattle.htl_segment.specs.Content.{Content}
 use Rattle.htl_segment.proofs.Spans.{at_place}
-use Rattle.htl_main.specs.Inputs.{Decodes}
-use Rattle.htl_main.specs.Spans.{AreSpans, span_at}
+use Rattle.htl_reading.specs.declared.outcome.EarlyEnd.{EarlyEnd}
+use Rattle.htl_main.specs.CutInputs.{AreCutEnds, cut_ends_at}
+use Rattle.htl_main.specs.Ends.{IsInput}
+use Rattle.htl_main.specs.Inputs.{DecodeAll, Decodes}
+use Rattle.htl_main.specs.Spans.{AreDecoded, AreSpans, span_at}
+use Rattle.htl_main.specs.declared.decoded.Decoded.{Decoded}
 use Rattle.htl_main.specs.declared.decoded.InputSpan.{InputSpan}
+use Rattle.htl_main.proofs.CutLaws.{ends_next, no_ends}
+use Rattle.htl_main.proofs.InputLaws.{decode_next}
 
 -- no spans tell of no segments
 pub no_spans : (form : InputForm) (inputs : List (List ℕ)) → AreSpans form inputs [] []
@@ -65,3 +72,40 @@ spans_more form inputs segments more spans span text here decoded end long are =
             )
       ];
     }
+
+-- ---- one input after another
+
+-- what the inputs before a place are decoded to
+pub record IsSoFar (form : InputForm) (texts : List (List ℕ)) (place : ℕ) (decoded : Decoded) : Type 0 where
+  pub segments : DecodeAll form (take place texts) decoded.segments.items
+  pub spans : AreSpans form texts decoded.segments.items decoded.spans.items
+  pub cuts : AreCutEnds form.hex (take place texts) decoded.cuts.items
+
+module _ (form : InputForm) (texts : List (List ℕ)) where
+  -- before the first
+  pub none_so_far : (new : Decoded) → new.segments.items ≡ [] → AreSpans form texts new.segments.items new.spans.items → new.cuts.items ≡ []
+      → IsSoFar form texts 0 new
+  none_so_far new segments spans cuts = record { segments = segments; spans = spans; cuts = rw cuts (no_ends form.hex texts) }
+
+  -- one more
+  pub one_so_far : (place : ℕ) (text : List ℕ) (old new : Decoded) (more : List Content) (end : Option EarlyEnd)
+      → slice_get texts place ≡ Some text → IsInput form text more end → IsSoFar form texts place old
+      → new.segments.items ≡ old.segments.items ++ more
+      → (slice_get texts place ≡ Some text → Decodes form text more → AreSpans form texts old.segments.items old.spans.items
+      → AreSpans form texts new.segments.items new.spans.items)
+      → new.cuts.items ≡ old.cuts.items ++ cut_ends_at place end → IsSoFar form texts (place + 1) new
+  one_so_far place text old new more end here is before segments spans cuts = record {
+    segments = rw segments (decode_next form texts place text old.segments.items more here before.segments is.decoded);
+    spans = spans here is.decoded before.spans;
+    cuts = rw cuts (ends_next form.hex texts place text end old.cuts.items here before.cuts is.ends);
+  }
+
+  -- behind the last
+  pub all_so_far : (place : ℕ) (decoded : Decoded) → take place texts ≡ texts → IsSoFar form texts place decoded → AreDecoded form texts decoded
+  all_so_far place decoded whole is = record {
+    given = record {
+      segments = subst (λ (ts : List (List ℕ)). DecodeAll form ts decoded.segments.items) whole is.segments;
+      cuts = subst (λ (ts : List (List ℕ)). AreCutEnds form.hex ts decoded.cuts.items) whole is.cuts;
+    };
+    spans = is.spans;
+  }

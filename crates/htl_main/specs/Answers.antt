@@ -1,5 +1,5 @@
 -- The answer to a question over a trace (this project's own), whose events count up to a moment where one is given.
-use Rattle.std.specs.Prelude.{◌≡◌, ℕ, nat_lt, min, if◌then◌else◌, length, Option, Some, None}
+use Rattle.std.specs.Prelude.{◌≡◌, ℕ, Bool, true, false, nat_lt, min, if◌then◌else◌, length, Option, Some, None}
 use Rattle.htl_event.specs.Moments.{counted_events}
 use Rattle.htl_event.specs.declared.growth.Span.{Span}
 use Rattle.htl_segment.specs.Traces.{Trace, HasKey, all_events}
@@ -39,3 +39,8 @@ pub record IsBasis (T : Trace) (until : Option ℕ) (question : Question) (B : B
 -- the answer to a question over a trace
 abbrev pub IsAnswer : Trace → Option ℕ → Question → Found → Type 0
 IsAnswer T until question answer = (B : Basis) × IsBasis T until question B × IsAnswerOver B question answer
+
+-- the question asks how a number grows: its answer has a row for each moment, also where there is nothing
+abbrev pub is_growth : Question → Bool
+is_growth (Growth process count) = true
+is_growth question = false

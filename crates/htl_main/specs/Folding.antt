@@ -20,6 +20,7 @@ use Rattle.htl_question.specs.Questions.{is_of_counts}
 use Rattle.htl_question.specs.declared.question.Question.{Question}
 use Rattle.htl_command.specs.declared.question.Setting.{Setting}
 use Rattle.htl_event.specs.Events.{Event}
+use Rattle.htl_event.specs.Members.{IsLeastSuch}
 use Rattle.htl_segment.specs.Bundles.{IsRest, Splits, bundle}
 use Rattle.htl_segment.specs.Content.{Content}
 use Rattle.htl_segment.specs.Traces.{Trace}
@@ -49,9 +50,24 @@ abbrev pub IsFoldedFar : Option State → Type 0
 IsFoldedFar None = ⊤
 IsFoldedFar (Some analyst) = (processor : ℕ) → HasTaken analyst processor (front_at analyst.taken processor) → ⊥
 
--- Folded: the analyst took exactly these segments, and folded all that it can.
+-- Of two segments of a processor, the one with the higher number falls: it has an event that isn't above one of the lower.
+pub record Fall (lower higher : Content) : Type 0 where
+  pub processor : lower.processor ≡ higher.processor
+  pub number : lower.number < higher.number
+  pub event : Event
+  pub earlier : Event
+  pub has_event : Contains higher.events event
+  pub has_earlier : Contains lower.events earlier
+  pub falling : event.sequence ≤ earlier.sequence
+
+-- Of the first segments of all keys none falls.
+abbrev pub AreRising : List Content → Type 0
+AreRising segments = (s t : Content) → IsFirstOf segments s → IsFirstOf segments t → Fall s t → ⊥
+
+-- Folded: the analyst took exactly these segments, of which none falls, and folded all that it can.
 pub record AreFolded (analyst : Option State) (segments : List Content) : Type 0 where
   pub taken : AreTaken segments analyst
+  pub rising : AreRising segments
   pub far : IsFoldedFar analyst
 
 -- ---- which segments are taken
@@ -82,13 +98,13 @@ abbrev pub AreOfTraceOf : List Content → Content → Type 0
 AreOfTraceOf segments s = AllByRecursion (λ t. (t.trace_id ≡ s.trace_id) × (t.processors ≡ s.processors)) segments
 
 -- A segment is accepted after others: it is of their trace; where its key came before and isn't in an unbroken run, its content is the one
--- from then; and where its key is new, its sequences are above those of the unbroken run that there was before the reading began.
+-- from then; and where its key is new, neither it nor another one falls.
 pub record Accepts (before earlier : List Content) (s : Content) : Type 0 where
   pub trace : AreOfTraceOf (before ++ earlier) s
   pub content : (t : Content) → IsFirstOf (before ++ earlier) t → key_of t ≡ key_of s → (IsUnbroken (before ++ earlier) t → ⊥)
       → t ≢ s → ⊥
-  pub rises : (HasKeyOf (before ++ earlier) s.processor s.number → ⊥) → (t : Content) → IsFirstOf before t → IsUnbroken before t
-      → t.processor ≡ s.processor → (e f : Event) → Contains s.events e → Contains t.events f → f.sequence < e.sequence
+  pub rises : (HasKeyOf (before ++ earlier) s.processor s.number → ⊥) → (t : Content) → IsFirstOf (before ++ earlier) t
+      → (Fall t s → ⊥) × (Fall s t → ⊥)
 
 -- Each of these segments is accepted after the earlier ones.
 abbrev pub AreAcceptedAfter : List Content → List Content → List Content → Type 0
@@ -102,18 +118,26 @@ AreAccepted before segments = AreAcceptedAfter before [] segments
 abbrev pub counted : List Content → ℕ
 counted segments = min (length segments) (2 ^ 64 - 1)
 
+-- A segment of this number falls once a new one is taken: the new one, or one above it.
+abbrev pub FallsAt : List Content → Content → ℕ → Type 0
+FallsAt taken s n = (t : Content) × IsFirstOf taken t × ((Fall t s × (n ≡ s.number)) ⊎ (Fall s t × (n ≡ t.number)))
+
+-- A segment of the trace is new, and once it is taken segments of its processor fall, the first of them at this number.
+pub record MakesFall (taken : List Content) (s : Content) (p n : ℕ) : Type 0 where
+  pub processor : p ≡ s.processor
+  pub trace : AreOfTraceOf taken s
+  pub new : HasKeyOf taken s.processor s.number → ⊥
+  pub falls : IsLeastSuch ◌<◌ (FallsAt taken s) n
+
 -- Why a segment isn't taken after others: its trace or its number of processors is another; or it is of their trace, and its key came with
--- another content, or its key is new and it has an event that isn't above all those of a segment of a lower number.
+-- another content, or its key is new and it or another one falls.
 abbrev pub IsUnfit : List Content → Content → CaseFault → Type 0
 IsUnfit taken s (cases.OtherTrace place) = (taken ≢ []) × AllByRecursion (λ t. t.trace_id ≢ s.trace_id) taken
 IsUnfit taken s (cases.OtherProcessors place) =
     (taken ≢ []) × AllByRecursion (λ t. (t.trace_id ≡ s.trace_id) × (t.processors ≢ s.processors)) taken
 IsUnfit taken s (cases.TwoContents processor number) =
     (key_of s ≡ (processor, number)) × AreOfTraceOf taken s × (t : Content) × IsFirstOf taken t × (key_of t ≡ key_of s) × (t ≢ s)
-IsUnfit taken s (cases.Falling processor number) =
-    (key_of s ≡ (processor, number)) × AreOfTraceOf taken s × (HasKeyOf taken processor number → ⊥)
-    × (t : Content) × IsFirstOf taken t × (t.processor ≡ s.processor) × (t.number < s.number)
-    × (e f : Event) × Contains s.events e × Contains t.events f × (e.sequence ≤ f.sequence)
+IsUnfit taken s (cases.Falling processor number) = MakesFall taken s processor number
 IsUnfit taken s fault = ⊥
 
 -- a fault that names the place of a segment names this one

@@ -49,6 +49,11 @@ pub record ArePicksOfAll (form : InputForm) (interest : Interest) (inputs : List
   pub decoded : DecodeAll form inputs segments
   pub picks_of : ArePicksOf interest picks segments
 
+-- what was picked of all inputs, and which of them are cut
+pub record AreAllPicked (form : InputForm) (interest : Interest) (inputs : List (List ℕ)) (all : AllPicks) : Type 0 where
+  pub picks : ArePicksOfAll form interest inputs all.picks
+  pub cuts : AreCutEnds form.hex inputs all.cuts.items
+
 -- what is asked about was picked of the case of these segments
 pub record IsPickedFor (interest : Interest) (case : Picked) (segments : List Content) : Type 0 where
   pub trace : Trace

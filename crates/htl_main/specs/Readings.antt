@@ -1,5 +1,5 @@
 -- How a run reads its sources (this project's own): one after another, each to its end, and no further than a fault.
-use Rattle.std.specs.Prelude.{◌≡◌, ◌⊎◌, ℕ, Bool, true, false, List, All, map, slice_get, Result, Err, IfErr, OnOk}
+use Rattle.std.specs.Prelude.{◌≡◌, ◌⊎◌, ℕ, Bool, true, false, List, All, length, map, slice_get, Result, Err, IfErr, OnOk}
 use Rattle.htl_device.specs.States.{SourceState, good_reads, has_ended, has_failed, remaining}
 use Rattle.htl_device.specs.declared.source.TheConstants.{MAX_READ_LEN}
 use Rattle.htl_main.specs.Sources.{AreReadInOrder, AreReadToFault, AreReadWithin, EndsBefore, IsEndless, IsTrueAt, ReadsNoFault}
@@ -10,6 +10,8 @@ use Rattle.htl_main.specs.declared.fault.RunFault.TheVariants.{Read}
 -- Sources before and after a run that ends with this result. Each source gives a text, which is gathered before it is decoded, or bytes,
 -- which are decoded as they come.
 pub record AreRead {S : Type 0} (is_text : Bool) (old new : List SourceState) (result : Result S RunFault) : Type 0 where
+  -- The sources are the same ones.
+  pub same_length : length new ≡ length old
   -- A run that ends well has read each source to its end.
   pub ended : OnOk result (All (λ source. has_ended source ≡ true) new)
   -- A source is read only after those before it have ended.

@@ -1,9 +1,13 @@
--- For the clauses of private functions: how the reading of the source at a place may end.
-use Rattle.std.specs.Prelude.{◌≡◌, ◌≢◌, ◌<◌, ◌≤◌, ◌+◌, ◌⊎◌, ℕ, Bool, true, false, List, length, Option, IfSome, IfErr, OnOk, Result, Err}
-use Rattle.htl_device.specs.States.{SourceState, good_reads, has_ended, has_failed, remaining}
+-- For the clauses of private functions: how the reading of the source at a place may end, and that of all sources.
+use Rattle.std.specs.Prelude.{◌≡◌, ◌≢◌, ◌<◌, ◌≤◌, ◌+◌, ◌⊎◌, ℕ, Bool, true, false, List, length}
+use Rattle.std.specs.Prelude.{Option, IfSome, IfErr, OnOk, MatchResult, Result, Err}
+use Rattle.htl_device.specs.States.{IfKnown, SourceState, ends, good_reads, has_ended, has_failed, lefts, remaining}
 use Rattle.htl_device.specs.declared.source.TheConstants.{MAX_READ_LEN}
 use Rattle.htl_reading.specs.Sources.{IsReadToFault}
-use Rattle.htl_main.specs.Sources.{EndsBefore}
+use Rattle.htl_command.specs.declared.question.InputForm.{InputForm}
+use Rattle.htl_main.specs.Inputs.{StopsAtInput}
+use Rattle.htl_main.specs.Readings.{AreRead}
+use Rattle.htl_main.specs.Sources.{EndsBefore, IsReportedAt}
 use Rattle.htl_main.specs.declared.fault.RunFault.{RunFault}
 use Rattle.htl_main.specs.declared.fault.RunFault.TheVariants.{Read, Write}
 
@@ -36,3 +40,13 @@ pub record IsRead {S : Type 0} (is_text : Bool) (most : ℕ) (place : ℕ) (old 
   pub bounded : good_reads new ≤ good_reads old + most
   pub named : NamesOnly place result
   pub to_fault : is_text ≡ false → IsReadToFault MAX_READ_LEN (remaining old) (remaining new)
+
+-- How all sources are read, and what they give, or why the reading stops, where their bytes are known.
+pub record ReadsAll {S : Type 0} (is_text : Bool) (old new : List SourceState) (Gives : List (List ℕ) → S → Type 0)
+    (Stops : List (List ℕ) → RunFault → Type 0) (result : Result S RunFault) : Type 0 where
+  pub outcome : IfKnown old (λ texts. MatchResult result (Gives texts) (Stops texts))
+  pub reading : AreRead is_text old new result
+
+-- the sources before one are decoded, and this is reported of that one
+abbrev pub StopsIn : InputForm → List SourceState → List (List ℕ) → RunFault → Type 0
+StopsIn form new inputs fault = StopsAtInput form (IsReportedAt form (lefts new) (ends new)) inputs fault

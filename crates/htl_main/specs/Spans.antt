@@ -3,7 +3,9 @@ use Rattle.std.specs.Prelude.{◌≡◌, ℕ, ◌≤◌, nat_lt, List, All, leng
 use Rattle.std.specs.List.{find}
 use Rattle.htl_command.specs.declared.question.InputForm.{InputForm}
 use Rattle.htl_segment.specs.Content.{Content}
+use Rattle.htl_main.specs.CutInputs.{IsDecoding, decoding}
 use Rattle.htl_main.specs.Origins.{HasSegment}
+use Rattle.htl_main.specs.declared.decoded.Decoded.{Decoded}
 use Rattle.htl_main.specs.declared.decoded.InputSpan.{InputSpan}
 
 -- the first span that ends behind a place
@@ -16,3 +18,8 @@ pub record AreSpans (form : InputForm) (inputs : List (List ℕ)) (segments : Li
   pub each :
       (place : ℕ) (s : Content) → slice_get segments place ≡ Some s
       → (span : InputSpan) × (span_at spans place ≡ Some span) × HasSegment form inputs span.input s
+
+-- what inputs are decoded to: their segments and where they are cut, and the input of each segment
+pub record AreDecoded (form : InputForm) (inputs : List (List ℕ)) (decoded : Decoded) : Type 0 where
+  pub given : IsDecoding form inputs (decoding decoded.segments.items decoded.cuts.items)
+  pub spans : AreSpans form inputs decoded.segments.items decoded.spans.items

@@ -32,16 +32,16 @@ pub struct Coverage {
 }
 
 impl Coverage {
-    ghost use Rattle.std.specs.Prelude.{◌≡◌, ◌&&◌, ◌==◌, not};
+    ghost use Rattle.std.specs.Prelude.{◌≡◌};
     ghost use Rattle.htl_segment.specs.Traces.{Trace};
     ghost use Rattle.htl_main.specs.Coverages.{IsCoverage};
-    ghost use Rattle.htl_main.specs.Moments.{IsNamedMoment, is_above};
+    ghost use Rattle.htl_main.specs.Moments.{IsNamedMoment, is_touched};
 
     /// Whether a gap may change an answer as of the moment: there is a gap, and the moment is above
     /// the sequence up to which no segment is missing. Where no moment is named, the answer is as
     /// of the end of the trace, which counts as above it.
     pub fn is_touched(self, until: Option<Moment>) -> bool
-        ensures { result ≡ (not (self.gaps == 0) && is_above until self.complete_to) }
+        ensures { result ≡ is_touched self until }
     {
         self.gaps > 0 && is_above(until, self.complete_to)
     }

@@ -4,8 +4,10 @@ ghost use Rattle.std.specs.Prelude.{◌≡◌, ◌≢◌, ◌∷◌, [], IfOk, L
 ghost use Rattle.htl_analyst.specs.TakenAll.{HasTakenAll};
 ghost use Rattle.htl_segment.specs.Content.{Content, Fits};
 ghost use Rattle.htl_segment.specs.Keepers.{Took};
-ghost use Rattle.htl_main.specs.Folders.{IsFallen, IsNewTo, Keeps, TookFit, folds_of};
+ghost use Rattle.htl_main.specs.Folders.{Keeps, TookFit, folds_of};
+ghost use Rattle.htl_main.specs.Folding.{AreRising};
 
+use crate::falling::first_to_fall;
 use htl_analyst::{Analyst, TakeFault};
 use htl_answers::Part;
 use htl_case::CaseFault;
@@ -39,13 +41,12 @@ impl Folder {
     ghost use Rattle.std.specs.Prelude.{◌≡◌, ◌<◌, ◌++◌, ◌∷◌, [], List, None, OnErr, OnOk, Option};
     ghost use Rattle.htl_analyst.specs.States.{State};
     ghost use Rattle.htl_segment.specs.Content.{Content};
-    ghost use Rattle.htl_main.specs.Folders.{Folds};
+    ghost use Rattle.htl_main.specs.Folders.{Folds, IsBegun};
     ghost use Rattle.htl_main.specs.Folding.{IsFoldedFar};
 
     /// A folder that goes on with an analyst.
     pub fn new(alloc: Global, analyst: Option<Analyst<Global>>) -> Folder
-        ensures none { Folds analyst result.analyst result.unfit result.segments [] }
-        ensures same { result.analyst ≡ analyst }
+        ensures { IsBegun analyst result }
     {
         Folder {
             cache: StackCache::new(alloc),
@@ -168,14 +169,15 @@ fn take(
     segment: Segment,
     place: u64,
 ) -> Result<Option<CaseFault>, NoMemory>
+    requires { Fits segment }
     ensures taken { (segments : List Content) → segments ≢ [] → HasTakenAll segments analyst.old
+        → AreRising segments
         → IfOk result (TookFit segments segment place analyst.old analyst.new) }
     ensures keeps { OnOk result (Keeps analyst.old analyst.new) }
     ensures same { IfOk result (λ unfit. is_some unfit ≡ true → analyst.new ≡ analyst.old) }
 {
     let processor = segment.processor();
-    let number = segment.number();
-    if is_fallen(analyst, &segment) {
+    if let Some(number) = first_to_fall(analyst, &segment) {
         return Ok(Some(CaseFault::Falling(processor, number)));
     }
     match analyst.take(segment) {
@@ -187,29 +189,4 @@ fn take(
         }
         Err((TakeFault::NoMemory, _)) => Err(NoMemory),
     }
-}
-
-/// Whether the segment is new to the analyst, but has an event that isn't later than all folded
-/// events of its processor.
-fn is_fallen(analyst: &Analyst<Global>, segment: &Segment) -> bool
-    ensures is { IsFallen analyst.now segment.now result }
-    ensures fits { Fits segment.now }
-{
-    match segment.events().first() {
-        Some(event) => {
-            is_new_to(analyst, segment)
-                && event.sequence <= analyst.last_folded(segment.processor())
-        }
-        None => false,
-    }
-}
-
-/// Whether the segment is of the analyst's trace, and its key isn't taken.
-fn is_new_to(analyst: &Analyst<Global>, segment: &Segment) -> bool
-    ensures yes { result ≡ true → IsNewTo analyst.now segment.now }
-    ensures no { IsNewTo analyst.now segment.now → result ≡ true }
-{
-    segment.trace_id() == analyst.trace_id()
-        && segment.processors() == analyst.processors()
-        && !analyst.has(segment.processor(), segment.number())
 }

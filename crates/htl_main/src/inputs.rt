@@ -1,10 +1,9 @@
 //! The segments of inputs that lie in memory.
 
 ghost use Rattle.std.specs.Prelude.{ℕ, List, IfOk, IfErr, map};
-ghost use Rattle.htl_main.specs.CutInputs.{AreCutEnds};
 ghost use Rattle.htl_main.specs.Ends.{IsInput};
-ghost use Rattle.htl_main.specs.Inputs.{DecodeAll, HasBytes, IsReportedOfInput, StopsAtInput};
-ghost use Rattle.htl_main.specs.Spans.{AreSpans};
+ghost use Rattle.htl_main.specs.Inputs.{HasBytes, IsReportedOfInput, StopsAtInput};
+ghost use Rattle.htl_main.specs.Spans.{AreDecoded};
 ghost use Rattle.htl_main.specs.Reads.{NamesOnly, NeverRead};
 
 use crate::cut_inputs::{Accepted, accept};
@@ -21,12 +20,7 @@ pub(crate) fn decode_all(
     form: InputForm,
     inputs: &[Vec<u8>],
 ) -> Result<Decoded, RunFault>
-    ensures ok { IfOk result (λ decoded.
-        DecodeAll form (map (λ input. input.items) inputs.now) decoded.segments.items) }
-    ensures spans { IfOk result (λ decoded. AreSpans form (map (λ input. input.items) inputs.now)
-        decoded.segments.items decoded.spans.items) }
-    ensures cuts { IfOk result (λ decoded.
-        AreCutEnds form.hex (map (λ input. input.items) inputs.now) decoded.cuts.items) }
+    ensures ok { IfOk result (AreDecoded form (map (λ input. input.items) inputs.now)) }
     ensures err { IfErr result
         (StopsAtInput form (IsReportedOfInput form) (map (λ input. input.items) inputs.now)) }
 {

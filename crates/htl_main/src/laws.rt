@@ -1,8 +1,8 @@
 //! Laws of what a run comes to. Each function's contract is the law; none does anything when it
 //! runs.
 
-ghost use Rattle.std.specs.Prelude.{◌≡◌, ◌≢◌, ◌↔◌, ℕ, Bool, Contains, List, Option, None, Some};
-ghost use Rattle.std.specs.Prelude.{Result, length};
+ghost use Rattle.std.specs.Prelude.{◌≡◌, ◌≢◌, ◌↔◌, [], ℕ, Bool, Contains, List, Option, None, Some};
+ghost use Rattle.std.specs.Prelude.{Result, false, length};
 ghost use Rattle.std.specs.Global.{Vec};
 ghost use Rattle.htl_event.specs.Events.{Event};
 ghost use Rattle.htl_event.specs.declared.slot.Count.{Count};
@@ -23,20 +23,25 @@ ghost use Rattle.htl_case.specs.declared.question.AnalystAnswer.TheVariants as t
 ghost use Rattle.htl_case.specs.declared.question.AnalystQuestion.TheVariants as analysts;
 ghost use Rattle.htl_command.specs.declared.question.InputForm.{InputForm};
 ghost use Rattle.htl_command.specs.declared.question.Job.{Job};
+ghost use Rattle.htl_command.specs.declared.question.Moment.{Moment};
 ghost use Rattle.htl_question.specs.Answers.{IsAnswerOver};
 ghost use Rattle.htl_question.specs.Bases.{Basis};
-ghost use Rattle.htl_question.specs.Rows.{Found, bad, found, leaks, opens, stacks, summary, tags};
+ghost use Rattle.htl_question.specs.Rows.{Found, bad, found, has_finding, leaks, opens, stacks, summary};
+ghost use Rattle.htl_question.specs.Rows.{tags};
 ghost use Rattle.htl_question.specs.declared.answer.Totals.{Totals};
 ghost use Rattle.htl_question.specs.declared.question.Question.{Question};
 ghost use Rattle.htl_question.specs.declared.question.Question.TheVariants as questions;
 ghost use Rattle.htl_question.specs.declared.question.Since.TheVariants.{Sequence};
 ghost use Rattle.htl_main.specs.Analysts.{AreAnswers};
-ghost use Rattle.htl_main.specs.Answers.{IsAnswer};
+ghost use Rattle.htl_main.specs.Answers.{IsAnswer, is_growth};
 ghost use Rattle.htl_main.specs.Coverages.{Covers, IsCoverage};
-ghost use Rattle.htl_main.specs.Folding.{AreFolded, IsAskedOver, IsCaseOfFirsts};
+ghost use Rattle.htl_main.specs.Folding.{AreTaken, IsAskedOver, IsCaseOfFirsts};
 ghost use Rattle.htl_main.specs.Histories.{AnyCanBeCompacted, AnyHistoryLeavesAState};
+ghost use Rattle.htl_main.specs.Moments.{IsCompleteUntil, IsNamedMoment, is_touched};
 ghost use Rattle.htl_main.specs.Printed.{Printed, WorkersFit, by_workers};
 ghost use Rattle.htl_main.specs.Remarks.{ReportsRemarks};
+ghost use Rattle.htl_main.specs.Subjects.{HasAbsence};
+ghost use Rattle.htl_main.specs.declared.completed.Absence.{Absence};
 ghost use Rattle.htl_main.specs.declared.coverage.Coverage.{Coverage};
 ghost use Rattle.htl_main.specs.declared.fault.RunFault.{RunFault};
 ghost use Rattle.htl_main.specs.declared.remarks.Remarks.{Remarks};
@@ -120,7 +125,7 @@ pub fn segments_of_a_case_are_first()
 pub fn folded_analysts_agree()
     ensures { (T : Trace) (segments : List Content) (a : State) (C : Trace) → IsTrace T
         → ((s : Content) → IsFirstOf segments s → Contains T.segments s)
-        → AreFolded (Some a) segments → IsCaseOfFirsts segments C
+        → AreTaken segments (Some a) → IsCaseOfFirsts segments C
         → IsRight a T × IsTakenCase T (keys a) C }
 {}
 
@@ -154,4 +159,20 @@ pub fn one_coverage()
         → IsAnswer T until questions.Summary (found questions.Summary None
         (summary totals gaps processes objects))
         → (coverage.gaps ≡ length gaps) × (coverage.complete_to ≡ totals.complete_to) }
+{}
+
+/// Where there is nothing of what a question asks about, its answer finds nothing. So `C9`, which
+/// comes in place of a finding, hides none. (A growth has a row for each moment all the same.)
+pub fn nothing_is_found_of_what_is_absent()
+    ensures { (T : Trace) (job : Job) (absence : Absence) (until : Option ℕ) (answer : Found)
+        → HasAbsence T job (Some absence) → IsNamedMoment T job.until until
+        → IsAnswer T until job.question answer → is_growth job.question ≡ false
+        → has_finding answer.rows ≡ false }
+{}
+
+/// A coverage shows that segments are missing which may change an answer exactly where the case isn't
+/// complete up to the moment.
+pub fn touched_unless_complete()
+    ensures { (T : Trace) (coverage : Coverage) (until : Option Moment) → IsCoverage T coverage
+        → (is_touched coverage until ≡ false) ↔ IsCompleteUntil T [] until }
 {}

@@ -20,11 +20,13 @@
 //! a case), `completed.rt` (what a run reports beside its answer), `picked_run.rt`, `picking.rt` and
 //! `picked.rt` (the run that keeps only what its question asks about),
 //! `folding.rt` and `taking.rt` (sources that are read and forgotten), `folder.rt` (how their
-//! segments are taken and folded), `folded_answers.rt` (answers over what was folded), `dumping.rt`
-//! and `encoding.rt` (the runs of `dump` and `encode`), `fault.rt` (the faults, their lines and
-//! statuses), `refused.rt` (a fault and the two segments it is about), `laws.rt` (a run has one
-//! outcome, inputs have one coverage, runs and analysts give the same answers and summaries, the
-//! segments of a case are the first of their keys, and there are analysts of every history).
+//! segments are taken and folded), `falling.rt` (which segment falls once another one is taken),
+//! `folded_answers.rt` (answers over what was folded), `dumping.rt` and `encoding.rt` (the runs of
+//! `dump` and `encode`), `fault.rt` (the faults, their lines and statuses), `refused.rt` (a fault and
+//! the two segments it is about), `laws.rt` (a run has one outcome, inputs have one coverage, runs
+//! and analysts give the same answers and summaries, the segments of a case are the first of their
+//! keys, and there are analysts of every history), `folding_laws.rt` (which segments are taken isn't
+//! told by when they are folded).
 //!
 //! `specs/` is read in the order of `specs/Lib`: `Inputs` (which segments the inputs encode, and
 //! which input is refused first), `CutInputs` (which of them end within a segment), `Completeness`
@@ -52,10 +54,12 @@ mod cut_inputs;
 mod decoded;
 mod dumping;
 mod encoding;
+mod falling;
 mod fault;
 mod folded_answers;
 mod folder;
 mod folding;
+pub mod folding_laws;
 mod inputs;
 pub mod laws;
 mod loading;

@@ -1,14 +1,11 @@
 //! Picks what a question asks about from sources, each of which is read to its end.
 
 ghost use Rattle.std.specs.Prelude.{◌≡◌, false, map, IfErr, IfOk, IfSome};
-ghost use Rattle.htl_device.specs.States.{AreOpen, IfKnown, IsOpen, ends, lefts};
-ghost use Rattle.htl_main.specs.CutInputs.{AreCutEnds};
-ghost use Rattle.htl_main.specs.Inputs.{StopsAtInput};
+ghost use Rattle.htl_device.specs.States.{AreOpen, IsOpen};
 ghost use Rattle.htl_main.specs.Picked.{NeverCase};
-ghost use Rattle.htl_main.specs.Picking.{ArePicksMore, ArePicksOfAll};
-ghost use Rattle.htl_main.specs.Reads.{IsRead, NeverWrite};
-ghost use Rattle.htl_main.specs.Readings.{AreRead};
-ghost use Rattle.htl_main.specs.Sources.{IsReportedAt, IsReportedOfSource};
+ghost use Rattle.htl_main.specs.Picking.{AreAllPicked, ArePicksMore};
+ghost use Rattle.htl_main.specs.Reads.{IsRead, NeverWrite, ReadsAll, StopsIn};
+ghost use Rattle.htl_main.specs.Sources.{IsReportedOfSource};
 
 use crate::cut_inputs::{Accepted, CutEnd, accept, add_end};
 use crate::fault::RunFault;
@@ -39,14 +36,8 @@ pub(crate) fn pick_all<Rt: Threads + Sync, R: Parted>(
 ) -> Result<AllPicks, RunFault>
     requires ready { AreOpen (map R.state sources.old) }
     requires bytes { form.hex ≡ false }
-    ensures ok { IfKnown (map R.state sources.old) (λ inputs. IfOk result (λ all.
-        ArePicksOfAll form interest inputs all.picks)) }
-    ensures cuts { IfKnown (map R.state sources.old) (λ inputs. IfOk result (λ all.
-        AreCutEnds form.hex inputs all.cuts.items)) }
-    ensures err { IfKnown (map R.state sources.old) (λ inputs. IfErr result (StopsAtInput form
-        (IsReportedAt form (lefts (map R.state sources.new)) (ends (map R.state sources.new)))
-        inputs)) }
-    ensures reading { AreRead false (map R.state sources.old) (map R.state sources.new) result }
+    ensures reads { ReadsAll false (map R.state sources.old) (map R.state sources.new)
+        (AreAllPicked form interest) (StopsIn form (map R.state sources.new)) result }
     ensures no_write { NeverWrite result }
     ensures no_case { NeverCase result }
 {

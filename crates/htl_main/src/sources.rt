@@ -1,14 +1,11 @@
 //! The segments that sources give, each read to its end.
 
 ghost use Rattle.std.specs.Prelude.{map, IfOk, IfErr, IfSome};
-ghost use Rattle.htl_device.specs.States.{AreOpen, IfKnown, IsOpen, ends, lefts};
-ghost use Rattle.htl_main.specs.CutInputs.{AreCutEnds};
+ghost use Rattle.htl_device.specs.States.{AreOpen, IsOpen};
 ghost use Rattle.htl_main.specs.Ends.{IsInput};
-ghost use Rattle.htl_main.specs.Inputs.{DecodeAll, StopsAtInput};
-ghost use Rattle.htl_main.specs.Spans.{AreSpans};
-ghost use Rattle.htl_main.specs.Reads.{IsRead, NeverWrite};
-ghost use Rattle.htl_main.specs.Readings.{AreRead};
-ghost use Rattle.htl_main.specs.Sources.{IsReportedAt, IsReportedOfSource};
+ghost use Rattle.htl_main.specs.Spans.{AreDecoded};
+ghost use Rattle.htl_main.specs.Reads.{IsRead, NeverWrite, ReadsAll, StopsIn};
+ghost use Rattle.htl_main.specs.Sources.{IsReportedOfSource};
 
 use crate::cut_inputs::{Accepted, accept};
 use crate::decoded::Decoded;
@@ -31,16 +28,8 @@ pub(crate) fn read_all<Rt: Threads + Sync, R: Parted>(
     sources: &mut [R],
 ) -> Result<Decoded, RunFault>
     requires ready { AreOpen (map R.state sources.old) }
-    ensures ok { IfKnown (map R.state sources.old) (λ inputs. IfOk result (λ decoded.
-        DecodeAll form inputs decoded.segments.items)) }
-    ensures spans { IfKnown (map R.state sources.old) (λ inputs. IfOk result (λ decoded.
-        AreSpans form inputs decoded.segments.items decoded.spans.items)) }
-    ensures cuts { IfKnown (map R.state sources.old) (λ inputs. IfOk result (λ decoded.
-        AreCutEnds form.hex inputs decoded.cuts.items)) }
-    ensures err { IfKnown (map R.state sources.old) (λ inputs. IfErr result (StopsAtInput form
-        (IsReportedAt form (lefts (map R.state sources.new)) (ends (map R.state sources.new)))
-        inputs)) }
-    ensures reading { AreRead form.hex (map R.state sources.old) (map R.state sources.new) result }
+    ensures reads { ReadsAll form.hex (map R.state sources.old) (map R.state sources.new)
+        (AreDecoded form) (StopsIn form (map R.state sources.new)) result }
     ensures no_write { NeverWrite result }
 {
     let mut decoded = Decoded::new(alloc);

@@ -5,19 +5,19 @@ ghost use Rattle.std.specs.Prelude.{IfErr, IfOk, IfSome, OnErr, OnOk};
 ghost use Rattle.htl_segment.specs.Content.{Content};
 ghost use Rattle.htl_device.specs.declared.whole.TheConstants.{MAX_READS};
 ghost use Rattle.htl_segment.specs.Keepers.{Took};
-ghost use Rattle.htl_device.specs.States.{AreOpen, IfKnown, IsOpen, ends, lefts};
-ghost use Rattle.htl_main.specs.CutInputs.{AreCutEnds};
+ghost use Rattle.htl_device.specs.States.{AreOpen, IfKnown, IsOpen};
 ghost use Rattle.htl_main.specs.Ends.{IsInput};
-ghost use Rattle.htl_main.specs.Folders.{AreAllTaken, GaveOwn, IsOfInput, folds_of};
-ghost use Rattle.htl_main.specs.Folding.{AreFolded, AreGiven, AsksFoldsMemory};
+ghost use Rattle.htl_main.specs.Folders.{AreAllTaken, GaveOwn, IsOfInput, TookInputs};
+ghost use Rattle.htl_main.specs.Folders.{TookToFault, folds_of};
+ghost use Rattle.htl_main.specs.Folding.{AreFolded, AsksFoldsMemory};
 ghost use Rattle.htl_main.specs.Folding.{IsFoldingRefused, IsHalfKnown, folding};
-ghost use Rattle.htl_main.specs.Inputs.{DecodeAll, HasBytes, IsReportedOfInput, StopsAtInput};
+ghost use Rattle.htl_main.specs.Inputs.{HasBytes, IsReportedOfInput};
 ghost use Rattle.htl_main.specs.Faults.{of_case};
 ghost use Rattle.htl_main.specs.Origins.{by_fault};
 ghost use Rattle.htl_main.specs.Printed.{WorkersFit};
 ghost use Rattle.htl_main.specs.Readings.{AreRead};
-ghost use Rattle.htl_main.specs.Reads.{IsRead, NamesOnly, NeverRead, NeverWrite};
-ghost use Rattle.htl_main.specs.Sources.{IsReportedAt, IsReportedOfSource};
+ghost use Rattle.htl_main.specs.Reads.{IsRead, NamesOnly, NeverRead, NeverWrite, ReadsAll};
+ghost use Rattle.htl_main.specs.Sources.{IsReportedOfSource};
 
 use crate::cases::unknown;
 use crate::cut_inputs::{CutEnd, add_end, check_end};
@@ -102,20 +102,10 @@ fn read_all<Rt: Threads + Sync, R: Parted>(
     folder: &mut Folder,
 ) -> Result<Vec<CutEnd>, RunFault>
     requires ready { AreOpen (map R.state sources.old) }
-    ensures ok { IfKnown (map R.state sources.old) (λ inputs. OnOk result ((given : List Content)
-        × DecodeAll setting.form inputs given × Took folds_of folder.old folder.new given)) }
-    ensures cuts { IfKnown (map R.state sources.old) (λ inputs. IfOk result (λ cuts.
-        AreCutEnds setting.form.hex inputs cuts.items)) }
-    ensures err { IfKnown (map R.state sources.old) (λ inputs. IfErr result
-        (StopsAtInput setting.form (IsReportedAt setting.form
-        (lefts (map R.state sources.new)) (ends (map R.state sources.new))) inputs)) }
-    ensures kept { IfKnown (map R.state sources.old) (λ inputs. IfErr result (λ fault.
-        fault ≢ RunFault.Memory → (given : List Content)
-        × AreGiven setting.form inputs (lefts (map R.state sources.new)) fault given
-        × Took folds_of folder.old folder.new given)) }
+    ensures reads { ReadsAll setting.form.hex (map R.state sources.old) (map R.state sources.new)
+        (λ inputs cuts. TookInputs folder.old folder.new setting.form inputs cuts.items)
+        (TookToFault folder.old folder.new setting.form (map R.state sources.new)) result }
     ensures of_input { IfErr result IsOfInput }
-    ensures reading { AreRead setting.form.hex (map R.state sources.old)
-        (map R.state sources.new) result }
 {
     let mut cuts = Vec::new(alloc);
     for (place, source) in sources.iter_mut().enumerate() {

@@ -33,15 +33,16 @@ returns-in_err-decoded g c =
     let now = map g.R.Source.state c.read_all.new.sources in
     rw (p.1, refused_is p.0 p.2.0 p.2.1) (record {
       outcome = λ texts all earlier job decoded as_of. (
-        stops_cause c.args.setting texts earlier (lefts now) (ends now) job fault c.in_ok-check_workers.ensures.ok (is.err texts all),
-        none_stops c.args.setting texts earlier (lefts now) (ends now) (texts ++ earlier ∷ []) fault (is.err texts all),
+        stops_cause c.args.setting texts earlier (lefts now) (ends now) job fault c.in_ok-check_workers.ensures.ok
+            (is.reads.outcome texts all),
+        none_stops c.args.setting texts earlier (lefts now) (ends now) (texts ++ earlier ∷ []) fault (is.reads.outcome texts all),
       );
       coverage = tt;
       workers = tt;
       same = refl;
       symbols = refl;
       cut = refl;
-      reading = ends_too c.args.setting.form.hex (map g.R.Source.state c.args.inputs.now) now fault is.reading;
+      reading = ends_too c.args.setting.form.hex (map g.R.Source.state c.args.inputs.now) now fault is.reads.reading;
       no_write = is.no_write;
     })
 
@@ -62,19 +63,19 @@ returns-in_err-whole g c =
     rw (p.1, p.2) (record {
       outcome = λ texts all earlier job decoded as_of.
           let long = as_many first now texts all same in
-          let decodes = c.in_ok-decoded.ensures.ok texts all in (
-            added_cause setting texts earlier (lefts now) (ends now) job segments before cuts fault c.in_ok-check_workers.ensures.ok decodes
-                (c.in_ok-decoded.ensures.cuts texts all) decoded c.in_err-whole.ensures.before.some (length-map now remaining ∙ sym long)
+          let is = c.in_ok-decoded.ensures.reads.outcome texts all in (
+            added_cause setting texts earlier (lefts now) (ends now) job segments before cuts fault c.in_ok-check_workers.ensures.ok
+                is.given.segments is.given.cuts decoded c.in_err-whole.ensures.before.some (length-map now remaining ∙ sym long)
                 (length-map now has_ended ∙ sym long) as_of c.in_err-whole.ensures.err,
-            c.in_err-whole.ensures.between setting.form texts earlier (long ∙ length-map new g.R.Source.state) decodes
-                (c.in_ok-decoded.ensures.spans texts all) (may_be_partial setting.form earlier before decoded),
+            c.in_err-whole.ensures.between setting.form texts earlier (long ∙ length-map new g.R.Source.state)
+                is.given.segments is.spans (may_be_partial setting.form earlier before decoded),
           );
       coverage = tt;
       workers = tt;
       same = refl;
       symbols = refl;
       cut = refl;
-      reading = reads_after setting.form.hex first now c.in_ok-decoded.decoded given setting fault c.in_ok-decoded.ensures.reading
+      reading = reads_after setting.form.hex first now c.in_ok-decoded.decoded given setting fault c.in_ok-decoded.ensures.reads.reading
           c.in_err-whole.ensures.err;
       no_write = no_write_after given setting fault c.in_err-whole.ensures.err;
     })
@@ -93,15 +94,15 @@ returns g c =
     record {
       outcome = λ texts all. record {
         segments = c.in_ok-decoded.decoded.segments.items;
-        decoded = c.in_ok-decoded.ensures.ok texts all;
+        decoded = (c.in_ok-decoded.ensures.reads.outcome texts all).given.segments;
         case = whole.case;
         cuts = c.in_ok-decoded.decoded.cuts.items;
-        cut_ends = c.in_ok-decoded.ensures.cuts texts all;
+        cut_ends = (c.in_ok-decoded.ensures.reads.outcome texts all).given.cuts;
         whole = whole.whole;
         counted = grind (arith, common_steps);
         new = omega (arith, fewer, ap length c.segments-2.ensures.value, ap length c.segments.ensures.value);
         coverage = c.in_ok-whole.ensures.coverage;
-        cut = c.in_ok-whole.ensures.cut c.args.setting.form.hex texts (c.in_ok-decoded.ensures.cuts texts all);
+        cut = c.in_ok-whole.ensures.cut c.args.setting.form.hex texts (c.in_ok-decoded.ensures.reads.outcome texts all).given.cuts;
       };
       coverage = (refl, c.in_ok-whole.ensures.coverage);
       workers = c.in_ok-check_workers.ensures.ok;
@@ -109,6 +110,6 @@ returns g c =
       symbols = refl;
       cut = refl;
       reading = read_then c.args.setting.form.hex (map g.R.Source.state c.args.inputs.now) (map g.R.Source.state c.read_all.new.sources)
-          c.in_ok-decoded.decoded (well _) c.in_ok-decoded.ensures.reading (λ at told. cc told) tt;
+          c.in_ok-decoded.decoded (well _) c.in_ok-decoded.ensures.reads.reading (λ at told. cc told) tt;
       no_write = tt;
     }

@@ -1,5 +1,5 @@
 -- No input is cut, or the first cut end is that of the first cut input, and the others are those of the others.
-use Rattle.std.proofs.Common.{◌+◌, ◌-◌, ◌≡◌, arith, length, refl, sym}
+use Rattle.std.proofs.Common.{◌-◌, arith, length, refl, sym}
 use Rattle.std.proofs.lemmas.Option.{slice_get_within}
 use Rattle.htl_main.proofs.CutLaws.{none_told, some_told}
 use Rattle.htl_main.proofs.cut_inputs.cut_inputs.Goals as goal

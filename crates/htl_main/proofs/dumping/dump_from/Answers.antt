@@ -2,7 +2,6 @@
 use Rattle.std.proofs.Common.{◌≤◌, ◌∙◌, [], Option, arith, length, map, refl}
 use Rattle.std.specs.Prelude.{is_some}
 use Rattle.std.proofs.KnownBytes.{Appends-nil}
-use Rattle.std.proofs.lemmas.Option.{slice_get-get_or}
 use Rattle.std.proofs.lemmas.Result.{err_from_is_err_and}
 use Rattle.htl_main.specs.Dumping.{DumpsInput}
 use Rattle.htl_main.specs.Dumps.{InputStops}
@@ -10,9 +9,8 @@ use Rattle.htl_main.specs.declared.cut_inputs.CutInputs.{CutInputs}
 use Rattle.htl_reading.specs.declared.outcome.EarlyEnd.{EarlyEnd}
 use Rattle.htl_main.proofs.CutLaws.{cut_next, fits_next, is_cut_of, none_cut, none_fits}
 use Rattle.htl_main.proofs.DumpLaws.{dumps_next, same_failure, written_after}
-use Rattle.htl_main.proofs.ReadingLaws.{all_ended, all_texts, ended_there, ends_there, knows_next, later_there, left_there, next_open}
+use Rattle.htl_main.proofs.ReadingLaws.{all_ended, all_texts, at_next, ended_there, ends_there, later_there, left_there, next_of, next_open}
 use Rattle.htl_main.proofs.ReadingLaws.{none_before, one_more}
-use Rattle.htl_main.proofs.SourceLaws.{at_known}
 use Rattle.htl_main.proofs.dumping.dump_from.Goals as goal
 
 pub loop-place-init : goal.loop-place-init
@@ -26,63 +24,58 @@ loop-place-init g c = record {
 
 pub loop-place-preserved : goal.loop-place-preserved
 loop-place-preserved g c =
-    let here = slice_get-get_or c.loop-place.inputs c.loop-place.place c.index-inputs-place.result (omega arith) in
-    let inv = c.loop-place.invariant in
-    let place = c.loop-place.place in
+    let l = c.loop-place in
+    let next = next_of g.R.Source.state c.args.inputs.now l.inputs l.place c.index-inputs-place.result l.invariant.before (omega arith) in
     let is = c.in_ok-end.ensures in
     let end = c.in_ok-end.end in
-    let old_out = (g.W.Sink.state c.loop-place.out).contents in
+    let old_out = (g.W.Sink.state l.out).contents in
     let new_out = (g.W.Sink.state c.dump_input.new.out).contents in
     record {
-      before = one_more g.R.Source.state c.args.inputs.now c.loop-place.inputs c.loop-place.place _ here inv.before c.dump_input.new.source _ is.reading;
+      before = one_more next c.dump_input.new.source end is.reading;
       sound = is.failed;
       dumped = λ texts all.
-          let knows = knows_next g.R.Source.state c.args.inputs.now c.loop-place.inputs c.loop-place.place _ here inv.before texts all in
-          dumps_next c.args.form texts place knows.input end _ old_out new_out knows.here (inv.dumped texts all)
-          (at_known texts place _ (λ bytes. DumpsInput c.args.form bytes end old_out new_out) knows is.ok);
+          let one = at_next next texts all (λ bytes. DumpsInput c.args.form bytes end old_out new_out) is.ok in
+          dumps_next c.args.form texts l.place one.text end _ old_out new_out one.here (l.invariant.dumped texts all) one.holds;
       cut = λ texts all.
-          let knows = knows_next g.R.Source.state c.args.inputs.now c.loop-place.inputs c.loop-place.place _ here inv.before texts all in
-          let one = at_known texts place _ (λ bytes. DumpsInput c.args.form bytes end old_out new_out) knows is.ok in
-          rw (c.with_input-cut.ensures, c.is_some.ensures) (cut_next c.args.form.hex texts place knows.input (is_some end) c.loop-place.cut
-          knows.here (inv.cut texts all) (is_cut_of c.args.form.hex knows.input end one.1.ends));
-      few = rw (c.with_input-cut.ensures) (fits_next _ place c.loop-place.cut inv.few);
+          let one = at_next next texts all (λ bytes. DumpsInput c.args.form bytes end old_out new_out) is.ok in
+          rw (c.with_input-cut.ensures, c.is_some.ensures) (cut_next c.args.form.hex texts l.place one.text (is_some end) l.cut one.here
+          (l.invariant.cut texts all) (is_cut_of c.args.form.hex one.text end one.holds.1.ends));
+      few = rw (c.with_input-cut.ensures) (fits_next _ l.place l.cut l.invariant.few);
     }
 
 pub returns-in_err-end : goal.returns-in_err-end
 returns-in_err-end g c =
     let p = err_from_is_err_and c.from_residual.result c.from_residual.ensures.1 in
-    let here = slice_get-get_or c.loop-place.inputs c.loop-place.place c.index-inputs-place.result (omega arith) in
-    let inv = c.loop-place.invariant in
-    let place = c.loop-place.place in
+    let l = c.loop-place in
+    let next = next_of g.R.Source.state c.args.inputs.now l.inputs l.place c.index-inputs-place.result l.invariant.before (omega arith) in
     let is = c.in_err-end.ensures in
     let fault = c.in_err-end.field-0.0 in
-    let new = g.R.Source.state c.dump_input.new.source in
-    let old_out = (g.W.Sink.state c.loop-place.out).contents in
+    let y = c.dump_input.new.source in
+    let new = g.R.Source.state y in
+    let old_out = (g.W.Sink.state l.out).contents in
     let new_out = (g.W.Sink.state c.dump_input.new.out).contents in
     rw (p.1, p.2) (record {
       outcome = λ texts all.
-          let knows = knows_next g.R.Source.state c.args.inputs.now c.loop-place.inputs c.loop-place.place _ here inv.before texts all in
-          let stops = at_known texts place _ (λ bytes. InputStops c.args.form new.remaining new.ended place bytes old_out new_out fault) knows
-          is.stops in
-          let so_far = inv.dumped texts all in
+          let one = at_next next texts all (λ bytes. InputStops c.args.form new.remaining new.ended l.place bytes old_out new_out fault) is.stops in
+          let so_far = l.invariant.dumped texts all in
           record {
-            place = place;
-            input = knows.input;
-            here = knows.here;
+            place = l.place;
+            input = one.text;
+            here = one.here;
             left = new.remaining;
-            left_is = left_there g.R.Source.state c.args.inputs.now c.loop-place.inputs c.loop-place.place _ here inv.before c.dump_input.new.source;
+            left_is = left_there next y;
             ended = new.ended;
-            ended_is = ended_there g.R.Source.state c.args.inputs.now c.loop-place.inputs c.loop-place.place _ here inv.before c.dump_input.new.source;
+            ended_is = ended_there next y;
             before = so_far.0;
             decoded = so_far.1;
-            reported = stops.reported;
-            segments = stops.segments;
-            are = stops.are;
-            written = written_after _ _ _ so_far.0 stops.segments fault so_far.2 stops.written;
-            unread = later_there g.R.Source.state c.args.inputs.now c.loop-place.inputs c.loop-place.place _ here inv.before c.dump_input.new.source texts all;
+            reported = one.holds.reported;
+            segments = one.holds.segments;
+            are = one.holds.are;
+            written = written_after _ _ _ so_far.0 one.holds.segments fault so_far.2 one.holds.written;
+            unread = later_there next y texts all;
           };
       failed = is.failed ∙ same_failure (Option EarlyEnd) (Option CutInputs) fault;
-      reading = ends_there g.R.Source.state c.args.inputs.now c.loop-place.inputs c.loop-place.place _ here inv.before c.dump_input.new.source fault is.reading;
+      reading = ends_there next y fault is.reading;
     })
 
 pub returns : goal.returns
@@ -99,8 +92,6 @@ returns g c =
 
 pub dump_input-requires : goal.dump_input-requires
 dump_input-requires g c =
-    let here = slice_get-get_or c.loop-place.inputs c.loop-place.place c.index-inputs-place.result (omega arith) in
-    record {
-      ready = next_open g.R.Source.state c.args.inputs.now c.loop-place.inputs c.loop-place.place _ here c.loop-place.invariant.before c.requires.ready;
-      out = c.loop-place.invariant.sound;
-    }
+    let l = c.loop-place in
+    let next = next_of g.R.Source.state c.args.inputs.now l.inputs l.place c.index-inputs-place.result l.invariant.before (omega arith) in
+    record { ready = next_open next c.requires.ready; out = l.invariant.sound }

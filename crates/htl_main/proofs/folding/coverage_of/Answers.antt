@@ -1,5 +1,5 @@
 -- What is missing of what was taken says what its coverage is, and whether it is complete.
-use Rattle.std.proofs.Common.{◌∙◌, inl, inr, refl}
+use Rattle.std.proofs.Common.{inl, inr, refl}
 use Rattle.std.proofs.lemmas.Result.{err_from_is_err_and}
 use Rattle.htl_main.proofs.folding.coverage_of.Goals as goal
 

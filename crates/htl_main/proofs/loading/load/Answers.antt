@@ -33,12 +33,12 @@ returns-in_err-decoded g c =
     rw (p.1, refused_is p.0 p.2.0 p.2.1) (record {
       outcome = λ texts all. (
         λ job as_of. sources_stop (in_setting setting job) texts (lefts now) (ends now) (option_copied c.args.symbols) fault
-            c.in_ok-check_workers.ensures.ok (is.err texts all),
-        stop_about_none setting.form texts texts (lefts now) (ends now) fault (is.err texts all),
+            c.in_ok-check_workers.ensures.ok (is.reads.outcome texts all),
+        stop_about_none setting.form texts texts (lefts now) (ends now) fault (is.reads.outcome texts all),
       );
       case = tt;
       coverage = tt;
-      reading = ends_too setting.form.hex (map g.R.Source.state c.args.inputs.now) now fault is.reading;
+      reading = ends_too setting.form.hex (map g.R.Source.state c.args.inputs.now) now fault is.reads.reading;
       no_write = is.no_write;
     })
 
@@ -49,14 +49,13 @@ returns-in_err-case g c =
     let fault = c.in_err-case.field-0.0.fault in
     let now = map g.R.Source.state c.read_all.new.sources in
     let given = decoding c.in_ok-decoded.decoded.segments.items c.in_ok-decoded.decoded.cuts.items in
-    let decoded = c.in_ok-decoded.ensures in
+    let decoded = c.in_ok-decoded.ensures.reads in
     let why = c.in_err-case.ensures.err symbols in
     rw (p.1, p.2) (record {
       outcome = λ texts all. (
         λ job as_of. sources_cause_of (in_setting c.args.setting job) texts (lefts now) (ends now) symbols given fault
-            c.in_ok-check_workers.ensures.ok (record { segments = decoded.ok texts all; cuts = decoded.cuts texts all })
-            (why (in_setting c.args.setting job)),
-        c.in_err-case.ensures.between c.args.setting.form texts (decoded.ok texts all) (decoded.spans texts all),
+            c.in_ok-check_workers.ensures.ok (decoded.outcome texts all).given (why (in_setting c.args.setting job)),
+        c.in_err-case.ensures.between c.args.setting.form texts (decoded.outcome texts all).given.segments (decoded.outcome texts all).spans,
       );
       case = tt;
       coverage = tt;
@@ -81,15 +80,15 @@ returns-in_err-loaded g c =
       outcome = λ texts all. (
         λ job as_of. sources_cause_of (in_setting setting job) texts (lefts now) (ends now) symbols given fault
             c.in_ok-check_workers.ensures.ok
-            (decoded_as setting.form texts segments _ _ _ (c.in_ok-decoded.ensures.ok texts all) (c.in_ok-decoded.ensures.cuts texts all)
-            c.in_ok-case.ensures.cuts c.deref.ensures.value)
+            (decoded_as setting.form texts segments _ _ _ (c.in_ok-decoded.ensures.reads.outcome texts all).given c.in_ok-case.ensures.cuts
+            c.deref.ensures.value)
             (why (in_setting setting job) case refl as_of),
         none_after setting.form texts given c.in_ok-case.case symbols some fault case (why some case refl refl),
       );
       case = tt;
       coverage = tt;
       reading = reads_then setting.form.hex (map g.R.Source.state c.args.inputs.now) now c.in_ok-decoded.decoded given symbols some fault
-          c.in_ok-decoded.ensures.reading (why some case refl refl);
+          c.in_ok-decoded.ensures.reads.reading (why some case refl refl);
       no_write = not_write given symbols some fault (why some case refl refl);
     })
 
@@ -100,8 +99,8 @@ returns g c =
     let form = c.args.setting.form in
     record {
       outcome = λ texts all.
-          let decoded = decoded_as form texts segments _ _ _ (c.in_ok-decoded.ensures.ok texts all) (c.in_ok-decoded.ensures.cuts texts all)
-          c.in_ok-case.ensures.cuts c.deref.ensures.value in (
+          let decoded = decoded_as form texts segments _ _ _ (c.in_ok-decoded.ensures.reads.outcome texts all).given c.in_ok-case.ensures.cuts
+          c.deref.ensures.value in (
             record {
               workers = c.in_ok-check_workers.ensures.ok;
               given = decoding segments c.deref.result.now;
@@ -113,6 +112,6 @@ returns g c =
       case = is.case;
       coverage = is.coverage;
       reading = read_then form.hex (map g.R.Source.state c.args.inputs.now) (map g.R.Source.state c.read_all.new.sources)
-          c.in_ok-decoded.decoded (well c.in_ok-loaded.loaded) c.in_ok-decoded.ensures.reading (λ at told. cc told) tt;
+          c.in_ok-decoded.decoded (well c.in_ok-loaded.loaded) c.in_ok-decoded.ensures.reads.reading (λ at told. cc told) tt;
       no_write = tt;
     }

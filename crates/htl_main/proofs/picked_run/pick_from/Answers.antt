@@ -30,10 +30,10 @@ returns-in_err-all g c =
     rw (p.1, p.2) (record {
       outcome = λ texts all. (
         sources_stop c.args.job.now texts (lefts now) (ends now) (option_copied c.args.symbols) fault c.in_ok-check_workers.ensures.ok
-            (is.err texts all),
+            (is.reads.outcome texts all),
         λ told. absurd (is.no_write told),
       );
-      reading = ends_too false (map g.R.Source.state c.args.inputs.now) now fault is.reading;
+      reading = ends_too false (map g.R.Source.state c.args.inputs.now) now fault is.reads.reading;
       sink = record { untouched = λ other. refl; failed = λ told. absurd (is.no_write (cc told)); fine = tt };
       unwritten = tt;
       no_case = is.no_case;
@@ -49,11 +49,12 @@ returns g c =
     let result = c.print_picks.result in
     record {
       outcome = λ texts all.
-          let run = picked_run job texts c.args.interest picks (c.in_ok-all.ensures.ok texts all) in
+          let all_picked = c.in_ok-all.ensures.reads.outcome texts all in
+          let run = picked_run job texts c.args.interest picks all_picked.picks in
           ends_picking job c.args.interest texts (lefts now) (ends now) (option_copied c.args.symbols) (g.W.Sink.state c.args.out.now).contents
           (g.W.Sink.state c.print_picks.new.out).contents (decoding run.segments cuts) result c.in_ok-check_workers.ensures.ok
-          (given_is job c.args.interest texts picks run cuts (c.in_ok-all.ensures.cuts texts all)) (is.outcome run.segments run.picked);
-      reading = read_then false (map g.R.Source.state c.args.inputs.now) now c.in_ok-all.all result c.in_ok-all.ensures.reading
+          (given_is job c.args.interest texts picks run cuts all_picked.cuts) (is.outcome run.segments run.picked);
+      reading = read_then false (map g.R.Source.state c.args.inputs.now) now c.in_ok-all.all result c.in_ok-all.ensures.reads.reading
           (ends_without_read result is.ends) (ends_without_input result is.ends);
       sink = is.sink;
       unwritten = is.unwritten;

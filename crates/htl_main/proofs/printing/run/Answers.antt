@@ -48,8 +48,8 @@ returns-in_err-case g c =
     rw (p.1, p.2) (record {
       outcome = record {
         cause = cause_of job inputs symbols given fault c.in_ok-check_workers.ensures.ok
-            (record { segments = decoded.ok; cuts = decoded.cuts }) why;
-        between = c.in_err-case.ensures.between job.setting.form inputs decoded.ok decoded.spans;
+            decoded.ok.given why;
+        between = c.in_err-case.ensures.between job.setting.form inputs decoded.ok.given.segments decoded.ok.spans;
         written = λ told. absurd (not_write given symbols job fault why told);
       };
       sink = record { untouched = λ other. refl; failed = λ told. absurd (not_write given symbols job fault why (cc told)); fine = tt };
@@ -63,8 +63,8 @@ returns-in_err-loaded g c =
     let symbols = option_copied c.args.symbols in
     let segments = c.in_ok-decoded.decoded.segments.items in
     let given = decoding segments c.deref.result.now in
-    let decoded = decoded_as job.setting.form inputs segments _ _ _ c.in_ok-decoded.ensures.ok c.in_ok-decoded.ensures.cuts
-    c.in_ok-case.ensures.cuts c.deref.ensures.value in
+    let decoded = decoded_as job.setting.form inputs segments _ _ _ c.in_ok-decoded.ensures.ok.given c.in_ok-case.ensures.cuts
+    c.deref.ensures.value in
     let fault = c.in_err-loaded.field-0.0 in
     let why = c.in_err-loaded.ensures.err segments job c.in_ok-case.ensures.ok refl refl in
     rw (p.1, refused_is p.0 p.2.0 p.2.1) (record {
@@ -83,8 +83,8 @@ returns-in_err-completed g c =
     let inputs = map (λ (input : Vec ℕ Global). input.items) c.args.inputs.now in
     let symbols = option_copied c.args.symbols in
     let segments = c.in_ok-decoded.decoded.segments.items in
-    let decoded = decoded_as job.setting.form inputs segments _ _ _ c.in_ok-decoded.ensures.ok c.in_ok-decoded.ensures.cuts
-    c.in_ok-case.ensures.cuts c.deref.ensures.value in
+    let decoded = decoded_as job.setting.form inputs segments _ _ _ c.in_ok-decoded.ensures.ok.given c.in_ok-case.ensures.cuts
+    c.deref.ensures.value in
     let loaded = c.in_ok-loaded.loaded in
     let of = loaded_of job inputs symbols (decoding segments c.deref.result.now) loaded.case loaded.symbols c.in_ok-check_workers.ensures.ok
     decoded (c.in_ok-loaded.ensures.ok segments c.in_ok-case.ensures.ok) in
@@ -103,8 +103,8 @@ returns g c =
     let inputs = map (λ (input : Vec ℕ Global). input.items) c.args.inputs.now in
     let symbols = option_copied c.args.symbols in
     let segments = c.in_ok-decoded.decoded.segments.items in
-    let decoded = decoded_as job.setting.form inputs segments _ _ _ c.in_ok-decoded.ensures.ok c.in_ok-decoded.ensures.cuts
-    c.in_ok-case.ensures.cuts c.deref.ensures.value in
+    let decoded = decoded_as job.setting.form inputs segments _ _ _ c.in_ok-decoded.ensures.ok.given c.in_ok-case.ensures.cuts
+    c.deref.ensures.value in
     let loaded = c.in_ok-loaded.loaded in
     let of = loaded_of job inputs symbols (decoding segments c.deref.result.now) loaded.case loaded.symbols c.in_ok-check_workers.ensures.ok
     decoded (c.in_ok-loaded.ensures.ok segments c.in_ok-case.ensures.ok) in

@@ -1,6 +1,6 @@
 -- `read_all` reads its sources one after another, and the folder takes their segments, or the first that is refused is reported.
-use Rattle.std.proofs.Common.{◌++◌, [], arith, inl, map, refl}
-use Rattle.std.proofs.lemmas.Option.{slice_get-get_or}
+use Rattle.std.proofs.Common.{◌++◌, ◌≤◌, ℕ, List, [], Option, Some, None, IfSome, arith, inl, length, map, refl}
+use Rattle.std.proofs.lemmas.Option.{IfSome_then}
 use Rattle.std.proofs.lemmas.Result.{err_from_is_err_and}
 use Rattle.htl_main.specs.Folders.{folds_of}
 use Rattle.htl_main.specs.Sources.{IsReportedOfSource}
@@ -8,10 +8,13 @@ use Rattle.htl_main.specs.declared.fault.RunFault.TheVariants.{Memory}
 use Rattle.htl_main.proofs.CutLaws.{ends_next, no_ends}
 use Rattle.htl_main.proofs.FoldInputs.{TookInput, TookOwn, given_before, took_both, took_none}
 use Rattle.htl_main.proofs.InputLaws.{decode_next}
-use Rattle.htl_main.proofs.ReadingLaws.{all_ended, ends_there, knows_next, left_there, next_open, none_before, one_more, refused_there}
+use Rattle.htl_main.proofs.ReadingLaws.{all_ended, all_texts, at_next, ends_there, left_there, next_of, next_open, none_before, one_more, refused_there}
 use Rattle.htl_main.proofs.ReadingLaws.{stops_there}
-use Rattle.htl_main.proofs.SourceLaws.{at_known}
 use Rattle.htl_main.proofs.taking.read_all.Goals as goal
+
+of_both : (known : Option (List ℕ)) (P Q : List ℕ → Type 0) → IfSome known P → IfSome known Q → IfSome known (λ text. P text × Q text)
+of_both None P Q one other = tt
+of_both (Some text) P Q one other = (one, other)
 
 pub loop-place-init : goal.loop-place-init
 loop-place-init g c = record {
@@ -22,113 +25,98 @@ loop-place-init g c = record {
 
 pub loop-place-preserved : goal.loop-place-preserved
 loop-place-preserved g c =
-    let here = slice_get-get_or c.loop-place.sources c.loop-place.place c.index-sources-place.result (omega arith) in
-    let inv = c.loop-place.invariant in
-    let place = c.loop-place.place in
+    let l = c.loop-place in
+    let next = next_of g.R.Source.state c.args.sources.now l.sources l.place c.index-sources-place.result l.invariant.before (omega arith) in
+    let is = c.in_ok-end.ensures in
     let end = c.in_ok-end.end in
+    let form = c.args.setting.form in
+    let now = c.read_input.new.folder in
     record {
-      before = one_more g.R.Source.state c.args.sources.now c.loop-place.sources c.loop-place.place _ here inv.before
-          c.read_input.new.source _ c.in_ok-end.ensures.reading;
+      before = one_more next c.read_input.new.source end is.reading;
       took = λ texts all.
-          let knows = knows_next g.R.Source.state c.args.sources.now c.loop-place.sources c.loop-place.place _ here inv.before texts all in
-          let own = at_known texts place _ (λ text. TookInput folds_of c.loop-place.folder c.read_input.new.folder c.args.setting.form text end) knows
-          c.in_ok-end.ensures.ok in
-          let earlier = inv.took texts all in (
-            earlier.0 ++ own.0,
-            decode_next c.args.setting.form texts place knows.input earlier.0 own.0 knows.here earlier.1 own.1.decoded,
-            took_both folds_of c.args.folder.now c.loop-place.folder c.read_input.new.folder earlier.0 own.0 earlier.2 own.2,
+          let own = at_next next texts all (λ text. TookInput folds_of l.folder now form text end) is.ok in
+          let earlier = l.invariant.took texts all in (
+            earlier.0 ++ own.holds.0,
+            decode_next form texts l.place own.text earlier.0 own.holds.0 own.here earlier.1 own.holds.1.decoded,
+            took_both folds_of c.args.folder.now l.folder now earlier.0 own.holds.0 earlier.2 own.holds.2,
           );
       cuts = λ texts all.
-          let knows = knows_next g.R.Source.state c.args.sources.now c.loop-place.sources c.loop-place.place _ here inv.before texts all in
-          let own = at_known texts place _ (λ text. TookInput folds_of c.loop-place.folder c.read_input.new.folder c.args.setting.form text end) knows
-          c.in_ok-end.ensures.ok in
-          rw (c.in_ok-add_end.ensures.added) (ends_next c.args.setting.form.hex texts place knows.input end c.loop-place.cuts.items knows.here
-          (inv.cuts texts all) own.1.ends);
+          let own = at_next next texts all (λ text. TookInput folds_of l.folder now form text end) is.ok in
+          rw (c.in_ok-add_end.ensures.added)
+          (ends_next form.hex texts l.place own.text end l.cuts.items own.here (l.invariant.cuts texts all) own.holds.1.ends);
     }
 
-pub returns-in_err-end-clause-err : goal.returns-in_err-end-clause-err
-returns-in_err-end-clause-err g c =
+pub returns-in_err-end-clause-reads : goal.returns-in_err-end-clause-reads
+returns-in_err-end-clause-reads g c =
     let p = err_from_is_err_and c.from_residual.result c.from_residual.ensures.1 in
-    let here = slice_get-get_or c.loop-place.sources c.loop-place.place c.index-sources-place.result (omega arith) in
-    let inv = c.loop-place.invariant in
-    let new = g.R.Source.state c.read_input.new.source in
+    let l = c.loop-place in
+    let next = next_of g.R.Source.state c.args.sources.now l.sources l.place c.index-sources-place.result l.invariant.before (omega arith) in
+    let form = c.args.setting.form in
+    let is = c.in_err-end.ensures in
+    let y = c.read_input.new.source in
+    let new = g.R.Source.state y in
+    let now = c.read_input.new.folder in
     let fault = c.in_err-end.field-0.0 in
-    λ texts all.
-    let earlier = inv.took texts all in
-    rw (p.1, p.2) (stops_there g.R.Source.state c.args.sources.now c.loop-place.sources c.loop-place.place _ here inv.before
-    c.read_input.new.source c.args.setting.form texts
-    fault earlier.0 all earlier.1 (λ knows. at_known texts c.loop-place.place _
-    (λ bytes. IsReportedOfSource c.args.setting.form new.remaining new.ended c.loop-place.place bytes fault) knows c.in_err-end.ensures.err))
+    rw (p.1, p.2) (record {
+      outcome = λ texts all.
+          let earlier = l.invariant.took texts all in
+          let Told : List ℕ → Type 0 = λ text. IsReportedOfSource form new.remaining new.ended l.place text fault in
+          let Kept : List ℕ → Type 0 = λ text. TookOwn folds_of l.folder now form new.remaining text fault in
+          let own = at_next next texts all (λ text. Told text × Kept text) (of_both _ Told Kept is.err is.kept) in
+          record {
+            stops = stops_there next y form texts fault earlier.0 all earlier.1 is.err;
+            kept = λ other.
+                let kept = own.holds.1 other in (
+                  earlier.0 ++ kept.0,
+                  given_before form texts _ l.place own.text earlier.0 kept.0 earlier.1 own.here new.remaining new.ended fault
+                      (left_there next y) own.holds.0 other kept.1,
+                  took_both folds_of c.args.folder.now l.folder now earlier.0 kept.0 earlier.2 kept.2,
+                );
+          };
+      reading = ends_there next y fault is.reading;
+    })
 
-pub returns-in_err-add_end-clause-err : goal.returns-in_err-add_end-clause-err
-returns-in_err-add_end-clause-err g c =
+pub returns-in_err-add_end-clause-reads : goal.returns-in_err-add_end-clause-reads
+returns-in_err-add_end-clause-reads g c =
     let p = err_from_is_err_and c.from_residual-in_err-add_end.result c.from_residual-in_err-add_end.ensures.1 in
-    let here = slice_get-get_or c.loop-place.sources c.loop-place.place c.index-sources-place.result (omega arith) in
-    let inv = c.loop-place.invariant in
-    let end = c.in_ok-end.end in
-    λ texts all.
-    let earlier = inv.took texts all in
-    rw (p.1, p.2) (stops_there g.R.Source.state c.args.sources.now c.loop-place.sources c.loop-place.place _ here inv.before
-    c.read_input.new.source c.args.setting.form texts
-    Memory earlier.0 all earlier.1 (λ knows. inl ((at_known texts c.loop-place.place _
-    (λ text. TookInput folds_of c.loop-place.folder c.read_input.new.folder c.args.setting.form text end) knows c.in_ok-end.ensures.ok).1.asks
-    c.in_err-add_end.ensures.full)))
-
-pub returns-in_err-add_end-clause-kept : goal.returns-in_err-add_end-clause-kept
-returns-in_err-add_end-clause-kept g c =
-    let p = err_from_is_err_and c.from_residual-in_err-add_end.result c.from_residual-in_err-add_end.ensures.1 in
-    λ texts all. rw (p.1, p.2) (λ other. absurd (other refl))
+    let l = c.loop-place in
+    let next = next_of g.R.Source.state c.args.sources.now l.sources l.place c.index-sources-place.result l.invariant.before (omega arith) in
+    let is = c.in_ok-end.ensures in
+    rw (p.1, p.2) (record {
+      outcome = λ texts all.
+          let earlier = l.invariant.took texts all in
+          record {
+            stops = stops_there next c.read_input.new.source c.args.setting.form texts Memory earlier.0 all earlier.1
+                (IfSome_then _ is.ok (λ text own. inl (own.1.asks c.in_err-add_end.ensures.full)));
+            kept = λ other. absurd (other refl);
+          };
+      reading = refused_there next c.read_input.new.source c.in_ok-end.end is.reading;
+    })
 
 pub returns-in_err-add_end-clause-of_input : goal.returns-in_err-add_end-clause-of_input
 returns-in_err-add_end-clause-of_input g c =
     let p = err_from_is_err_and c.from_residual-in_err-add_end.result c.from_residual-in_err-add_end.ensures.1 in
     rw (p.1, p.2) tt
 
-pub returns-in_err-add_end-clause-reading : goal.returns-in_err-add_end-clause-reading
-returns-in_err-add_end-clause-reading g c =
-    let p = err_from_is_err_and c.from_residual-in_err-add_end.result c.from_residual-in_err-add_end.ensures.1 in
-    let here = slice_get-get_or c.loop-place.sources c.loop-place.place c.index-sources-place.result (omega arith) in
-    rw (p.1, p.2) (refused_there g.R.Source.state c.args.sources.now c.loop-place.sources c.loop-place.place _ here c.loop-place.invariant.before
-    c.read_input.new.source _
-    c.in_ok-end.ensures.reading)
-
-pub returns-in_err-end-clause-kept : goal.returns-in_err-end-clause-kept
-returns-in_err-end-clause-kept g c =
-    let p = err_from_is_err_and c.from_residual.result c.from_residual.ensures.1 in
-    let here = slice_get-get_or c.loop-place.sources c.loop-place.place c.index-sources-place.result (omega arith) in
-    let inv = c.loop-place.invariant in
-    let place = c.loop-place.place in
-    let new = g.R.Source.state c.read_input.new.source in
-    let fault = c.in_err-end.field-0.0 in
-    λ texts all.
-    let knows = knows_next g.R.Source.state c.args.sources.now c.loop-place.sources c.loop-place.place _ here inv.before texts all in
-    let earlier = inv.took texts all in
-    let told = at_known texts place _ (λ bytes. IsReportedOfSource c.args.setting.form new.remaining new.ended place bytes fault) knows
-    c.in_err-end.ensures.err in
-    let kept = at_known texts place _
-    (λ bytes. TookOwn folds_of c.loop-place.folder c.read_input.new.folder c.args.setting.form new.remaining bytes fault) knows
-    c.in_err-end.ensures.kept in
-    rw (p.1, p.2) (λ other.
-    let own = kept other in (
-      earlier.0 ++ own.0,
-      given_before c.args.setting.form texts _ place knows.input earlier.0 own.0 earlier.1 knows.here new.remaining new.ended fault
-          (left_there g.R.Source.state c.args.sources.now c.loop-place.sources c.loop-place.place _ here inv.before c.read_input.new.source) told other own.1,
-      took_both folds_of c.args.folder.now c.loop-place.folder c.read_input.new.folder earlier.0 own.0 earlier.2 own.2,
-    ))
-
-pub returns-in_err-end-clause-reading : goal.returns-in_err-end-clause-reading
-returns-in_err-end-clause-reading g c =
-    let p = err_from_is_err_and c.from_residual.result c.from_residual.ensures.1 in
-    let here = slice_get-get_or c.loop-place.sources c.loop-place.place c.index-sources-place.result (omega arith) in
-    rw (p.1, p.2) (ends_there g.R.Source.state c.args.sources.now c.loop-place.sources c.loop-place.place _ here c.loop-place.invariant.before
-    c.read_input.new.source
-    c.in_err-end.field-0.0 c.in_err-end.ensures.reading)
-
-pub returns-clause-reading : goal.returns-clause-reading
-returns-clause-reading g c =
-    all_ended g.R.Source.state c.args.sources.now c.loop-place.sources c.loop-place.place _ c.loop-place.invariant.before (omega arith)
+pub returns-clause-reads : goal.returns-clause-reads
+returns-clause-reads g c =
+    let l = c.loop-place in
+    let done : length c.args.sources.now ≤ l.place = omega arith in
+    record {
+      outcome = λ texts all.
+          let whole = all_texts g.R.Source.state c.args.sources.now texts l.place all done in
+          let all_of_them = l.invariant.took texts all in
+          record {
+            given = all_of_them.0;
+            decoded = rw whole at all_of_them.1;
+            took = all_of_them.2;
+            cut_ends = rw whole at (l.invariant.cuts texts all);
+          };
+      reading = all_ended g.R.Source.state c.args.sources.now l.sources l.place _ l.invariant.before (omega arith);
+    }
 
 pub read_input-requires-clause-ready : goal.read_input-requires-clause-ready
 read_input-requires-clause-ready g c κs within =
-    let here = slice_get-get_or c.loop-place.sources c.loop-place.place c.index-sources-place.result (omega arith) in
-    next_open g.R.Source.state c.args.sources.now c.loop-place.sources c.loop-place.place _ here c.loop-place.invariant.before c.requires.ready
+    let l = c.loop-place in
+    next_open (next_of g.R.Source.state c.args.sources.now l.sources l.place c.index-sources-place.result l.invariant.before (omega arith))
+    c.requires.ready

@@ -1,8 +1,8 @@
 -- The key of a segment that is new isn't taken.
 use Rattle.std.proofs.Common.{◌≡◌, false, refl}
 use Rattle.htl_analyst.specs.Keys.{keys}
-use Rattle.htl_main.proofs.FoldLaws.{not_a_key}
-use Rattle.htl_main.proofs.folder.is_new_to.Goals as goal
+use Rattle.htl_main.proofs.FallingLaws.{not_a_key}
+use Rattle.htl_main.proofs.falling.is_new_to.Goals as goal
 
 pub returns-then-processors-clause-no : goal.returns-then-processors-clause-no
 returns-then-processors-clause-no c = λ new.

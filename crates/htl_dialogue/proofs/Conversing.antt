@@ -1,9 +1,9 @@
 -- A dialogue has come so far: these lines got their replies and their notes, and those are left.
-use Rattle.std.proofs.Common.{◌≡◌, ◌+◌, ◌≤◌, ◌∙◌, ℕ, Bool, true, false, List, [], ◌∷◌, ◌++◌, None, Some, length, refl, sym, ap, arith}
+use Rattle.std.proofs.Common.{◌≡◌, ◌+◌, ◌∙◌, ℕ, Bool, true, false, List, [], ◌∷◌, ◌++◌, None, Some, length, refl, sym, ap, arith}
 use Rattle.std.proofs.Common.{append_assoc}
 use Rattle.std.specs.Prelude.{Option, if◌then◌else◌}
 use Rattle.std.specs.List.{list_any}
-use Rattle.std.proofs.lemmas.List.{append-nil}
+use Rattle.std.proofs.lemmas.List.{append-nil, length_push}
 use Rattle.htl_dialogue.specs.Dialogues.{Answers, Converses, Gets, asked_lines, before_end, is_end, last_wait}
 use Rattle.htl_dialogue.specs.Lines.{lines_of_dialogue}
 use Rattle.htl_dialogue.specs.Notes.{Note, awaits}
@@ -35,7 +35,7 @@ pub record Progress {S Host : Type 0} (answers : Answers S) (wanted : Bool) (tol
   pub asks : (more : List (List ℕ)) → before_end (lines ++ more) ≡ lines ++ before_end more
   pub goes_on : (more : List (List ℕ)) → list_any line_is_end (lines ++ more) ≡ list_any line_is_end more
   pub are : AreReplied answers wanted told initial old host lines state new now conversed
-  pub each : count + length rest ≤ length text
+  pub each : length lines ≡ count
 
 -- A line was read, and this is said of it in a dialogue that forgets events or keeps them.
 pub record Takes (forgets : Bool) (left now : Option (List ℕ)) (next : NextLine) (of : Said) : Type 0 where
@@ -77,7 +77,7 @@ module _ {S Host : Type 0} {answers : Answers S} {wanted : Bool} {told : Host �
     asks = λ more. refl;
     goes_on = λ more. refl;
     are = none_replied conversed right fine;
-    each = omega arith;
+    each = refl;
   }
 
   -- the line ends the dialogue
@@ -163,5 +163,5 @@ module _ {S Host : Type 0} {answers : Answers S} {wanted : Bool} {told : Host �
         goes_on = λ lines. ap (list_any line_is_end) (append_assoc so_far.lines (first.bytes ∷ []) lines)
             ∙ so_far.goes_on (first.bytes ∷ lines) ∙ any_later first.bytes lines not_end;
         are = one_replied first.bytes so_far.are reply same (line.keeps first.bytes first.is);
-        each = omega (arith, so_far.each, later.2);
+        each = omega (arith, so_far.each, length_push so_far.lines first.bytes);
       }

@@ -1,6 +1,5 @@
 -- The next line is the first of the lines that are left.
-use Rattle.std.proofs.Common.{◌≡◌, ◌<◌, ◌∙◌, ℕ, Bool, true, false, List, [], ◌∷◌, ◌++◌, None, Some, length, refl, ap, arith, append_assoc}
-use Rattle.std.proofs.Common.{length-append}
+use Rattle.std.proofs.Common.{◌≡◌, ◌∙◌, ℕ, Bool, true, false, List, [], ◌∷◌, ◌++◌, None, Some, refl, ap, append_assoc}
 use Rattle.std.specs.Prelude.{Option}
 use Rattle.std.specs.Io.KnownBytes.{Consumes, IsAtEnd}
 use Rattle.std.proofs.lemmas.List.{append-nil}
@@ -30,7 +29,7 @@ pub record FirstLine (rest : List ℕ) (left : Option (List ℕ)) (next : NextLi
   pub others : List (List ℕ)
   pub lines : lines_of_dialogue rest ≡ bytes ∷ others
   pub last : next.is_last ≡ true → others ≡ []
-  pub more : next.is_last ≡ false → (others ≡ lines_of_dialogue later) × (rest ≡ bytes ++ 10 ∷ later) × (length later < length rest)
+  pub more : next.is_last ≡ false → (others ≡ lines_of_dialogue later) × (rest ≡ bytes ++ 10 ∷ later)
 
 first_of : (rest bytes : List ℕ) (left : Option (List ℕ)) (line : Line) (is_last : Bool) → HasNoFeed bytes → IsLine bytes line
     → Consumes (Some rest) left (taken_of is_last bytes) → (is_last ≡ true → IsAtEnd left)
@@ -60,7 +59,7 @@ first_of rest bytes (Some later) line false none is taken ended =
       others = lines_of_dialogue later;
       lines = ap lines_of_dialogue all ∙ line_first bytes later none;
       last = λ bad. cc;
-      more = λ _. (refl, all, omega (arith, ap length all, length-append bytes (10 ∷ later)));
+      more = λ _. (refl, all);
     }
 
 -- what a read of the next line gives is the first of the lines that are left

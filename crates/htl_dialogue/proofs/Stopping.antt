@@ -1,6 +1,6 @@
 -- A dialogue that ends before its lines do ends for a fault, and so far its lines got their replies.
 use Rattle.std.proofs.Common.{◌≡◌, ◌≤◌, ◌∙◌, ℕ, Bool, true, false, List, [], ◌∷◌, ◌++◌, None, Some, length, take, refl, sym, ap}
-use Rattle.std.proofs.Common.{append_assoc, arith, inl, inr}
+use Rattle.std.proofs.Common.{append_assoc, arith, inl, inr, length-append}
 use Rattle.std.specs.Prelude.{IfSome, Option}
 use Rattle.std.specs.Io.KnownBytes.{Consumes}
 use Rattle.std.proofs.KnownBytes.{Appends-trans}
@@ -146,24 +146,16 @@ module _ {S Host : Type 0} {answers : Answers S} {wanted : Bool} {told : Host �
           in_time = λ bad. cc;
         }
 
--- ---- too many reads or lines
+-- ---- too many lines
 
-module _ {S Host : Type 0} {answers : Answers S} {wanted : Bool} {told : Host → Note → Host} {initial : S}
-    {old : Option (List ℕ)} {host : Host} {left : Option (List ℕ)} {state : S} {new : Option (List ℕ)} {now : Host}
-    {conversed : Conversed} {count : ℕ} where
-  -- what is left of a text has no more bytes than it
-  pub endless : (known : Option (List ℕ)) (most : ℕ)
-      → ((text : List ℕ) → known ≡ Some text → Progress answers wanted told initial text old host left state new now conversed count)
-      → IfSome left (λ rest. most ≤ length rest) → IfSome known (λ text. most ≤ length text)
-  endless None most so_far many = tt
-  endless (Some text) most so_far many =
-      let here = so_far text refl in
-      let more : most ≤ length here.rest = rw (here.left_is) at many in
-      omega (arith, more, here.each)
-
-  -- each line takes a byte
-  pub too_many : (known : Option (List ℕ)) (most : ℕ)
-      → ((text : List ℕ) → known ≡ Some text → Progress answers wanted told initial text old host left state new now conversed count)
-      → most ≤ count → IfSome known (λ text. most ≤ length text)
-  too_many None most so_far many = tt
-  too_many (Some text) most so_far many = let here = so_far text refl in omega (arith, many, here.each)
+-- a text has the lines that were read of it
+pub too_many : {S Host : Type 0} {answers : Answers S} {wanted : Bool} {told : Host → Note → Host} {initial : S} {old : Option (List ℕ)}
+    {host : Host} {left : Option (List ℕ)} {state : S} {new : Option (List ℕ)} {now : Host} {conversed : Conversed} {count : ℕ}
+    (known : Option (List ℕ)) (most : ℕ)
+    → ((text : List ℕ) → known ≡ Some text → Progress answers wanted told initial text old host left state new now conversed count)
+    → most ≤ count → IfSome known (λ text. most ≤ length (lines_of_dialogue text))
+too_many None most so_far many = tt
+too_many (Some text) most so_far many =
+    let here = so_far text refl in
+    let all = ap length (ap lines_of_dialogue here.is ∙ here.reads here.rest) in
+    omega (arith, many, here.each, all, length-append here.lines (lines_of_dialogue here.rest))

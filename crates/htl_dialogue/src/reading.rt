@@ -1,7 +1,7 @@
 //! The lines of a source, as they come.
 
-ghost use Rattle.std.specs.Prelude.{◌≡◌, ◌≤◌, ◌⊎◌, [], false, true, length, position, Err};
-ghost use Rattle.std.specs.Prelude.{IfErr, IfOk, IfSome, OnOk};
+ghost use Rattle.std.specs.Prelude.{◌≡◌, ◌≤◌, ◌⊎◌, [], false, true, position, Err};
+ghost use Rattle.std.specs.Prelude.{IfErr, IfOk, OnOk};
 ghost use Rattle.std.specs.Io.KnownBytes.{prepend_known};
 ghost use Rattle.htl_device.specs.States.{IsOpen};
 ghost use Rattle.htl_dialogue.specs.Lines.{is_feed};
@@ -35,7 +35,7 @@ impl Model for ReadAhead {
 impl ReadAhead {
     ghost use Rattle.std.specs.Prelude.{◌≡◌, ◌<◌, [], false, IfOk, OnErr, is_err, length};
     ghost use Rattle.std.specs.Io.KnownBytes.{Consumes, IsAtEnd, Keeps};
-    ghost use Rattle.htl_device.specs.States.{IsOpen};
+    ghost use Rattle.htl_device.specs.States.{IsOpen, reads_after};
     ghost use Rattle.htl_dialogue.specs.Reading.{Moves};
 
     /// No bytes, and room for those of a read.
@@ -81,6 +81,8 @@ impl ReadAhead {
             × Keeps (R.state source.old).remaining (R.state source.new).remaining) }
         ensures fails { (R.state source.new).failed ≡ is_err result }
         ensures inside { IfOk result (λ count. 0 < count → (R.state source.new).ended ≡ false) }
+        ensures counts { (R.state source.new).good_reads
+            ≡ reads_after (R.state source.old).good_reads result }
     {
         self.taken = 0;
         self.read = 0;
@@ -123,8 +125,7 @@ pub fn next_line<R: Source>(
         (prepend_known held.new (R.state source.new).remaining)) }
     ensures all { (R.state source.new).failed ≡ true → held.new ≡ [] }
     ensures failed { result ≡ Err ReadFault.Failed → ((R.state source.new).failed ≡ true)
-        ⊎ IfSome (prepend_known held.old (R.state source.old).remaining) (λ text.
-        MAX_READS ≤ length text) }
+        ⊎ (MAX_READS ≤ (R.state source.new).good_reads) }
 {
     let mut line = Line::Whole(Vec::new(alloc));
     for _read in 0..MAX_READS {

@@ -1,5 +1,5 @@
 -- What is said of what was folded is said of the segments that were taken, also once more files are folded.
-use Rattle.std.proofs.Common.{◌≡◌, ◌≢◌, ◌∙◌, ℕ, List, [], ◌++◌, length, map, refl, inl, inr}
+use Rattle.std.proofs.Common.{◌≡◌, ◌≢◌, ◌∙◌, ℕ, List, [], ◌++◌, map, refl, inl, inr}
 use Rattle.std.specs.Prelude.{IfErr, Result, Ok, Err, Vec}
 use Rattle.htl_segment.specs.Content.{Content}
 use Rattle.htl_command.specs.declared.question.Setting.{Setting}
@@ -16,7 +16,7 @@ use Rattle.htl_main.specs.declared.refused.Refused.{Refused}
 use Rattle.htl_program.specs.Asking.{GoesOn, IsFolding}
 use Rattle.htl_program.specs.Loads.{FoldsFiles}
 use Rattle.htl_program.specs.Readings.{IsUnopenedFor}
-use Rattle.htl_program.specs.Worlds.{Known}
+use Rattle.htl_program.specs.Worlds.{Known, WorldChange}
 use Rattle.htl_program.proofs.FirstAbsent.{held_memory, none_is_absent}
 use Rattle.htl_program.proofs.NamesRead.{AreOpenedBy, all_read, none_read}
 
@@ -91,38 +91,42 @@ module _ (setting : Setting) (before : List Content) (texts : List (List ℕ)) (
 
 -- ---- how files are folded
 
-module _ (world : Known) (setting : Setting) (before : Folded) (names : List (List ℕ)) where
+module _ (world : WorldChange) (setting : Setting) (before : Folded) (names : List (List ℕ)) where
+  abbrev known : Known
+  known = world.old.known
+
   -- Files were not opened, and nothing was taken.
-  pub none_folded : (refused : Refused) → IsUnopenedFor (map world.holds names) (map world.is_absent names) refused.fault
-      → FoldsFiles world setting before names before (Err refused)
+  pub none_folded : (refused : Refused) → IsUnopenedFor (map known.holds names) (map known.is_absent names) refused.fault
+      → FoldsFiles known setting before names before (Err refused)
   none_folded refused unopened = record {
     sources = [];
-    reads = λ known. none_read world setting.form.hex names refused.fault unopened;
-    folds = λ known taken texts folded held.
-        absurd (known (held_memory (map world.holds names) (map world.is_absent names) texts refused.fault held unopened));
+    reads = λ goes_on. none_read known setting.form.hex names refused.fault unopened;
+    folds = λ goes_on taken texts folded held.
+        absurd (goes_on (held_memory (map known.holds names) (map known.is_absent names) texts refused.fault held unopened));
     unopened = λ absent. refl;
     symbols = refl;
   }
 
   -- Files were opened, and what was folded is what came of them.
   pub opened_and_folded : {R A : Type 0} (state : R → SourceState) (after : Folded) (sources : Vec R A) (now : List R)
-      (ended : Result Added Refused) → AreOpenedBy state world names (Ok sources) → length now ≡ length sources.items
-      → FoldsAs setting (map state sources.items) (map state now) before after ended → FoldsFiles world setting before names after ended
-  opened_and_folded state after sources now ended are all is = record {
+      (ended : Result Added Refused) → AreOpenedBy state world names (Ok sources)
+      → FoldsAs setting (map state sources.items) (map state now) before after ended → FoldsFiles known setting before names after ended
+  opened_and_folded state after sources now ended are is = record {
     sources = map state now;
-    reads = λ known. all_read world setting.form.hex names state sources now (by_fault ended) are all (as_a_run ended known is.reading);
-    folds = λ known taken texts folded held.
+    reads = λ goes_on.
+        all_read world setting.form.hex names state sources now (by_fault ended) are (as_a_run ended goes_on is.reading);
+    folds = λ goes_on taken texts folded held.
         as_folding ended taken texts (is.outcome taken folded texts (are.bytes ∙ held)) is.between;
-    unopened = λ absent. absurd (none_is_absent world names are.there absent);
+    unopened = λ absent. absurd (none_is_absent known names are.there absent);
     symbols = is.symbols;
   }
     where
       as_a_run : (ended : Result Added Refused) → GoesOn ended
           → AreReadToFold setting.form.hex (map state sources.items) (map state now) (by_fault ended)
           → AreRead setting.form.hex (map state sources.items) (map state now) (by_fault ended)
-      as_a_run ended known (inl read) = read
-      as_a_run (Ok added) known (inr refused) = absurd (cc refused.0)
-      as_a_run (Err refused) known (inr memory) = absurd (known (cc memory.0))
+      as_a_run ended goes_on (inl read) = read
+      as_a_run (Ok added) goes_on (inr refused) = absurd (cc refused.0)
+      as_a_run (Err refused) goes_on (inr memory) = absurd (goes_on (cc memory.0))
 
       as_folding : (ended : Result Added Refused) (taken : List Content) (texts : List (List ℕ))
           → EndsFolding (folding setting taken texts (map state now)) after.analyst ended

@@ -5,6 +5,7 @@ pub mod FirstAbsent
 pub mod PassedOn
 pub mod RanOut
 mod SourcesRead
+pub mod Asked
 pub mod NamesRead
 pub mod LoadLaws
 pub mod FoldLaws

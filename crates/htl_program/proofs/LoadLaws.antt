@@ -32,7 +32,7 @@ use Rattle.htl_program.specs.Asking.{AddsTo, AreRunsRemarks, IsAnswerText, IsRun
 use Rattle.htl_program.specs.Endings.{RunsOut}
 use Rattle.htl_program.specs.Loads.{AddsFiles}
 use Rattle.htl_program.specs.Readings.{IsUnopenedFor}
-use Rattle.htl_program.specs.Worlds.{Known}
+use Rattle.htl_program.specs.Worlds.{Known, WorldChange}
 use Rattle.htl_program.proofs.FirstAbsent.{held_memory}
 use Rattle.htl_program.proofs.NamesRead.{AreOpenedBy, all_read, none_read}
 
@@ -138,14 +138,17 @@ module _ (world : Known) (setting : Setting) (symbols : Option (List ℕ)) (befo
 
 -- ---- how files are added
 
-module _ (world : Known) (setting : Setting) (before : Loaded) (names : List (List ℕ)) where
+module _ (world : WorldChange) (setting : Setting) (before : Loaded) (names : List (List ℕ)) where
+  abbrev known : Known
+  known = world.old.known
+
   -- Files were not opened, and nothing was added.
-  pub not_opened : (refused : Refused) → IsUnopenedFor (map world.holds names) (map world.is_absent names) refused.fault
-      → refused.between ≡ Nothing → AddsFiles world setting before names before (Err refused)
+  pub not_opened : (refused : Refused) → IsUnopenedFor (map known.holds names) (map known.is_absent names) refused.fault
+      → refused.between ≡ Nothing → AddsFiles known setting before names before (Err refused)
   not_opened refused unopened alone = record {
     sources = [];
-    reads = none_read world setting.form.hex names refused.fault unopened;
-    adds = λ texts held. inr (held_memory (map world.holds names) (map world.is_absent names) texts refused.fault held unopened, alone);
+    reads = none_read known setting.form.hex names refused.fault unopened;
+    adds = λ texts held. inr (held_memory (map known.holds names) (map known.is_absent names) texts refused.fault held unopened, alone);
     coverage = tt;
     symbols = refl;
     same = refl;
@@ -153,11 +156,11 @@ module _ (world : Known) (setting : Setting) (before : Loaded) (names : List (Li
 
   -- Files were opened, and what was added is what came of them.
   pub opened_and_added : {R A : Type 0} (state : R → SourceState) (after : Loaded) (sources : Vec R A) (now : List R)
-      (ended : Result Added Refused) → AreOpenedBy state world names (Ok sources) → length now ≡ length sources.items
-      → AddsAs setting (map state sources.items) (map state now) before after ended → AddsFiles world setting before names after ended
-  opened_and_added state after sources now ended are all is = record {
+      (ended : Result Added Refused) → AreOpenedBy state world names (Ok sources)
+      → AddsAs setting (map state sources.items) (map state now) before after ended → AddsFiles known setting before names after ended
+  opened_and_added state after sources now ended are is = record {
     sources = map state now;
-    reads = all_read world setting.form.hex names state sources now (by_fault ended) are all is.reading;
+    reads = all_read world setting.form.hex names state sources now (by_fault ended) are is.reading;
     adds = λ texts held. inl (is.outcome texts (are.bytes ∙ held));
     coverage = known_coverage ended is.coverage;
     symbols = is.symbols;

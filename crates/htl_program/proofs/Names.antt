@@ -1,17 +1,24 @@
 -- What is said of each name is said of the names, place by place.
-use Rattle.std.proofs.Common.{◌≡◌, ◌+◌, ◌<◌, ◌≤◌, ◌++◌, ◌∷◌, ◌∙◌, [], ℕ, List, String, ap, arith, length, refl, sym, take}
-use Rattle.std.specs.Prelude.{Some, get_or, slice_get, string_bytes}
+use Rattle.std.proofs.Common.{◌≡◌, ◌≢◌, ◌+◌, ◌<◌, ◌≤◌, ◌++◌, ◌∷◌, ◌∙◌, [], ℕ, false, List, String, ap, arith, length, map, refl, sym, take}
+use Rattle.std.specs.Prelude.{◌==◌, Some, get_or, slice_get, string_bytes}
 use Rattle.std.proofs.lemmas.List.{get_or-map, length-map, take_more, take_all}
 use Rattle.std.proofs.lemmas.Option.{slice_get_read}
 use Rattle.htl_program.specs.Worlds.{of_each}
 
+-- there is as much as there are names
+pub as_many : {X A : Type 0} (of : List ℕ → X) (names : List (String A)) → length (of_each of names) ≡ length names
+as_many of names = length-map (map string_bytes names) of ∙ length-map names string_bytes
+
 within : {X A : Type 0} (of : List ℕ → X) (names : List (String A)) (i : ℕ) → i < length names → i < length (of_each of names)
-within of names i lt = let long = length-map names (λ n. of (string_bytes n)) in omega (arith, long, lt)
+within of names i lt = let long = as_many of names in omega (arith, long, lt)
 
 read : {X A : Type 0} (of : List ℕ → X) (names : List (String A)) (i : ℕ) (name : String A) (bytes : List ℕ)
     → i < length names → name ≡ get_or names i name → bytes ≡ string_bytes name → get_or (of_each of names) i (of bytes) ≡ of bytes
 read of names i name bytes lt is same =
-    get_or-map (λ n. of (string_bytes n)) names i name (of bytes) lt ∙ ap (λ n. of (string_bytes n)) (sym is) ∙ ap of (sym same)
+    let long = length-map names string_bytes in
+    let far : i < length (map string_bytes names) = omega (arith, long, lt) in
+    get_or-map of (map string_bytes names) i bytes (of bytes) far
+    ∙ ap of (get_or-map string_bytes names i name bytes lt ∙ ap string_bytes (sym is) ∙ sym same)
 
 -- what is said of the first names and the next one is said of one name more
 pub one_more : {X A : Type 0} (of : List ℕ → X) (names : List (String A)) (i : ℕ) (name : String A) (bytes : List ℕ)
@@ -28,10 +35,23 @@ at_place of names i name bytes lt is same =
     slice_get_read (of_each of names) (length (of_each of names)) i (of bytes) refl (within of names i lt)
     (sym (read of names i name bytes lt is same))
 
+-- the name at a place stands at this place
+pub name_at : {A : Type 0} (names : List (String A)) (i : ℕ) (name : String A) (bytes : List ℕ)
+    → i < length names → name ≡ get_or names i name → bytes ≡ string_bytes name → slice_get (map string_bytes names) i ≡ Some bytes
+name_at names i name bytes lt is same =
+    let long = length-map names string_bytes in
+    slice_get_read (map string_bytes names) (length (map string_bytes names)) i bytes refl (omega (arith, long, lt))
+    (same ∙ ap string_bytes is ∙ sym (get_or-map string_bytes names i name bytes lt))
+
 -- what is said of as many names as there are is said of all
 pub all_taken : {X A : Type 0} (of : List ℕ → X) (names : List (String A)) (n : ℕ) → length names ≤ n → n ≤ length names
     → take n (of_each of names) ≡ of_each of names
 all_taken of names n le ge =
-    let long = length-map names (λ x. of (string_bytes x)) in
+    let long = as_many of names in
     let same : n ≡ length (of_each of names) = omega (arith, long, le, ge) in
     ap (λ k. take k (of_each of names)) same ∙ take_all (length (of_each of names)) (of_each of names) (omega arith)
+
+-- where there are names, there are their bytes
+pub some_names : {A : Type 0} (names : List (String A)) → (length names == 0) ≡ false → map string_bytes names ≢ []
+some_names [] some none = cc some
+some_names (name ∷ names) some none = cc none

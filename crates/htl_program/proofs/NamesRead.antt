@@ -1,7 +1,7 @@
 -- Names aren't read at all where one could not be opened, and otherwise as any run reads its sources.
-use Rattle.std.proofs.Common.{◌≡◌, ◌⊎◌, ◌∙◌, ℕ, Bool, List, [], ◌∷◌, ap, inl, inr, length, map, refl, sym}
-use Rattle.std.specs.Prelude.{Option, Result, Ok, Err, String, Vec, string_bytes}
-use Rattle.std.proofs.lemmas.List.{length-map}
+use Rattle.std.proofs.Common.{◌≡◌, ◌⊎◌, ◌∙◌, ℕ, Bool, List, [], ap, inl, inr, map, refl, sym}
+use Rattle.std.specs.Prelude.{IfErr, None, OnOk, Option, Some, Result, Ok, Err, String, Vec}
+use Rattle.std.proofs.lemmas.Option.{none-some}
 use Rattle.htl_command.specs.declared.command.Run.{Run}
 use Rattle.htl_device.specs.States.{AreOpen, SinkState, SourceState, lefts}
 use Rattle.htl_main.specs.Origins.{by_fault}
@@ -12,11 +12,13 @@ use Rattle.htl_main.specs.declared.fault.RunFault.{RunFault}
 use Rattle.htl_main.specs.declared.fault.RunFault.TheVariants.{Memory, Read, SymbolsRead}
 use Rattle.htl_main.specs.declared.refused.Refused.{Refused}
 use Rattle.htl_program.specs.Asking.{ReadsNames}
+use Rattle.htl_program.specs.Endings.{IsUntabled}
 use Rattle.htl_program.specs.Openings.{AreOpened}
 use Rattle.htl_program.specs.Outcomes.{ReadsInputs}
 use Rattle.htl_program.specs.Readings.{AreUnread, IsUnopenedFor}
 use Rattle.htl_program.specs.Runs.{IsRunOfNames}
-use Rattle.htl_program.specs.Worlds.{IsFirstRefused, Known, of_each, of_inputs}
+use Rattle.htl_program.specs.Rounds.{all_opened}
+use Rattle.htl_program.specs.Worlds.{IsFirstRefused, IsTable, IsTableAbsent, IsTableUnknown, Known, WorldChange, of_each, of_inputs}
 use Rattle.htl_program.proofs.PassedOn.{same_fault}
 use Rattle.htl_program.proofs.FirstAbsent.{first_or_memory, none_absent}
 
@@ -42,20 +44,27 @@ pub of_table : {X : Type 0} {fault : RunFault} → (fault ≡ Memory) ⊎ ((faul
 of_table (inl memory) = inr memory
 of_table (inr symbols) = inl symbols.0
 
--- what is opened of names that are given by their bytes
-abbrev pub AreOpenedBy : {R A : Type 0} → (R → SourceState) → Known → List (List ℕ) → Result (Vec R A) RunFault → Type 0
-AreOpenedBy state world names =
-    AreOpened state (map world.holds names) (map world.holds names) (map world.is_absent names)
+-- a table whose bytes are known could not be read for want of memory alone
+pub known_table : {A X : Type 0} (holds : List ℕ → Option (List ℕ)) (name : Option (String A)) (table : Option (List ℕ))
+    (result : Result X RunFault) → IfErr result (λ fault. (fault ≡ Memory) ⊎ ((fault ≡ SymbolsRead) × IsTableUnknown holds name))
+    → IsTable holds name table → IfErr result (λ fault. fault ≡ Memory)
+known_table holds name table (Ok read) refused has = tt
+known_table holds name table (Err fault) (inl memory) has = memory
+known_table holds None table (Err fault) (inr unknown) has = absurd unknown.1
+known_table holds (Some name) table (Err fault) (inr unknown) has = absurd (none-some _ (sym unknown.1 ∙ has.1))
 
--- sources that are all there have as many states
-as_many : {R : Type 0} (state : R → SourceState) (old new : List R) → length new ≡ length old
-    → length (map state new) ≡ length (map state old)
-as_many state old new same = length-map new state ∙ same ∙ sym (length-map old state)
+-- a table that is absent wasn't read
+pub no_table : {A X : Type 0} (world : Known) (name : Option (String A)) (result : Result X RunFault)
+    → OnOk result (IsTableAbsent world.is_absent name → ⊥)
+    → IfErr result (λ fault. (fault ≡ Memory) ⊎ ((fault ≡ SymbolsRead) × IsTableUnknown world.holds name))
+    → IsTableAbsent world.is_absent name → IsUntabled result
+no_table world name (Ok read) there refused gone = absurd (there gone)
+no_table world name (Err fault) there (inl memory) gone = inr (ap Err memory)
+no_table world name (Err fault) there (inr symbols) gone = inl (ap Err symbols.0)
 
--- names in their order, each by its bytes
-pub by_bytes : {X A : Type 0} (of : List ℕ → X) (names : List (String A)) → of_each of names ≡ map of (map string_bytes names)
-by_bytes of [] = refl
-by_bytes of (name ∷ names) = ap (λ l. of (string_bytes name) ∷ l) (by_bytes of names)
+-- the files of these names were opened
+abbrev pub AreOpenedBy : {R A : Type 0} → (R → SourceState) → WorldChange → List (List ℕ) → Result (Vec R A) RunFault → Type 0
+AreOpenedBy state world names = AreOpened state world (map world.old.known.holds names) (all_opened names) names
 
 module _ {S : Type 0} (world : Known) (is_text : Bool) (names : List (List ℕ)) where
   -- where a name could not be opened, no source was read
@@ -68,21 +77,21 @@ module _ {S : Type 0} (world : Known) (is_text : Bool) (names : List (List ℕ))
         inl (first_refused (map world.holds names) (map world.is_absent names) fault place (same_fault fault (Read place) _ refl told) unopened);
   }
 
-  -- where all names were opened, they were read as the sources of a run
-  pub all_read : {R A : Type 0} (state : R → SourceState) (sources : Vec R A) (now : List R) (result : Result S RunFault)
-      → AreOpenedBy state world names (Ok sources) → length now ≡ length sources.items
-      → AreRead is_text (map state sources.items) (map state now) result → ReadsNames world is_text names (map state now) result
-  all_read state sources now result are all read = record {
-    absent = λ place absent. absurd (none_absent (map world.holds names) (map world.is_absent names) place are.there absent);
-    reading = inl (record {
-      opened = map state sources.items;
-      are = are.ready;
-      hold = are.bytes;
-      read = read;
-      all = as_many state sources.items now all;
-    });
-    read = λ place told. inr (rw are.bytes at read.read place told);
-  }
+-- where all names were opened, they were read as the sources of a run
+pub all_read : {S R A : Type 0} (world : WorldChange) (is_text : Bool) (names : List (List ℕ)) (state : R → SourceState) (sources : Vec R A)
+    (now : List R) (result : Result S RunFault) → AreOpenedBy state world names (Ok sources)
+    → AreRead is_text (map state sources.items) (map state now) result → ReadsNames world.old.known is_text names (map state now) result
+all_read world is_text names state sources now result are read = record {
+  absent = λ place absent.
+      absurd (none_absent (map world.old.known.holds names) (map world.old.known.is_absent names) place are.there absent);
+  reading = inl (record {
+    opened = map state sources.items;
+    are = are.ready;
+    hold = are.bytes;
+    read = read;
+  });
+  read = λ place told. inr (rw are.bytes at read.read place told);
+}
 
 -- The same of the inputs of a command's names.
 module _ {S A : Type 0} (world : Known) (is_text : Bool) (names : List (String A)) where
@@ -99,27 +108,21 @@ module _ {S A : Type 0} (world : Known) (is_text : Bool) (names : List (String A
 
   -- all of them were opened, and read as the sources of a run
   pub inputs_read : {R : Type 0} (state : R → SourceState) (opened now : List R) (result : Result S RunFault) → AreOpen (map state opened)
-      → lefts (map state opened) ≡ of_inputs world.holds world.standard names → length now ≡ length opened
+      → lefts (map state opened) ≡ of_inputs world.holds world.standard names
       → AreRead is_text (map state opened) (map state now) result → ReadsInputs world is_text names (map state now) result
-  inputs_read state opened now result ready bytes all read = record {
-    reading = inl (record {
-      opened = map state opened;
-      are = ready;
-      hold = bytes;
-      read = read;
-      all = as_many state opened now all;
-    });
+  inputs_read state opened now result ready bytes read = record {
+    reading = inl (record { opened = map state opened; are = ready; hold = bytes; read = read });
     read = λ place told. inr (rw bytes at read.read place told);
   }
 
 -- a run over opened inputs is one over their names
 pub run_of_names : {R : Type 0} (state : R → SourceState) (world : Known) (run : Run) (table : Option (List ℕ)) (opened now : List R)
     (before after : SinkState) (result : Result Completed Refused) → AreOpen (map state opened)
-    → lefts (map state opened) ≡ of_inputs world.holds world.standard run.files.items → length now ≡ length opened
+    → lefts (map state opened) ≡ of_inputs world.holds world.standard run.files.items
     → IsRun run.job table (map state opened) (map state now) before after result
     → IsRunOfNames world (map state now) run table before after result
-run_of_names state world run table opened now before after result ready bytes all is = record {
+run_of_names state world run table opened now before after result ready bytes is = record {
   ends = λ texts held. inl (is.outcome texts (bytes ∙ held));
-  reads = inputs_read world run.job.setting.form.hex run.files.items state opened now (by_fault result) ready bytes all is.reading;
+  reads = inputs_read world run.job.setting.form.hex run.files.items state opened now (by_fault result) ready bytes is.reading;
   sink = is.sink;
 }

@@ -1,9 +1,8 @@
 -- A fault is passed on as it is, and inputs that were opened are all there.
-use Rattle.std.proofs.Common.{◌≡◌, ◌∙◌, Bool, false, inl, inr, true, ℕ, ap, refl, sym}
+use Rattle.std.proofs.Common.{◌≡◌, ◌⊎◌, ◌∙◌, Bool, false, inl, inr, true, ap, refl, sym}
 use Rattle.std.specs.Prelude.{Result, Ok, Err}
 use mathlib.Core.Bool.{true≢false}
 use Rattle.htl_main.specs.declared.fault.RunFault.{RunFault}
-use Rattle.htl_program.specs.Endings.{IsUnopened}
 
 fault_or : {S E : Type 0} → E → Result S E → E
 fault_or other (Ok done) = other
@@ -23,13 +22,15 @@ pub no_fault : {S E : Type 0} (done : S) (fault : E) → Ok done ≡ Err fault �
 unfolding is_ok
 no_fault done fault is = true≢false (ap is_ok is)
 
--- inputs that were opened are all there
-pub all_opened : {S X : Type 0} (place : ℕ) (done : S) → IsUnopened place (Ok done) → X
-unfolding is_ok
-all_opened place done (inl is) = absurd (true≢false (ap is_ok is))
-all_opened place done (inr is) = absurd (true≢false (ap is_ok is))
+-- what ended well has neither of two faults
+pub no_end : {S X : Type 0} {one other : RunFault} (done : S)
+    → (◌≡◌ {A = Result S RunFault} (Ok done) (Err one)) ⊎ (◌≡◌ {A = Result S RunFault} (Ok done) (Err other)) → X
+no_end done (inl is) = absurd (no_fault done _ is)
+no_end done (inr is) = absurd (no_fault done _ is)
 
--- a fault of the opening is the fault of what was to come of it
-pub same_end : {S T : Type 0} (place : ℕ) (fault : RunFault) → IsUnopened {S = S} place (Err fault) → IsUnopened {S = T} place (Err fault)
-same_end place fault (inl is) = inl (ap Err (same_fault _ _ _ refl is))
-same_end place fault (inr is) = inr (ap Err (same_fault _ _ _ refl is))
+-- one of two faults of the opening is the fault of what was to come of it
+pub ends_so : {S T : Type 0} {one other : RunFault} (result : Result T RunFault) (fault : RunFault) → result ≡ Err fault
+    → (◌≡◌ {A = Result S RunFault} (Err fault) (Err one)) ⊎ (◌≡◌ {A = Result S RunFault} (Err fault) (Err other))
+    → (result ≡ Err one) ⊎ (result ≡ Err other)
+ends_so result fault is (inl told) = inl (is ∙ ap Err (same_fault _ _ _ refl told))
+ends_so result fault is (inr told) = inr (is ∙ ap Err (same_fault _ _ _ refl told))

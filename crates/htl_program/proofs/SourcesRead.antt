@@ -17,6 +17,7 @@ pub as_answered : {S T : Type 0} (is_text : Bool) (old new : List SourceState) (
     → AreRead is_text old new (Ok done)
     → AreRead is_text old new (Ok other)
 as_answered is_text old new done other read = record {
+  same_length = read.same_length;
   ended = read.ended;
   in_order = read.in_order;
   reported = λ place failed. absurd (no_fault done _ (read.reported place failed));
@@ -32,6 +33,7 @@ pub as_refused : {S T : Type 0} (is_text : Bool) (old new : List SourceState) (f
     → AreRead {S = S} is_text old new (Err fault)
     → AreRead {S = T} is_text old new (Err fault)
 as_refused is_text old new fault read = record {
+  same_length = read.same_length;
   ended = tt;
   in_order = read.in_order;
   reported = λ place failed. ap Err (same_fault _ _ _ refl (read.reported place failed));

@@ -1,5 +1,5 @@
 -- What a question is about, as a person reads it (this project's own).
-use Rattle.std.specs.Prelude.{◌++◌, ℕ, Bool, List, Option, Some, None, codes, if◌then◌else◌, is_some, option_map}
+use Rattle.std.specs.Prelude.{◌++◌, ℕ, List, Option, Some, None, codes, if◌then◌else◌, is_some, option_map}
 use Rattle.std.specs.Fmt.{decimal}
 use Rattle.htl_event.specs.Slots.{base_of}
 use Rattle.htl_numbers.specs.Written.{hex, padded}

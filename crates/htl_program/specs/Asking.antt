@@ -9,6 +9,7 @@ use Rattle.htl_command.specs.declared.question.Setting.{Setting}
 use Rattle.htl_device.specs.States.{SourceState, ends, good_reads, has_failed, lefts}
 use Rattle.htl_device.specs.declared.whole.TheConstants.{MAX_READS}
 use Rattle.htl_dialogue.specs.Dialogues.{Answers, Gets, answers_by}
+use Rattle.htl_dialogue.specs.Lines.{lines_of_dialogue}
 use Rattle.htl_dialogue.specs.Notes.{Note, begins}
 use Rattle.htl_dialogue.specs.declared.dialogue.DialogueFault.TheVariants.{Questions, Write}
 use Rattle.htl_main.specs.Completeness.{IsComplete, IsLeastMissing}
@@ -246,12 +247,16 @@ abbrev pub IsBeginsBetween : Bool → Setting → List (List ℕ) → RunFault �
 IsBeginsBetween false setting texts fault between = IsBetween setting.form texts fault between
 IsBeginsBetween true setting texts fault between = IsHalfKnown fault between
 
--- What failed of the questions and of the output is reported, and nothing else is reported as failed. Which bytes the questions have is
--- given where it is known.
-pub record ReportsDevices {S : Type 0} (has_failed : Bool) (questions : Option (List ℕ)) (write_failed : Bool) (ended : Result S AskFault)
+-- After 2^32 reads that gave bytes, or as many lines where the text is known, the questions are taken for endless.
+abbrev pub AreEndless : Option (List ℕ) → SourceState → Type 0
+AreEndless text left = (MAX_READS ≤ left.good_reads) ⊎ IfSome text (λ text. MAX_READS ≤ length (lines_of_dialogue text))
+
+-- What failed of the questions and of the output is reported, and nothing else is reported as failed. It is given what text the questions
+-- have, where that is known, and how they are left.
+pub record ReportsDevices {S : Type 0} (text : Option (List ℕ)) (left : SourceState) (write_failed : Bool) (ended : Result S AskFault)
     : Type 0 where
-  pub lines : has_failed ≡ true → ended ≡ Err (Dialogue Questions)
-  pub unread : ended ≡ Err (Dialogue Questions) → (has_failed ≡ true) ⊎ IfSome questions (λ bytes. MAX_READS ≤ length bytes)
+  pub lines : left.failed ≡ true → ended ≡ Err (Dialogue Questions)
+  pub unread : ended ≡ Err (Dialogue Questions) → (left.failed ≡ true) ⊎ AreEndless text left
   pub full : write_failed ≡ true → ended ≡ Err (Dialogue Write)
   pub unwritten : ended ≡ Err (Dialogue Write) → write_failed ≡ true
 

@@ -1,6 +1,6 @@
 -- What comes of a question, a dump, an encoding and a dialogue in a world (this project's own). Each is said of the inputs that were opened
 -- for it, as they are by then.
-use Rattle.std.specs.Prelude.{◌≡◌, ◌≢◌, ◌⊎◌, ℕ, Bool, true, List, map, Option, Some, IfErr, Result, Ok, Err, String}
+use Rattle.std.specs.Prelude.{◌≡◌, ◌≢◌, ◌⊎◌, ℕ, Bool, true, List, map, Option, Some, option_map, IfErr, Result, Ok, Err, String}
 use Rattle.std.specs.Prelude.{string_bytes}
 use Rattle.htl_command.specs.declared.command.Dialogue.{Dialogue}
 use Rattle.htl_command.specs.declared.command.Run.{Run}
@@ -21,7 +21,8 @@ use Rattle.htl_program.specs.Asking.{Begins, BeginsAndGets, IsBeginsBetween, IsB
 use Rattle.htl_program.specs.Asking.{before_dialogue}
 use Rattle.htl_program.specs.Endings.{EndsRun, IsUnopened, IsUntabled, RunsOut}
 use Rattle.htl_program.specs.Readings.{AreInputs, ReportsRead}
-use Rattle.htl_program.specs.Worlds.{IsFirstAbsent, IsTable, IsTableAbsent, Known, of_each, of_inputs}
+use Rattle.htl_program.specs.Rounds.{Asks, AsksLater, OpensAgain, OpensInputs, OpensOnce}
+use Rattle.htl_program.specs.Worlds.{IsFirstAbsent, IsTable, IsTableAbsent, Known, WorldChange, of_each, of_inputs}
 use Rattle.htl_program.specs.declared.ask_fault.AskFault.{AskFault}
 use Rattle.htl_program.specs.declared.ask_fault.AskFault.TheVariants as asks
 
@@ -41,35 +42,41 @@ pub record ReadsInputs {A S : Type 0} (world : Known) (is_text : Bool) (names : 
       inputs result
   pub read : ReportsRead world names inputs result
 
--- A question was asked of its files and its table of symbols. The first name for which there is nothing is reported by its place.
-pub record IsAnswered (world : Known) (inputs : List SourceState) (run : Run) (old new : SinkState)
+-- A question was asked of its files and its table of symbols. The first name for which there is nothing is reported by its place. Each file
+-- was opened once, in order, and then the table was read; only files that can be read again were opened more often.
+pub record IsAnswered (world : WorldChange) (inputs : List SourceState) (run : Run) (old new : SinkState)
     (ended : Result Completed Refused) : Type 0 where
-  pub ends : (texts : List (List ℕ)) → (table : Option (List ℕ)) → HaveTexts world run.files.items texts
-      → IsTable world.holds run.symbols table → EndsRun run.job texts table inputs old.contents new.contents ended ⊎ RunsOut ended
-  pub absent : (place : ℕ) → IsAbsentAt world run.files.items place → IsUnopened place (by_fault ended)
-  pub untabled : (texts : List (List ℕ)) → HaveTexts world run.files.items texts → IsTableAbsent world.is_absent run.symbols
-      → IsUntabled (by_fault ended)
-  pub reads : ReadsInputs world run.job.setting.form.hex run.files.items inputs (by_fault ended)
+  pub ends : (texts : List (List ℕ)) → (table : Option (List ℕ)) → HaveTexts world.old.known run.files.items texts
+      → IsTable world.old.known.holds run.symbols table
+      → EndsRun run.job texts table inputs old.contents new.contents ended ⊎ RunsOut ended
+  pub absent : (place : ℕ) → IsAbsentAt world.old.known run.files.items place → IsUnopened place (by_fault ended)
+  pub untabled : (texts : List (List ℕ)) → HaveTexts world.old.known run.files.items texts
+      → IsTableAbsent world.old.known.is_absent run.symbols → IsUntabled (by_fault ended)
+  pub reads : ReadsInputs world.old.known run.job.setting.form.hex run.files.items inputs (by_fault ended)
   pub sink : LeavesSink old new (by_fault ended)
+  pub asked : Asks world (OpensInputs (map string_bytes run.files.items) (option_map string_bytes run.symbols) (by_fault ended)
+      (OpensAgain world.old.known run.job.setting.form.hex (map string_bytes run.files.items) (by_fault ended)))
 
--- Segments were printed as text.
-pub record IsDumped {A : Type 0} (world : Known) (inputs : List SourceState) (form : InputForm) (names : List (String A))
+-- Segments were printed as text. Each file was opened once, in order.
+pub record IsDumped {A : Type 0} (world : WorldChange) (inputs : List SourceState) (form : InputForm) (names : List (String A))
     (old new : SinkState) (ended : Result (Option CutInputs) RunFault) : Type 0 where
-  pub ends : (texts : List (List ℕ)) → HaveTexts world names texts
+  pub ends : (texts : List (List ℕ)) → HaveTexts world.old.known names texts
       → EndsDumping form texts inputs old.contents new.contents ended ⊎ ((ended ≡ Err Memory) × (new ≡ old))
-  pub absent : (place : ℕ) → IsAbsentAt world names place → IsUnopened place ended × (new ≡ old)
-  pub reads : ReadsInputs world form.hex names inputs ended
+  pub absent : (place : ℕ) → IsAbsentAt world.old.known names place → IsUnopened place ended × (new ≡ old)
+  pub reads : ReadsInputs world.old.known form.hex names inputs ended
   pub failed : new.failed ≡ is_failed_write ended
+  pub asked : Asks world (OpensOnce (map string_bytes names) ended)
 
--- Segments were made of texts.
-pub record IsEncoded {A : Type 0} (world : Known) (inputs : List SourceState) (hex : Bool) (names : List (String A))
+-- Segments were made of texts. Each file was opened once, in order.
+pub record IsEncoded {A : Type 0} (world : WorldChange) (inputs : List SourceState) (hex : Bool) (names : List (String A))
     (old new : SinkState) (ended : Result (Unit {0}) RunFault) : Type 0 where
-  pub ends : (texts : List (List ℕ)) → HaveTexts world names texts
+  pub ends : (texts : List (List ℕ)) → HaveTexts world.old.known names texts
       → EndsEncoding hex texts inputs old.contents new.contents ended ⊎ (ended ≡ Err Memory)
-  pub absent : (place : ℕ) → IsAbsentAt world names place → IsUnopened place ended
-  pub reads : ReadsInputs world true names inputs ended
+  pub absent : (place : ℕ) → IsAbsentAt world.old.known names place → IsUnopened place ended
+  pub reads : ReadsInputs world.old.known true names inputs ended
   pub failed : new.failed ≡ is_failed_write ended
   pub untouched : IfErr ended (λ fault. fault ≢ Write → new ≡ old)
+  pub asked : Asks world (OpensOnce (map string_bytes names) ended)
 
 -- What a dialogue goes over: its questions, as they were and as they are left; the output, as it was and is; how a note changes the
 -- speaker, whether they want to know what has no event, and who they were and are.
@@ -122,14 +129,17 @@ EndsConversing world inputs of talk texts table (Err (asks.Run refused)) =
     IsBeginsCause of.folds of.setting table texts inputs refused.fault ⊎ (refused.fault ≡ Memory)
 
 -- A dialogue was held over the names of its files. What comes before the first line ends as any run does, which is said of the fault alone.
-pub record IsConversed {S : Type 0} (world : Known) (inputs : List SourceState) (of : Dialogue) (talk : Talk S)
+-- Each file was opened once, in order, and then the table of symbols was read; later the lines name files.
+pub record IsConversed {S : Type 0} (world : WorldChange) (inputs : List SourceState) (of : Dialogue) (talk : Talk S)
     (ended : Result Conversed AskFault) : Type 0 where
-  pub outcome : (texts : List (List ℕ)) → (table : Option (List ℕ)) → HaveTexts world of.files.items texts
-      → IsTable world.holds of.symbols table → EndsConversing world inputs of talk texts table ended
-  pub devices : ReportsDevices talk.left.failed talk.questions.remaining talk.new.failed ended
-  pub between : (texts : List (List ℕ)) → HaveTexts world of.files.items texts
+  pub outcome : (texts : List (List ℕ)) → (table : Option (List ℕ)) → HaveTexts world.old.known of.files.items texts
+      → IsTable world.old.known.holds of.symbols table → EndsConversing world.old.known inputs of talk texts table ended
+  pub devices : ReportsDevices talk.questions.remaining talk.left talk.new.failed ended
+  pub between : (texts : List (List ℕ)) → HaveTexts world.old.known of.files.items texts
       → IfErr (before_dialogue ended) (λ refused. IsBeginsBetween of.folds of.setting texts refused.fault refused.between)
-  pub absent : (place : ℕ) → IsAbsentAt world of.files.items place → IsUnopened place (by_fault (before_dialogue ended))
-  pub untabled : (texts : List (List ℕ)) → HaveTexts world of.files.items texts → IsTableAbsent world.is_absent of.symbols
-      → IsUntabled (by_fault (before_dialogue ended))
-  pub reads : ReadsInputs world of.setting.form.hex of.files.items inputs (by_fault (before_dialogue ended))
+  pub absent : (place : ℕ) → IsAbsentAt world.old.known of.files.items place → IsUnopened place (by_fault (before_dialogue ended))
+  pub untabled : (texts : List (List ℕ)) → HaveTexts world.old.known of.files.items texts
+      → IsTableAbsent world.old.known.is_absent of.symbols → IsUntabled (by_fault (before_dialogue ended))
+  pub reads : ReadsInputs world.old.known of.setting.form.hex of.files.items inputs (by_fault (before_dialogue ended))
+  pub asked : Asks world (OpensInputs (map string_bytes of.files.items) (option_map string_bytes of.symbols)
+      (by_fault (before_dialogue ended)) (AsksLater (before_dialogue ended)))

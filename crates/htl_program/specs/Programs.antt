@@ -25,8 +25,8 @@ use Rattle.htl_main.specs.declared.fault.RunFault.{RunFault}
 use Rattle.htl_main.specs.declared.fault.RunFault.TheVariants as faults
 use Rattle.htl_main.specs.declared.refused.Refused.{Refused}
 use Rattle.htl_program.specs.Asking.{before_dialogue}
-use Rattle.htl_program.specs.Opened.{Opened}
-use Rattle.htl_program.specs.Worlds.{Known}
+use Rattle.htl_program.specs.Opened.{IsUntouched, Reach}
+use Rattle.htl_program.specs.Worlds.{IsAsked, WorldState, change, for_questions}
 use Rattle.htl_program.specs.Outcomes.{IsAnswered, IsConversed, IsDumped, IsEncoded, Talk, talk}
 use Rattle.htl_program.specs.Messages.{Hears, HearsAll, HearsRun, Message, alone, cut_noted, fault, fault_said, no_memory, notes_said}
 use Rattle.htl_program.specs.Messages.{stop_said, text, unwritten}
@@ -77,14 +77,15 @@ abbrev pub SaysAnswer : Bool → Bool → Option (List Message) → Option (List
 SaysAnswer quiet in_words old new command run (Ok completed) = HearsAll old new (notes_said in_words command run completed)
 SaysAnswer quiet in_words old new command run (Err refused) = SaysFault quiet in_words old new command refused
 
-pub record DoesAnswer (watches in_words : Bool) (world : Known) (inputs : Opened) (old new : Told) (command : Command) (run : Run)
-    (status : ℕ) : Type 0 where
-  pub ended : Result Completed Refused
-  pub is : IsAnswered world inputs.files run old.out new.out ended
-  pub status_is : status ≡ end_status run.job.exit_code (by_fault ended)
-  pub after_run : Option (List Message)
-  pub hears_run : HearsRun command old.heard after_run
-  pub said : SaysAnswer (is_quiet watches new) in_words after_run new.heard command run ended
+pub record DoesAnswer (watches in_words : Bool) (reach : Reach) (old new : Told) (command : Command) (run : Run) (status : ℕ) : Type 0
+  where
+    pub ended : Result Completed Refused
+    pub is : IsAnswered reach.world reach.after.files run old.out new.out ended
+    pub questions : reach.after.questions ≡ reach.before.questions
+    pub status_is : status ≡ end_status run.job.exit_code (by_fault ended)
+    pub after_run : Option (List Message)
+    pub hears_run : HearsRun command old.heard after_run
+    pub said : SaysAnswer (is_quiet watches new) in_words after_run new.heard command run ended
 
 -- how a conversion's end is said: nothing, if it ended well
 abbrev pub SaysConversion : {S : Type 0} → Bool → Bool → Option (List Message) → Option (List Message) → Command → Result S RunFault
@@ -97,19 +98,21 @@ abbrev pub SaysDump : Bool → Bool → Option (List Message) → Option (List M
 SaysDump quiet in_words old new command (Ok cut) = HearsAll old new (cut_noted in_words command cut)
 SaysDump quiet in_words old new command (Err reported) = SaysFault quiet in_words old new command (alone reported)
 
-pub record DoesDump {A : Type 0} (watches in_words : Bool) (world : Known) (inputs : Opened) (old new : Told) (command : Command)
-    (form : InputForm) (files : List (String A)) (status : ℕ) : Type 0 where
+pub record DoesDump {A : Type 0} (watches in_words : Bool) (reach : Reach) (old new : Told) (command : Command) (form : InputForm)
+    (files : List (String A)) (status : ℕ) : Type 0 where
   pub ended : Result (Option CutInputs) RunFault
-  pub is : IsDumped world inputs.files form files old.out new.out ended
+  pub is : IsDumped reach.world reach.after.files form files old.out new.out ended
+  pub questions : reach.after.questions ≡ reach.before.questions
   pub status_is : status ≡ conversion_status ended
   pub after_run : Option (List Message)
   pub hears_run : HearsRun command old.heard after_run
   pub said : SaysDump (is_quiet watches new) in_words after_run new.heard command ended
 
-pub record DoesEncode {A : Type 0} (watches in_words : Bool) (world : Known) (inputs : Opened) (old new : Told) (command : Command)
-    (hex : Bool) (files : List (String A)) (status : ℕ) : Type 0 where
+pub record DoesEncode {A : Type 0} (watches in_words : Bool) (reach : Reach) (old new : Told) (command : Command) (hex : Bool)
+    (files : List (String A)) (status : ℕ) : Type 0 where
   pub ended : Result (Unit {0}) RunFault
-  pub is : IsEncoded world inputs.files hex files old.out new.out ended
+  pub is : IsEncoded reach.world reach.after.files hex files old.out new.out ended
+  pub questions : reach.after.questions ≡ reach.before.questions
   pub status_is : status ≡ conversion_status ended
   pub after_run : Option (List Message)
   pub hears_run : HearsRun command old.heard after_run
@@ -136,12 +139,11 @@ Explains watches old new bytes status =
     ⊎ ((status ≡ 6) × (new.out ≡ old.out) × Hears old.heard new.heard (fault (alone faults.Memory)))
 
 -- Segments are made of text, but their bytes aren't shown to a person.
-abbrev pub EncodesOrRefuses : {A : Type 0} → Bool → Bool → Bool → Known → Opened → Told → Told → Command → Bool → List (String A) → ℕ
-    → Type 0
-EncodesOrRefuses true watches in_words world inputs old new command hex files status =
-    (why : ParseFault) × IsUsageWith ⊤ why × Refuses watches old new why status
-EncodesOrRefuses false watches in_words world inputs old new command hex files status =
-    DoesEncode watches in_words world inputs old new command hex files status
+abbrev pub EncodesOrRefuses : {A : Type 0} → Bool → Bool → Bool → Reach → Told → Told → Command → Bool → List (String A) → ℕ → Type 0
+EncodesOrRefuses true watches in_words reach old new command hex files status =
+    (why : ParseFault) × IsUsageWith ⊤ why × Refuses watches old new why status × IsUntouched reach
+EncodesOrRefuses false watches in_words reach old new command hex files status =
+    DoesEncode watches in_words reach old new command hex files status
 
 -- how a dialogue's end is said, once it is over: nothing, if it ended well
 abbrev pub SaysDialogue : {S : Type 0} → Bool → Bool → Option (List Message) → Option (List Message) → Command → Result S AskFault → Type 0
@@ -184,17 +186,21 @@ abbrev pub talk_of : {S : Type 0} → SourceState → SourceState → Spoken S �
 talk_of questions left speaker listening old new =
     talk questions left old.out new.out speaker.told speaker.wants_absence speaker.before listening
 
--- The lines of standard input get their replies. The speaker is given as they were when the last reply had come.
-pub record DoesConverse {S : Type 0} (watches in_words : Bool) (speaker : Spoken S) (world : Known) (inputs : Opened) (old new : Told)
-    (command : Command) (of : Dialogue) (status : ℕ) : Type 0 where
+-- The lines of standard input get their replies. The speaker is given as they were when the last reply had come. The lines are asked for
+-- first, and once.
+pub record DoesConverse {S : Type 0} (watches in_words : Bool) (speaker : Spoken S) (reach : Reach) (old new : Told) (command : Command)
+    (of : Dialogue) (status : ℕ) : Type 0 where
   pub ended : Result Conversed AskFault
   pub listening : S
   pub questions : SourceState
-  pub asked : inputs.questions ≡ Some questions
-  pub is : IsConversed world inputs.files of (talk_of (fresh world.standard) questions speaker listening old new) ended
+  pub handed : reach.after.questions ≡ Some questions
+  pub between : WorldState
+  pub first : IsAsked reach.world.old between (for_questions ∷ [])
+  pub is : IsConversed (change between reach.world.new) reach.after.files of
+      (talk_of (fresh reach.world.old.known.standard) questions speaker listening old new) ended
   -- Before the files are read no line is, and nothing is written or told.
   pub untouched : IfErr (before_dialogue ended) (λ refused.
-      (questions ≡ fresh world.standard) × (new.out ≡ old.out) × (listening ≡ speaker.before))
+      (questions ≡ fresh reach.world.old.known.standard) × (new.out ≡ old.out) × (listening ≡ speaker.before))
   pub after : speaker.after ≡ speaker.left listening questions.ended
   pub status_is : status ≡ dialogue_status speaker.counts_wrong ended
   pub after_run : Option (List Message)
@@ -203,17 +209,17 @@ pub record DoesConverse {S : Type 0} (watches in_words : Bool) (speaker : Spoken
 
 -- What is done for a command, and the status with which the program ends. Whether a person sees the output is given first, then
 -- whether one watches what is said, and then whether that is said in words too.
-abbrev pub Does : {S : Type 0} → Bool → Bool → Bool → Spoken S → Known → Opened → Told → Told → Command → ℕ → Type 0
-Does sees watches in_words speaker world inputs old new (wish.Question run) status =
-    DoesAnswer watches in_words world inputs old new (wish.Question run) run status
-Does sees watches in_words speaker world inputs old new (wish.Explain reported) status =
-    Explains watches old new (explained reported) status
-Does sees watches in_words speaker world inputs old new (wish.Dump form files) status =
-    DoesDump watches in_words world inputs old new (wish.Dump form files) form files.items status
-Does sees watches in_words speaker world inputs old new (wish.Encode hex files) status =
-    EncodesOrRefuses (not hex && sees) watches in_words world inputs old new (wish.Encode hex files) hex files.items status
-Does sees watches in_words speaker world inputs old new (wish.Ask of) status =
-    DoesConverse watches in_words speaker world inputs old new (wish.Ask of) of status
+abbrev pub Does : {S : Type 0} → Bool → Bool → Bool → Spoken S → Reach → Told → Told → Command → ℕ → Type 0
+Does sees watches in_words speaker reach old new (wish.Question run) status =
+    DoesAnswer watches in_words reach old new (wish.Question run) run status
+Does sees watches in_words speaker reach old new (wish.Explain reported) status =
+    Explains watches old new (explained reported) status × IsUntouched reach
+Does sees watches in_words speaker reach old new (wish.Dump form files) status =
+    DoesDump watches in_words reach old new (wish.Dump form files) form files.items status
+Does sees watches in_words speaker reach old new (wish.Encode hex files) status =
+    EncodesOrRefuses (not hex && sees) watches in_words reach old new (wish.Encode hex files) hex files.items status
+Does sees watches in_words speaker reach old new (wish.Ask of) status =
+    DoesConverse watches in_words speaker reach old new (wish.Ask of) of status
 
 -- what arguments give
 abbrev pub IsParsed : List (List ℕ) → Result CommandLine ParseFault → Type 0
@@ -226,17 +232,16 @@ SpeaksIn (wish.Ask of) speaker = ⊤
 SpeaksIn command speaker = speaker.after ≡ speaker.before
 
 -- Words are for a person who watches, and for whoever asks for notes.
-abbrev pub DoesParsed : {S : Type 0} → Bool → Bool → Spoken S → Known → Opened → Told → Told → Result CommandLine ParseFault → ℕ
-    → Type 0
-DoesParsed sees watches speaker world inputs old new (Ok line) status =
-    Does sees watches (watches || line.notes) (with_notes line.notes speaker) world inputs old new line.command status
+abbrev pub DoesParsed : {S : Type 0} → Bool → Bool → Spoken S → Reach → Told → Told → Result CommandLine ParseFault → ℕ → Type 0
+DoesParsed sees watches speaker reach old new (Ok line) status =
+    Does sees watches (watches || line.notes) (with_notes line.notes speaker) reach old new line.command status
     × SpeaksIn line.command speaker
-DoesParsed sees watches speaker world inputs old new (Err why) status =
-    Refuses watches old new why status × (speaker.after ≡ speaker.before)
+DoesParsed sees watches speaker reach old new (Err why) status =
+    Refuses watches old new why status × IsUntouched reach × (speaker.after ≡ speaker.before)
 
 -- The program does what its arguments ask for.
-pub record Obeys {S : Type 0} (sees watches : Bool) (speaker : Spoken S) (world : Known) (inputs : Opened) (old new : Told)
-    (words : List (List ℕ)) (status : ℕ) : Type 0 where
+pub record Obeys {S : Type 0} (sees watches : Bool) (speaker : Spoken S) (reach : Reach) (old new : Told) (words : List (List ℕ))
+    (status : ℕ) : Type 0 where
   pub parsed : Result CommandLine ParseFault
   pub is : IsParsed words parsed
-  pub does : DoesParsed sees watches speaker world inputs old new parsed status
+  pub does : DoesParsed sees watches speaker reach old new parsed status

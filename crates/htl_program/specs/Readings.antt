@@ -1,5 +1,5 @@
 -- How the inputs of a run were read in a world (this project's own).
-use Rattle.std.specs.Prelude.{◌≡◌, ◌⊎◌, ℕ, Bool, List, [], length, map, Option, String, Result, Err}
+use Rattle.std.specs.Prelude.{◌≡◌, ◌⊎◌, ℕ, Bool, List, [], map, Option, String, Result, Err}
 use Rattle.htl_device.specs.States.{AreOpen, SourceState, good_reads, has_failed, lefts}
 use Rattle.htl_main.specs.Readings.{AreRead}
 use Rattle.htl_main.specs.Sources.{IsEndless, IsTrueAt}
@@ -7,14 +7,13 @@ use Rattle.htl_main.specs.declared.fault.RunFault.{RunFault}
 use Rattle.htl_main.specs.declared.fault.RunFault.TheVariants.{Memory, Read, SymbolsRead}
 use Rattle.htl_program.specs.Worlds.{IsFirstRefused, Known, of_each, of_inputs}
 
--- They were opened, have these bytes as far as they are known, and were read as any run reads its sources. All of them are still there.
+-- They were opened, have these bytes as far as they are known, and were read as any run reads its sources.
 pub record WereRead {S : Type 0} (is_text : Bool) (known : List (Option (List ℕ))) (now : List SourceState) (result : Result S RunFault)
     : Type 0 where
   pub opened : List SourceState
   pub are : AreOpen opened
   pub hold : lefts opened ≡ known
   pub read : AreRead is_text opened now result
-  pub all : length now ≡ length opened
 
 -- why not all were opened: memory was refused, or a name was, and the first one is given
 abbrev pub IsUnopenedFor : List (Option (List ℕ)) → List Bool → RunFault → Type 0

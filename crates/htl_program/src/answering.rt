@@ -1,17 +1,21 @@
 //! Answers a question in a world: opens its files, runs it, and reads files again if it has to.
 
-ghost use Rattle.std.specs.Prelude.{◌≡◌, false, length, map, option_copied, true};
+ghost use Rattle.std.specs.Prelude.{◌≡◌, ◌≢◌, [], All, IfErr, IfOk, false, map};
+ghost use Rattle.std.specs.Prelude.{option_copied, string_bytes, true};
 ghost use Rattle.htl_device.specs.States.{AreOpen, lefts};
+ghost use Rattle.htl_main.specs.Origins.{by_fault};
+ghost use Rattle.htl_question.specs.Questions.{Serves};
+ghost use Rattle.htl_main.specs.Runs.{IsRun};
 ghost use Rattle.htl_program.specs.Outcomes.{IsAnswered};
+ghost use Rattle.htl_program.specs.Rounds.{Asks, OpensAgain, Rounds};
 ghost use Rattle.htl_program.specs.Runs.{IsRunOfNames};
-ghost use Rattle.htl_program.specs.Worlds.{of_inputs};
+ghost use Rattle.htl_program.specs.Worlds.{change, of_each, of_inputs};
 
-use crate::opening::{as_bytes, open_inputs, read_table};
-use crate::running::{pick_opened, run_opened};
+use crate::opening::{as_bytes, open_all, open_inputs};
 use crate::world::World;
-use htl_command::Run;
-use htl_device::Sink;
-use htl_main::{Completed, Lacking, Refused};
+use htl_command::{Job, Run};
+use htl_device::{Parted, Sink};
+use htl_main::{Completed, Interest, Lacking, Refused, pick_from, run_from};
 use std::alloc::Global;
 use std::thread::Threads;
 
@@ -26,18 +30,16 @@ use std::thread::Threads;
 pub fn answer<Rt: Threads + Sync, W: World, O: Sink>(
     rt: &Rt,
     alloc: Global,
-    world: &W,
+    world: &mut W,
     run: &Run,
     inputs: &mut Vec<W::Input>,
     out: &mut O,
 ) -> Result<Completed, Refused>
     requires { (O.state out.old).failed ≡ false }
-    ensures { IsAnswered (W.known world.now) (map W.Input.state inputs.new.items) run.now
-        (O.state out.old) (O.state out.new) result }
+    ensures { IsAnswered (change (W.state world.old) (W.state world.new))
+        (map W.Input.state inputs.new.items) run.now (O.state out.old) (O.state out.new) result }
 {
-    inputs.clear();
-    *inputs = open_inputs(alloc, world, &run.files)?;
-    let table = read_table(world, run.symbols.as_ref())?;
+    let table = open_all(alloc, world, &run.files, run.symbols.as_ref(), inputs)?;
     run_inputs(rt, alloc, world, run, as_bytes(&table), inputs, out)
 }
 
@@ -46,7 +48,7 @@ pub fn answer<Rt: Threads + Sync, W: World, O: Sink>(
 fn run_inputs<Rt: Threads + Sync, W: World, O: Sink>(
     rt: &Rt,
     alloc: Global,
-    world: &W,
+    world: &mut W,
     run: &Run,
     symbols: Option<&[u8]>,
     inputs: &mut Vec<W::Input>,
@@ -54,13 +56,17 @@ fn run_inputs<Rt: Threads + Sync, W: World, O: Sink>(
 ) -> Result<Completed, Refused>
     requires ready { AreOpen (map W.Input.state inputs.old.items) }
     requires bytes { lefts (map W.Input.state inputs.old.items)
-        ≡ of_inputs (W.known world.now).holds (W.known world.now).standard run.now.files.items }
+        ≡ of_inputs (W.state world.old).known.holds (W.state world.old).known.standard
+        run.now.files.items }
     requires out { (O.state out.old).failed ≡ false }
-    ensures { IsRunOfNames (W.known world.now) (map W.Input.state inputs.new.items) run.now
-        (option_copied symbols.entry) (O.state out.old) (O.state out.new) result }
+    ensures run { IsRunOfNames (W.state world.old).known (map W.Input.state inputs.new.items)
+        run.now (option_copied symbols.entry) (O.state out.old) (O.state out.new) result }
+    ensures asked { Asks (change (W.state world.old) (W.state world.new))
+        (OpensAgain (W.state world.old).known run.now.job.setting.form.hex
+        (map string_bytes run.now.files.items) (by_fault result)) }
 {
     if !can_pick(world, run) {
-        return run_opened(rt, alloc, &run.job, inputs, symbols, out);
+        return run_from(rt, alloc, &run.job, inputs, symbols, out);
     }
     let question = run.job.question;
     match pick_opened(
@@ -85,36 +91,76 @@ fn run_inputs<Rt: Threads + Sync, W: World, O: Sink>(
     }
 }
 
+/// Runs the question over only the events of this interest. If these don't tell the outcome, nothing
+/// is written, and what is lacking is returned.
+fn pick_opened<Rt: Threads + Sync, R: Parted, O: Sink>(
+    rt: &Rt,
+    alloc: Global,
+    job: &Job,
+    interest: Interest,
+    inputs: &mut Vec<R>,
+    symbols: Option<&[u8]>,
+    out: &mut O,
+) -> Result<Result<Completed, Refused>, Lacking>
+    requires ready { AreOpen (map R.state inputs.old.items) }
+    requires out { (O.state out.old).failed ≡ false }
+    requires bytes { job.now.setting.form.hex ≡ false }
+    requires serves { Serves job.now.question interest }
+    ensures ended { IfOk result (λ ended. IsRun job.now (option_copied symbols.entry)
+        (map R.state inputs.old.items) (map R.state inputs.new.items)
+        (O.state out.old) (O.state out.new) ended) }
+    ensures unwritten { IfErr result (λ _. O.state out.new ≡ O.state out.old) }
+{
+    match pick_from(rt, alloc, job, interest, inputs, symbols, out) {
+        Ok(Ok(completed)) => Ok(Ok(completed)),
+        Ok(Err(lacking)) => Err(lacking),
+        Err(fault) => Ok(Err(Refused::from(fault))),
+    }
+}
+
 /// Opens the inputs once more, and answers what is asked from whole segments.
 fn run_again<Rt: Threads + Sync, W: World, O: Sink>(
     rt: &Rt,
     alloc: Global,
-    world: &W,
+    world: &mut W,
     run: &Run,
     symbols: Option<&[u8]>,
     inputs: &mut Vec<W::Input>,
     out: &mut O,
 ) -> Result<Completed, Refused>
     requires { (O.state out.old).failed ≡ false }
-    ensures { IsRunOfNames (W.known world.now) (map W.Input.state inputs.new.items) run.now
-        (option_copied symbols.entry) (O.state out.old) (O.state out.new) result }
+    ensures run { IsRunOfNames (W.state world.old).known (map W.Input.state inputs.new.items)
+        run.now (option_copied symbols.entry) (O.state out.old) (O.state out.new) result }
+    ensures asked { Asks (change (W.state world.old) (W.state world.new))
+        (Rounds 1 (map string_bytes run.now.files.items) (by_fault result)) }
 {
     inputs.clear();
     *inputs = open_inputs(alloc, world, &run.files)?;
-    run_opened(rt, alloc, &run.job, inputs, symbols, out)
+    run_from(rt, alloc, &run.job, inputs, symbols, out)
 }
 
 /// Whether a first reading may keep only what the question asks about: if its inputs are bytes of files
 /// that can be read again.
 fn can_pick<W: World>(world: &W, run: &Run) -> bool
-    ensures { result ≡ true → run.now.job.setting.form.hex ≡ false }
+    ensures { result ≡ true → (run.now.job.setting.form.hex ≡ false)
+        × (map string_bytes run.now.files.items ≢ []) × All (λ can. can ≡ true)
+        (of_each (W.state world.now).known.can_be_read_again run.now.files.items) }
 {
     !run.job.setting.form.hex && can_be_read_again(world, &run.files)
 }
 
 /// Whether all of the files can be read again. Standard input can't.
 fn can_be_read_again<W: World>(world: &W, files: &[String]) -> bool
-    ensures { length files.now ≡ 0 → result ≡ false }
+    ensures { result ≡ true → (map string_bytes files.now ≢ []) × All (λ can. can ≡ true)
+        (of_each (W.state world.now).known.can_be_read_again files.now) }
 {
-    !files.is_empty() && files.iter().all(|name| world.can_be_read_again(name))
+    if files.is_empty() {
+        return false;
+    }
+    for name in files {
+        if !world.can_be_read_again(name) {
+            return false;
+        }
+    }
+    true
 }

@@ -1,7 +1,7 @@
 //! What the program does: from its arguments, through the command that they give, to its status.
 
 ghost use Rattle.std.specs.Prelude.{◌≡◌, ◌||◌, false, map, string_bytes};
-ghost use Rattle.htl_program.specs.Opened.{opened};
+ghost use Rattle.htl_program.specs.Opened.{reach};
 ghost use Rattle.htl_program.specs.Programs.{Does, Obeys, SpeaksIn, spoken, told, with_notes};
 
 use crate::console::Console;
@@ -21,7 +21,7 @@ use std::thread::Threads;
 pub fn program<Rt: Threads + Sync, W: World, O: Output, P: Person, S: Speaker>(
     rt: &Rt,
     alloc: Global,
-    world: &W,
+    world: &mut W,
     arguments: Vec<String>,
     inputs: &mut Inputs<W::Input>,
     console: &mut Console<O, P>,
@@ -30,8 +30,7 @@ pub fn program<Rt: Threads + Sync, W: World, O: Output, P: Person, S: Speaker>(
     requires { (O.state console.old.out).failed ≡ false }
     ensures { Obeys (P.sees_output console.old.person) (P.is_watching console.old.person)
         (spoken S.told S.noted S.left S.wants_absence S.counts speaker.old speaker.new)
-        (W.known world.now)
-        (opened W.Input.state inputs.new)
+        (reach W.Input.state (W.state world.old) (W.state world.new) inputs.old inputs.new)
         (told O.state O.has_lost_reader P.heard console.old)
         (told O.state O.has_lost_reader P.heard console.new)
         (map string_bytes arguments.items) result }
@@ -46,7 +45,7 @@ pub fn program<Rt: Threads + Sync, W: World, O: Output, P: Person, S: Speaker>(
 fn obey<Rt: Threads + Sync, W: World, O: Output, P: Person, S: Speaker>(
     rt: &Rt,
     alloc: Global,
-    world: &W,
+    world: &mut W,
     line: &CommandLine,
     inputs: &mut Inputs<W::Input>,
     console: &mut Console<O, P>,
@@ -57,8 +56,7 @@ fn obey<Rt: Threads + Sync, W: World, O: Output, P: Person, S: Speaker>(
         (P.is_watching console.old.person || line.now.notes)
         (with_notes line.now.notes
         (spoken S.told S.noted S.left S.wants_absence S.counts speaker.old speaker.new))
-        (W.known world.now)
-        (opened W.Input.state inputs.new)
+        (reach W.Input.state (W.state world.old) (W.state world.new) inputs.old inputs.new)
         (told O.state O.has_lost_reader P.heard console.old)
         (told O.state O.has_lost_reader P.heard console.new) line.now.command result }
     ensures speaks { SpeaksIn line.now.command
@@ -75,11 +73,8 @@ fn obey<Rt: Threads + Sync, W: World, O: Output, P: Person, S: Speaker>(
             speaker.takes_notes(line.notes);
             do_converse(
                 alloc,
-                &Files {
-                    rt,
-                    world,
-                    dialogue,
-                },
+                world,
+                &Files { rt, dialogue },
                 line,
                 inputs,
                 console,

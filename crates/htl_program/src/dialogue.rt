@@ -1,7 +1,7 @@
 //! A dialogue over what is kept: each line gets its reply, and files that it names are read too.
 
-ghost use Rattle.std.specs.Prelude.{◌≡◌, ◌≤◌, ◌⊎◌, ℕ, List, Err, Some, false, true};
-ghost use Rattle.std.specs.Prelude.{IfErr, IfOk, IfSome, OnOk, length, string_bytes};
+ghost use Rattle.std.specs.Prelude.{◌≡◌, ◌⊎◌, ℕ, All, List, Err, Some, false, true};
+ghost use Rattle.std.specs.Prelude.{IfErr, IfOk, OnOk, string_bytes};
 ghost use Rattle.std.specs.Io.KnownBytes.{Appends};
 ghost use Rattle.htl_device.specs.Devices.{AppendsPrefix};
 ghost use Rattle.htl_device.specs.States.{IsOpen};
@@ -11,8 +11,11 @@ ghost use Rattle.htl_dialogue.specs.Dialogues.{reading_reply};
 ghost use Rattle.htl_dialogue.specs.Replying.{IsRefusedReply, Replies, Tells, fault_of};
 ghost use Rattle.htl_dialogue.specs.Notes.{told_of};
 ghost use Rattle.htl_dialogue.specs.Sayings.{saying};
+ghost use Rattle.htl_program.specs.Asking.{AreEndless};
 ghost use Rattle.htl_program.specs.Loads.{HasAbsenceIn, IsOfForm, answers_from, is_memory};
 ghost use Rattle.htl_program.specs.Loads.{is_state};
+ghost use Rattle.htl_program.specs.Rounds.{Asks, IsOfName};
+ghost use Rattle.htl_program.specs.Worlds.{Known, change};
 
 use crate::files::Files;
 use crate::kept::Kept;
@@ -34,7 +37,8 @@ use std::thread::Threads;
 /// ends the dialogue.
 pub(crate) fn converse_lines<Rt: Threads + Sync, W: World, Q: Source, O: Sink, H: Host>(
     alloc: Global,
-    files: &Files<Rt, W>,
+    world: &mut W,
+    files: &Files<Rt>,
     kept: &mut Kept,
     has_table: bool,
     questions: &mut Q,
@@ -45,14 +49,14 @@ pub(crate) fn converse_lines<Rt: Threads + Sync, W: World, Q: Source, O: Sink, H
     requires out { (O.state out.old).failed ≡ false }
     // Each line gets its reply, and the host its notes.
     ensures ok { (text : List ℕ) → (Q.state questions.old).remaining ≡ Some text → IfOk result
-        (Converses (answers_from (W.known files.now.world.now)
+        (Converses (answers_from (W.state world.old).known
         files.now.dialogue.now.setting (is_state kept.old) has_table) (H.wants_absence host.old)
         kept.old text (Gets (O.state out.old).contents (O.state out.new).contents H.told host.old
         host.new)) }
     // After a fault, the lines before it have their replies; if a read failed, these are all that
     // were read.
     ensures stops { (text : List ℕ) → (Q.state questions.old).remaining ≡ Some text → IfErr result
-        (DialogueStops (answers_from (W.known files.now.world.now)
+        (DialogueStops (answers_from (W.state world.old).known
         files.now.dialogue.now.setting (is_state kept.old) has_table) (H.wants_absence host.old)
         kept.old text (Q.state questions.new).remaining (Q.state questions.new).failed
         (Gets (O.state out.old).contents (O.state out.new).contents H.told host.old host.new)) }
@@ -62,9 +66,10 @@ pub(crate) fn converse_lines<Rt: Threads + Sync, W: World, Q: Source, O: Sink, H
     ensures read { (Q.state questions.new).failed ≡ true → result ≡ Err DialogueFault.Questions }
     ensures questions { result ≡ Err DialogueFault.Questions
         → ((Q.state questions.new).failed ≡ true)
-        ⊎ IfSome (Q.state questions.old).remaining (λ text. MAX_READS ≤ length text) }
+        ⊎ AreEndless (Q.state questions.old).remaining (Q.state questions.new) }
     ensures write { (O.state out.new).failed ≡ true → result ≡ Err DialogueFault.Write }
     ensures failed { result ≡ Err DialogueFault.Write → (O.state out.new).failed ≡ true }
+    ensures asked { Asks (change (W.state world.old) (W.state world.new)) (All IsOfName) }
 {
     let mut held = ReadAhead::new(alloc)?;
     let mut conversed = Conversed::fine();
@@ -75,7 +80,7 @@ pub(crate) fn converse_lines<Rt: Threads + Sync, W: World, Q: Source, O: Sink, H
         if ends(&said) {
             return Ok(conversed);
         }
-        let line = reply(alloc, files, kept, has_table, &said, out, host)?;
+        let line = reply(alloc, world, files, kept, has_table, &said, out, host)?;
         conversed = conversed.then(line);
         if next.is_last {
             return Ok(conversed);
@@ -94,7 +99,8 @@ fn ends(said: &Said) -> bool
 /// Writes the reply to a line, and tells the host of it.
 fn reply<Rt: Threads + Sync, W: World, O: Sink, H: Host>(
     alloc: Global,
-    files: &Files<Rt, W>,
+    world: &mut W,
+    files: &Files<Rt>,
     kept: &mut Kept,
     has_table: bool,
     said: &Said,
@@ -103,17 +109,18 @@ fn reply<Rt: Threads + Sync, W: World, O: Sink, H: Host>(
 ) -> Result<Conversed, DialogueFault>
     requires out { (O.state out.old).failed ≡ false }
     requires asks { IsOfForm (is_state kept.old) said.now }
-    ensures ok { IfOk result (Replies (answers_from (W.known files.now.world.now)
+    ensures ok { IfOk result (Replies (answers_from (W.state world.old).known
         files.now.dialogue.now.setting (is_state kept.old) has_table) (H.wants_absence host.old)
         said.now kept.old kept.new (O.state out.old).contents (O.state out.new).contents H.told
         host.old host.new) }
     ensures fine { OnOk result ((O.state out.new).failed ≡ false) }
-    ensures err { IfErr result (IsRefusedReply (answers_from (W.known files.now.world.now)
+    ensures err { IfErr result (IsRefusedReply (answers_from (W.state world.old).known
         files.now.dialogue.now.setting (is_state kept.old) has_table) said.now kept.old
         (O.state out.old).contents (O.state out.new).contents (O.state out.new).failed H.told
         host.old host.new) }
     ensures same { H.wants_absence host.new ≡ H.wants_absence host.old }
     ensures form { OnOk result (is_state kept.new ≡ is_state kept.old) }
+    ensures asked { Asks (change (W.state world.old) (W.state world.new)) (All IsOfName) }
 {
     match said {
         Said::Nothing | Said::Quits => Ok(Conversed::fine()),
@@ -130,7 +137,7 @@ fn reply<Rt: Threads + Sync, W: World, O: Sink, H: Host>(
             Ok(conversed)
         }
         Said::Reads(names) => {
-            let ended = files.read(alloc, kept, names)?;
+            let ended = files.read(alloc, world, kept, names)?;
             let text = reading_reply(alloc, ended)?;
             host.reads(names, ended);
             write(out, text.as_bytes())?;
@@ -143,9 +150,9 @@ fn reply<Rt: Threads + Sync, W: World, O: Sink, H: Host>(
 }
 
 /// Writes the reply to a question, and tells the host why it isn't answered, or of its answer.
-fn reply_to<Rt: Threads + Sync, W: World, O: Sink, H: Host>(
+fn reply_to<Rt: Threads + Sync, O: Sink, H: Host>(
     alloc: Global,
-    files: &Files<Rt, W>,
+    files: &Files<Rt>,
     kept: &Kept,
     has_table: bool,
     job: &Job,
@@ -154,12 +161,12 @@ fn reply_to<Rt: Threads + Sync, W: World, O: Sink, H: Host>(
 ) -> Result<Conversed, DialogueFault>
     requires out { (O.state out.old).failed ≡ false }
     requires asks { is_state kept.now ≡ true → needs_events job.now ≡ false }
-    ensures ok { IfOk result (Replies (answers_from (W.known files.now.world.now)
+    ensures ok { (world : Known) → IfOk result (Replies (answers_from world
         files.now.dialogue.now.setting (is_state kept.now) has_table) (H.wants_absence host.old)
         (Said.Asks job.now) kept.now kept.now (O.state out.old).contents (O.state out.new).contents
         H.told host.old host.new) }
     ensures fine { OnOk result ((O.state out.new).failed ≡ false) }
-    ensures err { IfErr result (IsRefusedReply (answers_from (W.known files.now.world.now)
+    ensures err { (world : Known) → IfErr result (IsRefusedReply (answers_from world
         files.now.dialogue.now.setting (is_state kept.now) has_table) (Said.Asks job.now) kept.now
         (O.state out.old).contents (O.state out.new).contents (O.state out.new).failed H.told
         host.old host.new) }

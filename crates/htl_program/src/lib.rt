@@ -2,7 +2,9 @@
 //!
 //! A contract can't say which bytes a file of the machine has. So all that the program opens is asked
 //! of a `World`, whose clauses say what each name holds where that is known, as it is of a world in
-//! memory, and that there is nothing for a name. The functions here are proved for every world.
+//! memory, and that there is nothing for a name. A world may also keep a log of what it was asked for,
+//! so that contracts say what is opened, how often and in which order. The functions here are proved
+//! for every world.
 //!
 //! `program` does what the arguments of a command line ask for. Files, in reading order:
 //! `commands.rt`, `printing.rt` (texts that need no input), `performing.rt` (runs of commands, and
@@ -10,13 +12,12 @@
 //! (where answers go), `person.rt` (who reads what is said beside the output), `saying.rt` (what is
 //! said of how a run ended), `speaker.rt` (who types the lines of a dialogue), `ending.rt` (the
 //! statuses), `world.rt` (what is opened), `inputs.rt` (what was opened), `opening.rt` (how inputs
-//! and the table are opened), `answering.rt` and `running.rt` (a question, from the names that it is
-//! asked of to its end), `converting.rt` (`dump` and `encode`), `conversing.rt`, `dialogue.rt` and
-//! `files.rt` (a dialogue: each line is answered as by a run over all that was read so far),
-//! `kept.rt` (what is kept of that: all segments, or what they come to), `ask_fault.rt` (why it ends
-//! before its lines do), `explained.rt` and `words.rt` (what a fault means), `named_part.rt` (the
-//! part of the inputs that it names), `subject.rt` (what a question is about), `lack.rt` (what it
-//! lacks).
+//! and the table are opened), `answering.rt` (a question, from the names that it is asked of to its
+//! end), `converting.rt` (`dump` and `encode`), `conversing.rt`, `dialogue.rt` and `files.rt` (a
+//! dialogue: each line is answered as by a run over all that was read so far), `kept.rt` (what is
+//! kept of that: all segments, or what they come to), `ask_fault.rt` (why it ends before its lines
+//! do), `explained.rt` and `words.rt` (what a fault means), `named_part.rt` (the part of the inputs
+//! that it names), `subject.rt` (what a question is about), `lack.rt` (what it lacks).
 #![tactic(auto)]
 
 mod answering;
@@ -38,7 +39,6 @@ mod output;
 mod performing;
 mod person;
 mod printing;
-mod running;
 mod saying;
 mod speaker;
 mod subject;

@@ -1,26 +1,41 @@
 //! Opens the inputs of a run, and reads its table of symbols.
 
-ghost use Rattle.std.specs.Prelude.{◌≡◌, ◌⊎◌, ℕ, IfErr, IfOk, List, OnOk, Option, option_copied};
-ghost use Rattle.std.specs.Prelude.{option_map};
-ghost use Rattle.htl_program.specs.Openings.{AreOpened};
-ghost use Rattle.htl_program.specs.Worlds.{IsTable, IsTableAbsent, IsTableUnknown};
-ghost use Rattle.htl_program.specs.Worlds.{of_each, of_inputs};
+ghost use Rattle.std.specs.Prelude.{◌≡◌, map, option_copied, option_map, string_bytes};
+ghost use Rattle.htl_program.specs.Openings.{AreOpened, IsTableRead, OpensAll};
+ghost use Rattle.htl_program.specs.Rounds.{all_opened, inputs_opened, unopened};
+ghost use Rattle.htl_program.specs.Worlds.{change, of_each, of_inputs};
 
 use crate::world::{OpenFault, World};
 use htl_main::RunFault;
 use std::alloc::Global;
 
+/// Opens the files, or standard input where there is none, and then reads the table of symbols.
+/// `inputs` has then what was opened.
+pub(crate) fn open_all<W: World>(
+    alloc: Global,
+    world: &mut W,
+    names: &[String],
+    symbols: Option<&String>,
+    inputs: &mut Vec<W::Input>,
+) -> Result<Option<Vec<u8>>, RunFault>
+    ensures { OpensAll (change (W.state world.old) (W.state world.new)) names.now
+        (option_copied symbols.entry) (map W.Input.state inputs.new.items) result }
+{
+    inputs.clear();
+    *inputs = open_inputs(alloc, world, names)?;
+    read_table(world, symbols)
+}
+
 /// Opens the files of the names in order, or standard input where there is none. The first that is
 /// refused is reported.
 pub(crate) fn open_inputs<W: World>(
     alloc: Global,
-    world: &W,
+    world: &mut W,
     names: &[String],
 ) -> Result<Vec<W::Input>, RunFault>
-    ensures { AreOpened W.Input.state
-        (of_inputs (W.known world.now).holds (W.known world.now).standard names.now)
-        (of_each (W.known world.now).holds names.now)
-        (of_each (W.known world.now).is_absent names.now) result }
+    ensures { AreOpened W.Input.state (change (W.state world.old) (W.state world.new))
+        (of_inputs (W.state world.old).known.holds (W.state world.old).known.standard names.now)
+        (inputs_opened (map string_bytes names.now)) (map string_bytes names.now) result }
 {
     if names.is_empty() {
         let mut inputs = Vec::new(alloc);
@@ -33,41 +48,37 @@ pub(crate) fn open_inputs<W: World>(
 /// Opens the files of the names in order. The first that is refused is reported.
 pub(crate) fn open_files<W: World>(
     alloc: Global,
-    world: &W,
+    world: &mut W,
     names: &[String],
 ) -> Result<Vec<W::Input>, RunFault>
-    ensures { AreOpened W.Input.state
-        (of_each (W.known world.now).holds names.now) (of_each (W.known world.now).holds names.now)
-        (of_each (W.known world.now).is_absent names.now) result }
+    ensures { AreOpened W.Input.state (change (W.state world.old) (W.state world.new))
+        (of_each (W.state world.old).known.holds names.now)
+        (all_opened (map string_bytes names.now)) (map string_bytes names.now) result }
 {
     let mut inputs = Vec::new(alloc);
     for (place, name) in names.iter().enumerate() {
         match world.open(name) {
             Ok(input) => inputs.push(input)?,
-            Err(OpenFault::NoMemory) => return Err(RunFault::Memory),
-            Err(OpenFault::Refused) => {
-                return Err(RunFault::Read {
-                    input: place as u64,
-                });
-            }
+            Err(why) => return Err(unopened(place as u64, why)),
         }
     }
     Ok(inputs)
 }
 
+/// What is reported of an input that could not be opened.
+fn unopened(place: u64, why: OpenFault) -> RunFault
+    ensures { result ≡ unopened place why }
+{
+    match why {
+        OpenFault::Refused => RunFault::Read { input: place },
+        OpenFault::NoMemory => RunFault::Memory,
+    }
+}
+
 /// Reads the table of symbols, if one is named.
-pub(crate) fn read_table<W: World>(
-    world: &W,
-    name: Option<&String>,
-) -> Result<Option<Vec<u8>>, RunFault>
-    ensures bytes { IfOk result (λ read. (table : Option (List ℕ))
-        → IsTable (W.known world.now).holds (option_copied name.entry) table
-        → table ≡ option_map (λ v. v.items) read) }
-    ensures there { OnOk result
-        (IsTableAbsent (W.known world.now).is_absent (option_copied name.entry) → ⊥) }
-    ensures refused { IfErr result (λ fault. (fault ≡ RunFault.Memory)
-        ⊎ ((fault ≡ RunFault.SymbolsRead)
-        × IsTableUnknown (W.known world.now).holds (option_copied name.entry))) }
+fn read_table<W: World>(world: &mut W, name: Option<&String>) -> Result<Option<Vec<u8>>, RunFault>
+    ensures { IsTableRead (change (W.state world.old) (W.state world.new))
+        (option_copied name.entry) result }
 {
     let Some(name) = name else {
         return Ok(None);

@@ -2,7 +2,7 @@
 //! status.
 
 ghost use Rattle.std.specs.Prelude.{◌≡◌, ◌&&◌, ◌||◌, false, not};
-ghost use Rattle.htl_program.specs.Opened.{opened};
+ghost use Rattle.htl_program.specs.Opened.{reach};
 ghost use Rattle.htl_program.specs.Programs.{DoesAnswer, DoesConverse, DoesDump, DoesEncode};
 ghost use Rattle.htl_program.specs.Programs.{EncodesOrRefuses, spoken, told};
 
@@ -28,7 +28,7 @@ use std::thread::Threads;
 pub(crate) fn do_answer<Rt: Threads + Sync, W: World, O: Output, P: Person>(
     rt: &Rt,
     alloc: Global,
-    world: &W,
+    world: &mut W,
     line: &CommandLine,
     run: &Run,
     inputs: &mut Inputs<W::Input>,
@@ -37,8 +37,7 @@ pub(crate) fn do_answer<Rt: Threads + Sync, W: World, O: Output, P: Person>(
     requires { (O.state console.old.out).failed ≡ false }
     ensures { DoesAnswer (P.is_watching console.old.person)
         (P.is_watching console.old.person || line.now.notes)
-        (W.known world.now)
-        (opened W.Input.state inputs.new)
+        (reach W.Input.state (W.state world.old) (W.state world.new) inputs.old inputs.new)
         (told O.state O.has_lost_reader P.heard console.old)
         (told O.state O.has_lost_reader P.heard console.new)
         line.now.command run.now result }
@@ -63,7 +62,7 @@ pub(crate) fn do_answer<Rt: Threads + Sync, W: World, O: Output, P: Person>(
 /// Prints segments as text.
 pub(crate) fn do_dump<W: World, O: Output, P: Person>(
     alloc: Global,
-    world: &W,
+    world: &mut W,
     line: &CommandLine,
     form: InputForm,
     files: &[String],
@@ -73,8 +72,7 @@ pub(crate) fn do_dump<W: World, O: Output, P: Person>(
     requires { (O.state console.old.out).failed ≡ false }
     ensures { DoesDump (P.is_watching console.old.person)
         (P.is_watching console.old.person || line.now.notes)
-        (W.known world.now)
-        (opened W.Input.state inputs.new)
+        (reach W.Input.state (W.state world.old) (W.state world.new) inputs.old inputs.new)
         (told O.state O.has_lost_reader P.heard console.old)
         (told O.state O.has_lost_reader P.heard console.new)
         line.now.command form files.now result }
@@ -105,7 +103,7 @@ pub(crate) fn do_dump<W: World, O: Output, P: Person>(
 /// Encodes texts as segments. It refuses to write their bytes to a terminal.
 pub(crate) fn do_encode<W: World, O: Output, P: Person>(
     alloc: Global,
-    world: &W,
+    world: &mut W,
     line: &CommandLine,
     hex: bool,
     files: &[String],
@@ -116,8 +114,7 @@ pub(crate) fn do_encode<W: World, O: Output, P: Person>(
     ensures { EncodesOrRefuses (not hex && P.sees_output console.old.person)
         (P.is_watching console.old.person)
         (P.is_watching console.old.person || line.now.notes)
-        (W.known world.now)
-        (opened W.Input.state inputs.new)
+        (reach W.Input.state (W.state world.old) (W.state world.new) inputs.old inputs.new)
         (told O.state O.has_lost_reader P.heard console.old)
         (told O.state O.has_lost_reader P.heard console.new)
         line.now.command hex files.now result }
@@ -131,7 +128,7 @@ pub(crate) fn do_encode<W: World, O: Output, P: Person>(
 /// Encodes texts to an output that isn't a terminal.
 fn encode_into<W: World, O: Output, P: Person>(
     alloc: Global,
-    world: &W,
+    world: &mut W,
     line: &CommandLine,
     hex: bool,
     files: &[String],
@@ -141,8 +138,7 @@ fn encode_into<W: World, O: Output, P: Person>(
     requires { (O.state console.old.out).failed ≡ false }
     ensures { DoesEncode (P.is_watching console.old.person)
         (P.is_watching console.old.person || line.now.notes)
-        (W.known world.now)
-        (opened W.Input.state inputs.new)
+        (reach W.Input.state (W.state world.old) (W.state world.new) inputs.old inputs.new)
         (told O.state O.has_lost_reader P.heard console.old)
         (told O.state O.has_lost_reader P.heard console.new)
         line.now.command hex files.now result }
@@ -173,7 +169,8 @@ fn encode_into<W: World, O: Output, P: Person>(
 /// Replies to the lines of standard input.
 pub(crate) fn do_converse<Rt: Threads + Sync, W: World, O: Output, P: Person, S: Speaker>(
     alloc: Global,
-    files: &Files<Rt, W>,
+    world: &mut W,
+    files: &Files<Rt>,
     line: &CommandLine,
     inputs: &mut Inputs<W::Input>,
     console: &mut Console<O, P>,
@@ -183,8 +180,7 @@ pub(crate) fn do_converse<Rt: Threads + Sync, W: World, O: Output, P: Person, S:
     ensures { DoesConverse (P.is_watching console.old.person)
         (P.is_watching console.old.person || line.now.notes)
         (spoken S.told S.noted S.left S.wants_absence S.counts speaker.old speaker.new)
-        (W.known files.now.world.now)
-        (opened W.Input.state inputs.new)
+        (reach W.Input.state (W.state world.old) (W.state world.new) inputs.old inputs.new)
         (told O.state O.has_lost_reader P.heard console.old)
         (told O.state O.has_lost_reader P.heard console.new)
         line.now.command files.now.dialogue.now result }
@@ -192,9 +188,10 @@ pub(crate) fn do_converse<Rt: Threads + Sync, W: World, O: Output, P: Person, S:
     let is_watched = console.person.is_watching();
     let in_words = console.says_words(line);
     console.person.begins(&line.command);
-    let mut questions = files.world.questions();
+    let mut questions = world.questions();
     let ended = converse(
         alloc,
+        world,
         files,
         &mut inputs.files,
         &mut questions,

@@ -1,8 +1,8 @@
 //! What the program opens.
 
-ghost use Rattle.std.specs.Prelude.{◌≡◌, None, Err, IfOk, IfSome, OnOk, false};
-ghost use Rattle.htl_device.specs.States.{fresh};
-ghost use Rattle.htl_program.specs.Worlds.{Known};
+ghost use Rattle.std.specs.Prelude.{◌≡◌, true};
+ghost use Rattle.htl_program.specs.Worlds.{IsOpened, IsReadWhole, IsStandard, WorldState};
+ghost use Rattle.htl_program.specs.Worlds.{for_questions, for_standard};
 
 use htl_device::Parted;
 
@@ -15,36 +15,32 @@ pub enum OpenFault {
     NoMemory,
 }
 
-/// Where files are: it has bytes under names, and a standard input.
+/// Where files are: it has bytes under names, and a standard input. It may keep a log of what it was
+/// asked for.
 pub trait World {
     type Input: Parted + Drop;
 
-    // What is known of it.
-    ghost known: { Self → Known };
+    // What is known of it, and what it was asked for so far.
+    ghost state: { Self → WorldState };
 
     /// The source of a name, of which nothing was read.
-    fn open(&self, name: &str) -> Result<Self::Input, OpenFault>
-        ensures bytes { IfOk result (λ input.
-            Self.Input.state input ≡ fresh ((known self.now).holds name.now)) }
-        ensures there { OnOk result ((known self.now).is_absent name.now ≡ false) }
-        ensures refused { result ≡ Err OpenFault.Refused → (known self.now).holds name.now ≡ None };
+    fn open(&mut self, name: &str) -> Result<Self::Input, OpenFault>
+        ensures { IsOpened Self.Input.state (state self.old) (state self.new) name.now result };
 
     /// All bytes of a name.
-    fn read(&self, name: &str) -> Result<Vec<u8>, OpenFault>
-        ensures bytes { IfOk result (λ bytes. IfSome ((known self.now).holds name.now)
-            (λ known. bytes.items ≡ known)) }
-        ensures there { OnOk result ((known self.now).is_absent name.now ≡ false) }
-        ensures refused { result ≡ Err OpenFault.Refused → (known self.now).holds name.now ≡ None };
+    fn read(&mut self, name: &str) -> Result<Vec<u8>, OpenFault>
+        ensures { IsReadWhole (state self.old) (state self.new) name.now result };
 
     /// Standard input, of which nothing was read.
-    fn standard_input(&self) -> Self::Input
-        ensures { Self.Input.state result ≡ fresh (known self.now).standard };
+    fn standard_input(&mut self) -> Self::Input
+        ensures { IsStandard Self.Input.state (state self.old) (state self.new) for_standard result };
 
     /// Standard input as the lines of a dialogue, of which nothing was read.
-    fn questions(&self) -> Self::Input
-        ensures { Self.Input.state result ≡ fresh (known self.now).standard };
+    fn questions(&mut self) -> Self::Input
+        ensures { IsStandard Self.Input.state (state self.old) (state self.new) for_questions result };
 
     /// Whether a name gives the same bytes, as fast, when it is opened again. A regular file does;
     /// a pipe or a device doesn't.
-    fn can_be_read_again(&self, name: &str) -> bool;
+    fn can_be_read_again(&self, name: &str) -> bool
+        ensures { result ≡ true → (state self.now).known.can_be_read_again name.now ≡ true };
 }

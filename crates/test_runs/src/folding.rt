@@ -251,6 +251,9 @@ const UNFIT: &[(Trace, &str, &str)] = &[
     ),
     (TRACE, "0/3: S 9", "hleak: case: C4(0, 3)"),
     (TRACE, "0/2: S 5", "hleak: case: C7(0, 2)"),
+    (TRACE, "0/2: S 6", "hleak: case: C7(0, 2)"),
+    (TRACE, "0/2: S 7, S 9", "hleak: case: C7(0, 3)"),
+    (TRACE, "0/4: S 9", "hleak: case: C7(0, 4)"),
 ];
 
 #[test]

@@ -63,7 +63,7 @@ fn copy_of(rt: &impl Abort, alloc: Global, text: &str) -> Vec<u8> {
 /// Whether the program ends so. At most one thing is said.
 fn is_obeyed(rt: &(impl Threads + Sync + Abort), alloc: Global, line: &Line) {
     let files = files(rt, alloc);
-    let world = Memory {
+    let mut world = Memory {
         alloc,
         files: &files,
         standard: line.input.as_bytes(),
@@ -85,7 +85,7 @@ fn is_obeyed(rt: &(impl Threads + Sync + Abort), alloc: Global, line: &Line) {
     let status = program(
         rt,
         alloc,
-        &world,
+        &mut world,
         arguments,
         &mut Inputs::new(alloc),
         &mut console,

@@ -1,7 +1,7 @@
 //! A world of memory: names, and the bytes that each holds.
 
 ghost use Rattle.std.specs.Prelude.{◌≡◌, None, Some, false, find, is_none, option_copied};
-ghost use Rattle.std.specs.Prelude.{option_map};
+ghost use Rattle.std.specs.Prelude.{option_map, true};
 ghost use Rattle.std.specs.Str.{bytes_eq};
 
 use htl_command::{Command, Job, ParseFault};
@@ -17,7 +17,7 @@ pub struct Named {
     pub bytes: Vec<u8>,
 }
 
-/// Names, of which the first of each counts, and standard input.
+/// Names, of which the first of each counts, and standard input. It keeps no log.
 #[derive(Clone, Copy)]
 pub struct Memory<'a> {
     pub alloc: Global,
@@ -38,21 +38,25 @@ impl<'a> Memory<'a> {
 impl<'a> World for Memory<'a> {
     type Input = Reading<&'a [u8]>;
 
-    ghost known = { λ world. record {
-      holds = λ name. option_map (λ file. file.bytes.items)
-          (find (λ file. bytes_eq file.name.now name) world.files.now);
-      is_absent = λ name. is_none (find (λ file. bytes_eq file.name.now name) world.files.now);
-      standard = Some world.standard.now;
+    ghost state = { λ world. record {
+      known = record {
+        holds = λ name. option_map (λ file. file.bytes.items)
+            (find (λ file. bytes_eq file.name.now name) world.files.now);
+        is_absent = λ name. is_none (find (λ file. bytes_eq file.name.now name) world.files.now);
+        can_be_read_again = λ name. true;
+        standard = Some world.standard.now;
+      };
+      asked = None;
     } };
 
-    fn open(&self, name: &str) -> Result<Reading<&'a [u8]>, OpenFault> {
+    fn open(&mut self, name: &str) -> Result<Reading<&'a [u8]>, OpenFault> {
         match self.named(name) {
             Some(file) => Ok(Reading::new(file.bytes.as_slice())),
             None => Err(OpenFault::Refused),
         }
     }
 
-    fn read(&self, name: &str) -> Result<Vec<u8>, OpenFault> {
+    fn read(&mut self, name: &str) -> Result<Vec<u8>, OpenFault> {
         let Some(file) = self.named(name) else {
             return Err(OpenFault::Refused);
         };
@@ -62,11 +66,11 @@ impl<'a> World for Memory<'a> {
         }
     }
 
-    fn standard_input(&self) -> Reading<&'a [u8]> {
+    fn standard_input(&mut self) -> Reading<&'a [u8]> {
         Reading::new(self.standard)
     }
 
-    fn questions(&self) -> Reading<&'a [u8]> {
+    fn questions(&mut self) -> Reading<&'a [u8]> {
         Reading::new(self.standard)
     }
 

@@ -1,5 +1,5 @@
 -- The place of the first `--` is that of its text.
-use Rattle.std.proofs.Common.{◌≡◌, ◌∙◌, rules, string_bytes, tests}
+use Rattle.std.proofs.Common.{◌∙◌, rules, string_bytes, tests}
 use Rattle.std.proofs.lemmas.Iterator.{YieldsList-from_slice}
 use Rattle.std.proofs.lemmas.Iterator.Search.{position_from_yields_List}
 use Rattle.htl_dialogue.proofs.Named.{position_of_texts}

@@ -1,17 +1,19 @@
 -- Inputs whose texts are known are opened once more, or memory is refused.
-use Rattle.std.proofs.Common.{◌∙◌, ap, inl, inr, map, rules}
+use Rattle.std.proofs.Common.{◌≡◌, ◌∙◌, ap, drop, inl, inr, length, map, rules, string_bytes}
 use Rattle.std.specs.Prelude.{Err}
 use Rattle.std.proofs.lemmas.Result.{err_from_is_err_and}
+use Rattle.htl_lemmas.proofs.Lists.{take_front}
 use Rattle.htl_main.specs.Origins.{by_fault}
 use Rattle.htl_program.specs.Worlds.{of_each}
+use Rattle.htl_program.proofs.Asked.{last_round}
 use Rattle.htl_program.proofs.FirstAbsent.{only_memory}
-use Rattle.htl_program.proofs.NamesRead.{inputs_unread}
+use Rattle.htl_program.proofs.NamesRead.{inputs_unread, run_of_names}
 use Rattle.htl_program.proofs.RanOut.{ran_out}
 use Rattle.htl_program.proofs.answering.run_again.Goals as goal
 
-pub returns-in_err-inputs : goal.returns-in_err-inputs
-returns-in_err-inputs g c =
-    let world = g.W.World.known c.args.world.now in
+pub returns-in_err-inputs-clause-run : goal.returns-in_err-inputs-clause-run
+returns-in_err-inputs-clause-run g c =
+    let world = (g.W.World.state c.args.world.now).known in
     let names = c.deref.result.now in
     let fault = c.in_err-inputs.field-0.0 in
     let refused = c.in_err-inputs.ensures.refused in
@@ -23,3 +25,18 @@ returns-in_err-inputs g c =
           (inl (ap (map g.W.Input.Source.state) c.clear.ensures.items, refused)));
       sink = search rules;
     }
+
+pub returns-in_err-inputs-clause-asked : goal.returns-in_err-inputs-clause-asked
+returns-in_err-inputs-clause-asked g c =
+    let p = err_from_is_err_and c.from_residual.result c.from_residual.ensures.1 in
+    last_round (map string_bytes c.args.run.now.files.items) (by_fault c.from_residual.result) 0 _ _ c.in_err-inputs.field-0.0
+    (ap by_fault p.1 ∙ ap Err p.2.0) (rw c.deref.ensures.value at c.in_err-inputs.ensures.asked)
+
+pub returns-clause-run : goal.returns-clause-run
+returns-clause-run g c =
+    let inputs = c.in_ok-inputs.field-0 in
+    let opened = c.in_ok-inputs.ensures in
+    let kept : length c.run_from.new.inputs ≡ inputs.len = search rules in
+    let back = take_front c.run_from.new.inputs (drop (length c.run_from.new.inputs) inputs.items) inputs.len kept in
+    rw back (run_of_names g.W.Input.Source.state (g.W.World.state c.args.world.now).known c.args.run.now _ inputs.items c.run_from.new.inputs _ _ _
+    opened.ready (rw c.deref.ensures.value at opened.bytes) (rw c.deref_mut.ensures.value at c.run_from.ensures))

@@ -1,18 +1,28 @@
 -- Inputs whose texts are known are opened once more, or memory is refused; and a run over them is one over their names.
-use Rattle.std.proofs.Common.{◌≡◌, ◌∙◌, ap, inl, inr, map, rules}
+use Rattle.std.proofs.Common.{◌≡◌, ◌∙◌, ap, drop, inl, inr, length, map, rules, string_bytes}
 use Rattle.std.specs.Prelude.{Err}
 use Rattle.std.proofs.lemmas.Result.{err_from_is_err_and}
 use Rattle.htl_device.specs.States.{lefts}
+use Rattle.htl_lemmas.proofs.Lists.{take_front}
 use Rattle.htl_main.specs.Origins.{by_fault}
 use Rattle.htl_program.specs.Worlds.{of_each, of_inputs}
+use Rattle.htl_program.proofs.Asked.{again, last_round, one_round}
 use Rattle.htl_program.proofs.FirstAbsent.{only_memory}
 use Rattle.htl_program.proofs.NamesRead.{inputs_unread, run_of_names}
 use Rattle.htl_program.proofs.RanOut.{ran_out}
 use Rattle.htl_program.proofs.answering.run_inputs.Goals as goal
 
-pub returns-in_err-inputs : goal.returns-in_err-inputs
-returns-in_err-inputs g c =
-    let world = g.W.World.known c.args.world.now in
+pub returns-then-not-can_pick-clause-run : goal.returns-then-not-can_pick-clause-run
+returns-then-not-can_pick-clause-run g c =
+    let inputs = c.args.inputs.now in
+    let kept : length c.run_from.new.inputs ≡ inputs.len = search rules in
+    let back = take_front c.run_from.new.inputs (drop (length c.run_from.new.inputs) inputs.items) inputs.len kept in
+    rw back (run_of_names g.W.Input.Source.state (g.W.World.state c.args.world.now).known c.args.run.now _ inputs.items c.run_from.new.inputs _ _ _
+    c.requires.ready c.requires.bytes (rw c.deref_mut.ensures.value at c.run_from.ensures))
+
+pub returns-in_err-inputs-clause-run : goal.returns-in_err-inputs-clause-run
+returns-in_err-inputs-clause-run g c =
+    let world = (g.W.World.state c.args.world.now).known in
     let names = c.deref.result.now in
     let fault = c.in_err-inputs.field-0.0 in
     let refused = c.in_err-inputs.ensures.refused in
@@ -25,12 +35,31 @@ returns-in_err-inputs g c =
       sink = search rules;
     }
 
-pub returns-in-Ok-pick_opened : goal.returns-in-Ok-pick_opened
-returns-in-Ok-pick_opened g c =
-    let world = g.W.World.known c.args.world.now in
+pub returns-in-Ok-pick_opened-clause-run : goal.returns-in-Ok-pick_opened-clause-run
+returns-in-Ok-pick_opened-clause-run g c =
+    let world = (g.W.World.state c.args.world.now).known in
     let state = g.W.Input.Source.state in
     let opened = c.in_ok-inputs.field-0.items in
     let bytes : lefts (map state opened) ≡ of_inputs world.holds world.standard c.args.run.now.files.items =
     rw (← c.deref.ensures.value) c.in_ok-inputs.ensures.bytes in
     rw (← c.in-Err-Process.ensures.unwritten) (run_of_names state world c.args.run.now _ opened _ _ _ _ c.in_ok-inputs.ensures.ready bytes
-    c.in-Ok-pick_opened.ensures.all c.in-Ok-pick_opened.ensures.ended)
+    c.in-Ok-pick_opened.ensures.ended)
+
+pub returns-in-Err-clause-asked : goal.returns-in-Err-clause-asked
+returns-in-Err-clause-asked g c =
+    let names = map string_bytes c.args.run.now.files.items in
+    let ended = by_fault c.run_again-in-Err.result in
+    let can = c.can_pick.ensures c.if-not-can_pick.false in
+    again names ended (g.W.World.state c.args.world.now).known c.args.run.now.job.setting.form.hex _ _ can.0 can.1 can.2
+    (one_round names ended 1 _ _ _ c.in_ok-inputs.field-0 (rw c.deref.ensures.value at c.in_ok-inputs.ensures.asked)
+    c.run_again-in-Err.ensures.asked)
+
+pub returns-in_err-inputs-clause-asked : goal.returns-in_err-inputs-clause-asked
+returns-in_err-inputs-clause-asked g c =
+    let names = map string_bytes c.args.run.now.files.items in
+    let ended = by_fault c.from_residual.result in
+    let can = c.can_pick.ensures c.if-not-can_pick.false in
+    let p = err_from_is_err_and c.from_residual.result c.from_residual.ensures.1 in
+    again names ended (g.W.World.state c.args.world.now).known c.args.run.now.job.setting.form.hex _ _ can.0 can.1 can.2
+    (last_round names ended 1 _ _ c.in_err-inputs.field-0.0 (ap by_fault p.1 ∙ ap Err p.2.0)
+    (rw c.deref.ensures.value at c.in_err-inputs.ensures.asked))

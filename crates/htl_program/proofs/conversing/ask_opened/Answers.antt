@@ -1,5 +1,5 @@
 -- Each line's reply is that of a run over what was read by then, and the inputs are read as by a run.
-use Rattle.std.proofs.Common.{◌≡◌, ◌∙◌, Bor, Option, None, drop, inl, length, map, refl, rules, Some, string_bytes}
+use Rattle.std.proofs.Common.{◌≡◌, ◌∙◌, [], Bor, Option, None, drop, inl, length, map, refl, rules, Some, string_bytes}
 use Rattle.std.specs.Prelude.{is_some}
 use Rattle.std.proofs.lemmas.Result.{err_from_is_err_and}
 use Rattle.std.specs.Option.{option_copied}
@@ -8,6 +8,7 @@ use Rattle.htl_main.proofs.ReadingLaws.{ends_too, read_then, well}
 use Rattle.htl_dialogue.proofs.Simulated.{converses_too, stops_too}
 use Rattle.htl_program.specs.Asking.{Opening, answers_over}
 use Rattle.htl_program.specs.Loads.{answers_from, is_state}
+use Rattle.htl_program.proofs.Asked.{asked_none}
 use Rattle.htl_program.proofs.Begun.{converses_begun, stops_begun}
 use Rattle.htl_program.proofs.KeptLaws.{Holds, holds_absence, holds_outcome, reading_more}
 use Rattle.htl_program.proofs.conversing.ask_opened.Goals as goal
@@ -53,7 +54,7 @@ returns-in_err-kept-clause-outcome g c =
 pub returns-in_err-conversed-clause-outcome : goal.returns-in_err-conversed-clause-outcome
 returns-in_err-conversed-clause-outcome g c =
     let p = err_from_is_err_and c.from_residual-in_err-conversed.result c.from_residual-in_err-conversed.ensures.1 in
-    let world = g.W.World.known c.args.files.now.world.now in
+    let world = (g.W.World.state c.args.world.now).known in
     let setting = c.args.files.now.dialogue.now.setting in
     let symbols = option_copied c.args.symbols in
     let begun = c.in_ok-kept.field-0 in
@@ -84,7 +85,7 @@ returns-in_err-conversed-clause-outcome g c =
 
 pub returns-clause-outcome : goal.returns-clause-outcome
 returns-clause-outcome g c =
-    let world = g.W.World.known c.args.files.now.world.now in
+    let world = (g.W.World.state c.args.world.now).known in
     let setting = c.args.files.now.dialogue.now.setting in
     let symbols = option_copied c.args.symbols in
     let begun = c.in_ok-kept.field-0 in
@@ -110,3 +111,13 @@ returns-clause-outcome g c =
           (record { covered = c.in_ok-kept.ensures.coverage; are = are.kept })
           (rw c.begins.ensures.same at c.in_ok-conversed.ensures.ok lines asked)),
     )
+
+pub returns-in_err-kept-clause-asked : goal.returns-in_err-kept-clause-asked
+returns-in_err-kept-clause-asked g c =
+    let p = err_from_is_err_and c.from_residual.result c.from_residual.ensures.1 in
+    rw (p.1, p.2) ([], asked_none (g.W.World.state c.args.world.now), refl)
+
+pub returns-in_err-conversed-clause-asked : goal.returns-in_err-conversed-clause-asked
+returns-in_err-conversed-clause-asked g c =
+    let p = err_from_is_err_and c.from_residual-in_err-conversed.result c.from_residual-in_err-conversed.ensures.1 in
+    rw (p.1, p.2) c.converse_lines.ensures.asked

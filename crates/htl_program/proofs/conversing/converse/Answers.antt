@@ -1,28 +1,65 @@
 -- What ends the opening of the files ends the dialogue.
-use Rattle.std.proofs.Common.{◌∙◌, inr, refl, rules}
+use Rattle.std.proofs.Common.{◌≡◌, ◌∙◌, Bool, List, Option, false, inl, inr, map, option_map, refl, rules, string_bytes, true, ℕ}
+use Rattle.htl_command.specs.declared.question.Setting.{Setting}
+use Rattle.htl_device.specs.States.{SourceState}
+use Rattle.htl_main.specs.Origins.{by_fault}
+use Rattle.htl_main.specs.declared.fault.RunFault.{RunFault}
+use Rattle.htl_main.specs.declared.origin.Between.TheVariants.{Nothing}
+use Rattle.htl_program.specs.Asking.{IsBeginsBetween, before_dialogue}
+use Rattle.htl_program.specs.Readings.{AreUnread}
+use Rattle.htl_program.specs.Rounds.{AsksLater}
+use Rattle.htl_program.proofs.Asked.{all_ended, all_then}
 use Rattle.htl_program.proofs.NamesRead.{inputs_read, inputs_unread}
-use Rattle.htl_program.proofs.PassedOn.{all_opened, same_end}
+use Rattle.htl_program.proofs.PassedOn.{ends_so, no_end}
 use Rattle.htl_program.proofs.conversing.converse.Goals as goal
 
+-- what could not be opened is about no two segments
+about_none : (folds : Bool) (setting : Setting) (texts : List (List ℕ)) (known holds : List (Option (List ℕ))) (absences : List Bool)
+    (now : List SourceState) (fault : RunFault) → AreUnread known holds absences now fault → IsBeginsBetween folds setting texts fault Nothing
+about_none false setting texts known holds absences now fault (inl (none, inl memory)) = rw memory refl
+about_none false setting texts known holds absences now fault (inl (none, inr (place, told, first))) = rw told refl
+about_none false setting texts known holds absences now fault (inr (ready, bytes, inl symbols)) = rw symbols refl
+about_none false setting texts known holds absences now fault (inr (ready, bytes, inr memory)) = rw memory refl
+about_none true setting texts known holds absences now fault (inl (none, inl memory)) = rw memory refl
+about_none true setting texts known holds absences now fault (inl (none, inr (place, told, first))) = rw told refl
+about_none true setting texts known holds absences now fault (inr (ready, bytes, inl symbols)) = rw symbols refl
+about_none true setting texts known holds absences now fault (inr (ready, bytes, inr memory)) = rw memory refl
+
 pub returns-in-Ok-clause-conversed : goal.returns-in-Ok-clause-conversed
-returns-in-Ok-clause-conversed g c = record {
-  outcome = λ texts table all has.
-      rw (c.in-Ok.ensures.table table has, ← c.as_bytes-symbols.ensures) (c.ask_opened.ensures.outcome texts (c.in-Ok.ensures.bytes ∙ all));
-  devices = search rules;
-  between = λ texts all. c.ask_opened.ensures.between texts (c.in-Ok.ensures.bytes ∙ all);
-  absent = λ place absent. all_opened place c.in-Ok.table (c.in-Ok.ensures.absent place absent);
-  untabled = search rules;
-  reads = inputs_read (g.W.World.known c.args.files.now.world.now) _ c.args.files.now.dialogue.now.files.items _ _ _ _
-      c.in-Ok.ensures.ready c.in-Ok.ensures.bytes c.ask_opened.ensures.all c.ask_opened.ensures.reading;
-}
+returns-in-Ok-clause-conversed g c =
+    let of = c.args.files.now.dialogue.now in
+    let is = c.in-Ok.ensures in
+    let bytes = rw c.deref.ensures.value at is.bytes in
+    let known : (g.W.World.state c.open_all.new.world).known ≡ (g.W.World.state c.args.world.now).known = is.asked.known in
+    let held = c.ask_opened.ensures in
+    record {
+      outcome = λ texts table all has.
+          rw (is.read table (rw (← c.as_ref.ensures.value) at has), ← c.as_bytes-symbols.ensures)
+          ((rw known at held.outcome) texts (bytes ∙ all));
+      devices = held.devices;
+      between = λ texts all. held.between texts (bytes ∙ all);
+      absent = rw (← c.deref.ensures.value) (λ place absent. no_end c.in-Ok.table (is.absent place absent));
+      untabled = rw (← c.deref.ensures.value, ← c.as_ref.ensures.value)
+          (λ texts all gone. no_end c.in-Ok.table (is.untabled texts all gone));
+      reads = inputs_read (g.W.World.state c.args.world.now).known _ of.files.items _ _ _ _ is.ready bytes held.reading;
+      asked = all_then (map string_bytes of.files.items) (option_map string_bytes of.symbols)
+          (by_fault (before_dialogue c.ask_opened.result)) (AsksLater (before_dialogue c.ask_opened.result)) _ _ _ c.in-Ok.table
+          (rw (c.deref.ensures.value, c.as_ref.ensures.value) at is.asked) held.asked;
+    }
 
 pub returns-in-Err-clause-conversed : goal.returns-in-Err-clause-conversed
-returns-in-Err-clause-conversed g c = record {
-  outcome = λ texts table all has. inr (c.in-Err.ensures.known texts table all has);
-  devices = search rules;
-  between = search rules;
-  absent = λ place absent. same_end place c.in-Err.fault (c.in-Err.ensures.absent place absent);
-  untabled = search rules;
-  reads = inputs_unread (g.W.World.known c.args.files.now.world.now) _ c.args.files.now.dialogue.now.files.items _ _ c.in-Err.fault refl
-      c.in-Err.ensures.unread;
-}
+returns-in-Err-clause-conversed g c =
+    let of = c.args.files.now.dialogue.now in
+    let fault = c.in-Err.fault in
+    let is = c.in-Err.ensures in
+    record {
+      outcome = rw (← c.deref.ensures.value, ← c.as_ref.ensures.value) (λ texts table all has. inr (is.known texts table all has));
+      devices = search rules;
+      between = λ texts all. about_none of.folds of.setting texts _ _ _ _ fault is.unread;
+      absent = rw (← c.deref.ensures.value) (λ place absent. ends_so _ fault refl (is.absent place absent));
+      untabled = rw (← c.deref.ensures.value, ← c.as_ref.ensures.value) (λ texts all gone. ends_so _ fault refl (is.untabled texts all gone));
+      reads = inputs_unread (g.W.World.state c.args.world.now).known _ of.files.items _ _ fault refl
+          (rw c.deref.ensures.value at is.unread);
+      asked = all_ended (map string_bytes of.files.items) (option_map string_bytes of.symbols) _ _ _ _ fault refl
+          (rw (c.deref.ensures.value, c.as_ref.ensures.value) at is.asked);
+    }

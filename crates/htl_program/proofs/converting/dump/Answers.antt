@@ -1,45 +1,52 @@
 -- A dump whose name could not be opened ends for the first that is absent, and where all are known for want of memory.
-use Rattle.std.proofs.Common.{◌≡◌, ◌∙◌, Err, ap, inl, inr, map, refl, rules}
+use Rattle.std.proofs.Common.{◌≡◌, ◌∙◌, Err, ap, drop, inl, inr, length, map, refl, rules, string_bytes}
+use Rattle.htl_lemmas.proofs.Lists.{take_front}
 use Rattle.htl_program.specs.Worlds.{of_each}
+use Rattle.htl_program.proofs.Asked.{once, once_ended}
 use Rattle.htl_program.proofs.FirstAbsent.{first_or_memory, none_absent, only_memory}
 use Rattle.htl_program.proofs.NamesRead.{inputs_read, inputs_unread}
 use Rattle.htl_program.proofs.converting.dump.Goals as goal
 
 pub returns-in_err-inputs-clause-dumped : goal.returns-in_err-inputs-clause-dumped
 returns-in_err-inputs-clause-dumped g c =
-    let world = g.W.World.known c.args.world.now in
+    let world = (g.W.World.state c.args.world.now).known in
     let names = c.args.files.now in
     let fault = c.in_err-inputs.field-0.0 in
-    let refused = c.in_err-inputs.ensures.refused in
-    let is : c.from_residual.result ≡ Err c.in_err-inputs.field-0.0 = search rules in
+    let opened = c.in_err-inputs.ensures in
+    let is : c.from_residual.result ≡ Err fault = search rules in
     record {
       ends = λ texts all. inr (
-        is ∙ ap Err (only_memory world.holds world.standard names texts (of_each world.is_absent names) fault all refused),
+        is ∙ ap Err (only_memory world.holds world.standard names texts (of_each world.is_absent names) fault all opened.refused),
         refl,
       );
       absent = λ place absent. (
-        first_or_memory c.from_residual.result (of_each world.holds names) (of_each world.is_absent names) fault place is refused absent,
+        first_or_memory c.from_residual.result (of_each world.holds names) (of_each world.is_absent names) fault place is opened.refused absent,
         refl,
       );
-      reads = inputs_unread world _ names _ _ fault is (inl (ap (map g.W.Input.Source.state) c.clear.ensures.items, refused));
+      reads = inputs_unread world _ names _ _ fault is (inl (ap (map g.W.Input.Source.state) c.clear.ensures.items, opened.refused));
       failed = search rules;
+      asked = once_ended (map string_bytes names) c.from_residual.result _ _ fault is opened.asked;
     }
 
 pub returns-clause-dumped : goal.returns-clause-dumped
 returns-clause-dumped g c =
-    let world = g.W.World.known c.args.world.now in
+    let world = (g.W.World.state c.args.world.now).known in
     let names = c.args.files.now in
-    record {
-      ends = λ texts all. inl (c.dump_opened.ensures.dumped.outcome texts (c.in_ok-inputs.ensures.bytes ∙ all));
-      absent = λ place absent. absurd (none_absent (of_each world.holds names) (of_each world.is_absent names) place
-          c.in_ok-inputs.ensures.there absent);
-      reads = inputs_read world _ names _ _ _ _ c.in_ok-inputs.ensures.ready c.in_ok-inputs.ensures.bytes c.dump_opened.ensures.all
-          c.dump_opened.ensures.dumped.reading;
-      failed = search rules;
-    }
+    let inputs = c.in_ok-inputs.field-0 in
+    let opened = c.in_ok-inputs.ensures in
+    let kept : length c.dump_from.new.inputs ≡ inputs.len = search rules in
+    let back = take_front c.dump_from.new.inputs (drop (length c.dump_from.new.inputs) inputs.items) inputs.len kept in
+    let is = rw c.deref_mut.ensures.value at c.dump_from.ensures in
+    rw back (record {
+      ends = λ texts all. inl (is.outcome texts (opened.bytes ∙ all));
+      absent = λ place absent. absurd (none_absent (of_each world.holds names) (of_each world.is_absent names) place opened.there absent);
+      reads = inputs_read world _ names _ inputs.items _ _ opened.ready opened.bytes is.reading;
+      failed = is.failed;
+      asked = once (map string_bytes names) c.dump_from.result _ _ inputs opened.asked;
+    })
 
 pub returns-clause-untouched : goal.returns-clause-untouched
 returns-clause-untouched g c =
-    let world = g.W.World.known c.args.world.now in
+    let world = (g.W.World.state c.args.world.now).known in
     let names = c.args.files.now in
     λ place absent. absurd (none_absent (of_each world.holds names) (of_each world.is_absent names) place c.in_ok-inputs.ensures.there absent)

@@ -7,8 +7,9 @@ use Rattle.htl_device.specs.declared.whole.TheConstants.{MAX_READS}
 use Rattle.htl_dialogue.specs.Dialogues.{AreRead, is_end}
 use Rattle.htl_dialogue.specs.Sayings.{saying}
 use Rattle.htl_dialogue.proofs.Conversing.{begins, ended, replied, replied_last}
-use Rattle.htl_dialogue.proofs.Stopping.{all_read, before_read, endless, read_failed, stopped, stopped_between, too_many, unreplied}
+use Rattle.htl_dialogue.proofs.Stopping.{all_read, before_read, read_failed, stopped, stopped_between, too_many, unreplied}
 use Rattle.htl_program.specs.Loads.{is_state}
+use Rattle.htl_program.proofs.Asked.{more_names, no_names}
 use Rattle.htl_program.proofs.OfForm.{of_form}
 use Rattle.htl_program.proofs.dialogue.converse_lines.Goals as goal
 
@@ -19,6 +20,7 @@ loop-line-init g c = record {
   writable = c.requires.out;
   form = refl;
   wants = refl;
+  asked = no_names (g.W.World.state c.args.world.now);
   so_far = λ text known. begins c.fine-conversed.result
       (rw (c.in_ok-held.ensures, prepend_known-nil (g.Q.Source.state c.args.questions.now).remaining) known)
       c.fine-conversed.ensures.wrong c.fine-conversed.ensures.first;
@@ -36,13 +38,14 @@ loop-line-preserved g c =
       writable = search rules;
       form = c.in_ok-line.ensures.form ∙ inv.form;
       wants = c.reply.ensures.same ∙ same;
+      asked = more_names _ _ _ inv.asked c.reply.ensures.asked;
       so_far = λ text known. replied (inv.so_far text known)
           (record { found = c.in_ok-next.ensures.ok; says = rw alike at c.in_ok-said.ensures.said; keeps = rw alike at c.in_ok-said.ensures.fault }) goes_on
           (record {
             waiting = c.awaits.new.self;
             waited = c.awaits.ensures.told;
             line = c.in_ok-line.line;
-            replies = rw (inv.form, same) at c.in_ok-line.ensures.ok;
+            replies = rw (inv.form, same, inv.asked.1.known) at c.in_ok-line.ensures.ok;
             wrong = c.then-conversed.ensures.wrong;
             first = c.then-conversed.ensures.first;
           }) c.if-next.false;
@@ -66,7 +69,7 @@ returns-then-next-clause-ok g c =
       waiting = c.awaits.new.self;
       waited = c.awaits.ensures.told;
       line = c.in_ok-line.line;
-      replies = rw (inv.form, same) at c.in_ok-line.ensures.ok;
+      replies = rw (inv.form, same, inv.asked.1.known) at c.in_ok-line.ensures.ok;
       wrong = c.then-conversed.ensures.wrong;
       first = c.then-conversed.ensures.first;
     }) c.if-next.true
@@ -105,7 +108,7 @@ returns-in_err-next-clause-questions g c =
     let failed = read_failed c.in_err-next.field-0.0 (let same = sym p.1 ∙ is in sym p.2 ∙ cc) in
     elim (c.in_err-next.ensures.failed (ap (λ f. Err f) failed)) [
       | inl bad ↦ inl bad
-      | inr many ↦ inr (endless (g.Q.Source.state c.args.questions.now).remaining MAX_READS c.loop-line.invariant.so_far many)
+      | inr many ↦ inr (inl many)
     ]
 
 pub returns-in_err-said-clause-stops : goal.returns-in_err-said-clause-stops
@@ -128,7 +131,7 @@ returns-in_err-line-clause-stops g c =
     (g.O.Sink.state c.reply.new.out).contents c.awaits.new.self c.reply.new.host failed (g.O.Sink.state c.reply.new.out).failed
     c.in_err-line.field-0.0 c.awaits.ensures.told
     (record { found = c.in_ok-next.ensures.ok; says = rw alike at c.in_ok-said.ensures.said; keeps = rw alike at c.in_ok-said.ensures.fault }) goes_on
-    (rw inv.form at c.in_err-line.ensures.err) fine)
+    (rw (inv.form, inv.asked.1.known) at c.in_err-line.ensures.err) fine)
 
 pub returns-clause-stops : goal.returns-clause-stops
 returns-clause-stops g c =
@@ -138,4 +141,13 @@ returns-clause-stops g c =
 
 pub returns-clause-questions : goal.returns-clause-questions
 returns-clause-questions g c =
-    λ _. inr (too_many (g.Q.Source.state c.args.questions.now).remaining MAX_READS c.loop-line.invariant.so_far c.loop-line-test.false)
+    λ _. inr (inr (too_many (g.Q.Source.state c.args.questions.now).remaining MAX_READS c.loop-line.invariant.so_far c.loop-line-test.false))
+
+pub returns-then-next-clause-asked : goal.returns-then-next-clause-asked
+returns-then-next-clause-asked g c = more_names _ _ _ c.loop-line.invariant.asked c.reply.ensures.asked
+
+pub returns-in_err-line-clause-asked : goal.returns-in_err-line-clause-asked
+returns-in_err-line-clause-asked g c = more_names _ _ _ c.loop-line.invariant.asked c.reply.ensures.asked
+
+pub returns-in_err-held-clause-asked : goal.returns-in_err-held-clause-asked
+returns-in_err-held-clause-asked g c = no_names (g.W.World.state c.args.world.now)

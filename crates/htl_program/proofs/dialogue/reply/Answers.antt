@@ -1,5 +1,5 @@
 -- What is replied and told is what is said of the line, also where the reply could not be written.
-use Rattle.std.proofs.Common.{◌≡◌, ◌∙◌, ℕ, List, [], ◌∷◌, ◌++◌, Ok, Err, inl, inr, map, refl, string_bytes}
+use Rattle.std.proofs.Common.{◌≡◌, ◌∙◌, ℕ, List, [], ◌∷◌, Ok, Err, inl, inr, map, refl, string_bytes}
 use Rattle.std.specs.Prelude.{Result}
 use Rattle.std.proofs.KnownBytes.{Appends-nil}
 use Rattle.std.proofs.lemmas.Result.{err_from_is_err_and}
@@ -8,6 +8,7 @@ use Rattle.htl_dialogue.specs.Notes.{first_fault, reads, refuses}
 use Rattle.htl_dialogue.specs.Replying.{fault_of}
 use Rattle.htl_main.specs.declared.adding.Added.{Added}
 use Rattle.htl_main.specs.declared.refused.Refused.{Refused}
+use Rattle.htl_program.proofs.Asked.{no_names}
 use Rattle.htl_program.proofs.dialogue.reply.Goals as goal
 
 fault_is_first : (files : List (List ℕ)) (ended : Result Added Refused) → fault_of ended ≡ first_fault (reads files ended ∷ [])
@@ -79,7 +80,7 @@ returns-in_ok-write-in-Reads-clause-ok g c =
       reply = reading_reply ended;
       early = reads files ended ∷ [];
       late = [];
-      replied = (ended, rw (c.deref.ensures.value) at c.in_ok-ended-in-Reads.ensures, refl, refl);
+      replied = (ended, rw (c.deref.ensures.value) at c.in_ok-ended-in-Reads.ensures.read, refl, refl);
       told_late = refl;
       written = rw (c.as_bytes.ensures.value, c.in_ok-text-in-Reads.ensures) at c.in_ok-write-in-Reads.ensures.ok;
       all = rw (c.deref-in-Reads.ensures.value) at c.reads.ensures.told;
@@ -99,8 +100,23 @@ returns-in_err-write-in-Reads-clause-err g c =
         after = c.read.new.kept;
         reply = reading_reply ended;
         early = reads files ended ∷ [];
-        replied = (ended, rw (c.deref.ensures.value) at c.in_ok-ended-in-Reads.ensures, refl, refl);
+        replied = (ended, rw (c.deref.ensures.value) at c.in_ok-ended-in-Reads.ensures.read, refl, refl);
         written = failed.2;
         all = rw (c.deref-in-Reads.ensures.value) at c.reads.ensures.told;
       },
     )
+
+pub returns-in_err-write-in-Wrong-clause-asked : goal.returns-in_err-write-in-Wrong-clause-asked
+returns-in_err-write-in-Wrong-clause-asked g c = no_names (g.W.World.state c.args.world.now)
+
+pub returns-in_ok-conversed-in-Asks-clause-ok : goal.returns-in_ok-conversed-in-Asks-clause-ok
+returns-in_ok-conversed-in-Asks-clause-ok g c =
+    rw c.in-Asks.is (c.in_ok-conversed-in-Asks.ensures.ok (g.W.World.state c.args.world.now).known)
+
+pub returns-in_err-conversed-in-Asks-clause-err : goal.returns-in_err-conversed-in-Asks-clause-err
+returns-in_err-conversed-in-Asks-clause-err g c =
+    let p = err_from_is_err_and c.from_residual-in_err-conversed-in-Asks.result c.from_residual-in_err-conversed-in-Asks.ensures.1 in
+    rw (p.1, p.2, c.in-Asks.is) (c.in_err-conversed-in-Asks.ensures.err (g.W.World.state c.args.world.now).known)
+
+pub returns-in_err-conversed-in-Asks-clause-asked : goal.returns-in_err-conversed-in-Asks-clause-asked
+returns-in_err-conversed-in-Asks-clause-asked g c = no_names (g.W.World.state c.args.world.now)

@@ -1,66 +1,139 @@
--- One name more was opened, or it could not be.
-use Rattle.std.proofs.Common.{◌≡◌, ◌++◌, ◌∷◌, ◌∙◌, [], None, Some, All, ap, false, inr, map, refl, rules, subst, sym, take}
-use Rattle.std.specs.Prelude.{string_bytes}
+-- The world is asked for one name more, which is opened, or can't be.
+use Rattle.std.proofs.Common.{◌≡◌, ◌+◌, ◌++◌, ◌∷◌, ◌∙◌, [], All, List, None, Option, Some, ap, false, inl, inr, map, refl, rules, subst}
+use Rattle.std.proofs.Common.{sym, take, ℕ, Bool}
+use Rattle.std.specs.Prelude.{slice_get, string_bytes}
 use Rattle.std.proofs.lemmas.List.{map-append}
 use Rattle.std.proofs.lemmas.List.Elements.{All-push}
+use Rattle.std.proofs.lemmas.Result.{err_from_is_err_and}
 use Rattle.htl_device.specs.States.{AreOpen, IsOpen, fresh, lefts, remaining}
-use Rattle.htl_program.specs.Worlds.{of_each}
-use Rattle.htl_program.proofs.Names.{at_place, one_more, all_taken}
+use Rattle.htl_main.specs.declared.fault.RunFault.{RunFault}
+use Rattle.htl_program.specs.Readings.{IsUnopenedFor}
+use Rattle.htl_program.specs.Rounds.{unopened}
+use Rattle.htl_program.specs.Worlds.{Ask, IsAsked, of_each, to_open}
+use Rattle.htl_program.specs.declared.world.OpenFault.{OpenFault}
+use Rattle.htl_program.specs.declared.world.OpenFault.TheVariants.{NoMemory, Refused}
+use Rattle.htl_program.proofs.Asked.{asked_more, asked_none}
+use Rattle.htl_program.proofs.Names.{all_taken, at_place, name_at, one_more}
 use Rattle.htl_program.proofs.opening.open_files.Goals as goal
 
-pub returns-in-Err-Refused : goal.returns-in-Err-Refused
-returns-in-Err-Refused g c =
-    let same : c.deref.result.now ≡ string_bytes c.index-names-place.result = search rules in
-    let none : (g.W.World.known c.args.world.now).holds c.deref.result.now ≡ None = search rules in
+-- the world gives a name
+abbrev gives : List ℕ → Ask
+gives name = to_open name None
+
+-- what is reported of a name that could not be opened, where each before it could be
+reported : (holds : List (Option (List ℕ))) (absences : List Bool) (place : ℕ) (why : OpenFault) (fault : RunFault) → fault ≡ unopened place why
+    → (why ≡ Refused → slice_get holds place ≡ Some None) → All (λ absent. absent ≡ false) (take place absences)
+    → IsUnopenedFor holds absences fault
+reported holds absences place NoMemory fault is here before = inl is
+reported holds absences place Refused fault is here before = inr (place, is, record { here = here refl; before = before })
+
+pub loop-place-init : goal.loop-place-init
+loop-place-init g c = record {
+  ready = search rules;
+  bytes = search rules;
+  there = search rules;
+  asked = asked_none (g.W.World.state c.args.world.now);
+}
+
+pub returns-in_err-push-in-Ok : goal.returns-in_err-push-in-Ok
+returns-in_err-push-in-Ok g c =
+    let p = err_from_is_err_and c.from_residual.result c.from_residual.ensures.1 in
+    let names = c.args.names.now in
+    let place = c.loop-place.place in
+    let name = c.deref.result.now in
+    let same : name ≡ string_bytes c.index-names-place.result = search rules in
+    let more = one_more gives names place c.index-names-place.result name c.loop-place-test.true c.index-names-place.is same in
+    let asked : IsAsked (g.W.World.state c.loop-place.world) (g.W.World.state c.open.new.self) (gives name ∷ []) = search rules in
+    rw (p.1, p.2) (record {
+      ready = tt;
+      bytes = tt;
+      there = tt;
+      refused = inl refl;
+      asked = (
+        take place (of_each gives names) ++ gives name ∷ [],
+        asked_more c.loop-place.invariant.asked asked,
+        (place + 1, inl (sym more, refl)),
+      );
+    })
+
+pub returns-in-Err : goal.returns-in-Err
+returns-in-Err g c =
+    let inv = c.loop-place.invariant in
+    let known = (g.W.World.state c.args.world.now).known in
+    let names = c.args.names.now in
+    let place = c.loop-place.place in
+    let name = c.deref.result.now in
+    let why = c.in-Err.why in
+    let same : name ≡ string_bytes c.index-names-place.result = search rules in
+    let none : why ≡ Refused → (g.W.World.state c.loop-place.world).known.holds name ≡ None = λ is. search rules in
+    let here = at_place known.holds names place c.index-names-place.result name c.loop-place-test.true c.index-names-place.is same in
+    let asked : IsAsked (g.W.World.state c.loop-place.world) (g.W.World.state c.open.new.self) (to_open name (Some why) ∷ []) = search rules in
     record {
       ready = tt;
       bytes = tt;
       there = tt;
-      refused = inr (
-        c.loop-place.place,
-        refl,
-        record {
-          here = at_place (g.W.World.known c.args.world.now).holds c.args.names.now c.loop-place.place c.index-names-place.result
-              c.deref.result.now c.loop-place-test.true c.index-names-place.is same ∙ ap Some none;
-          before = c.loop-place.invariant.there;
-        },
+      refused = reported (of_each known.holds names) (of_each known.is_absent names) place why c.unopened.result c.unopened.ensures
+          (λ is. here ∙ ap Some (rw inv.asked.known at none is)) inv.there;
+      asked = (
+        take place (of_each gives names) ++ to_open name (Some why) ∷ [],
+        asked_more inv.asked asked,
+        (
+          place,
+          inr (
+            name,
+            why,
+            name_at names place c.index-names-place.result name c.loop-place-test.true c.index-names-place.is same,
+            refl,
+            c.unopened.ensures,
+          ),
+        ),
       );
     }
 
 pub loop-place-preserved : goal.loop-place-preserved
 loop-place-preserved g c =
-    let same : c.deref.result.now ≡ string_bytes c.index-names-place.result = search rules in
-    let holds = one_more (g.W.World.known c.args.world.now).holds c.args.names.now c.loop-place.place c.index-names-place.result
-    c.deref.result.now c.loop-place-test.true c.index-names-place.is same in
-    let absent = one_more (g.W.World.known c.args.world.now).is_absent c.args.names.now c.loop-place.place c.index-names-place.result
-    c.deref.result.now c.loop-place-test.true c.index-names-place.is same in
+    let inv = c.loop-place.invariant in
+    let names = c.args.names.now in
+    let place = c.loop-place.place in
+    let name = c.deref.result.now in
+    let known = (g.W.World.state c.args.world.now).known in
+    let before = (g.W.World.state c.loop-place.world).known in
+    let same : name ≡ string_bytes c.index-names-place.result = search rules in
+    let holds = one_more known.holds names place c.index-names-place.result name c.loop-place-test.true c.index-names-place.is same in
+    let absent = one_more known.is_absent names place c.index-names-place.result name c.loop-place-test.true c.index-names-place.is same in
+    let more = one_more gives names place c.index-names-place.result name c.loop-place-test.true c.index-names-place.is same in
+    let asked : IsAsked (g.W.World.state c.loop-place.world) (g.W.World.state c.open.new.self) (gives name ∷ []) = search rules in
     let state = g.W.Input.Source.state in
     let old = map state c.loop-place.inputs.items in
     let input = state c.in-Ok.input in
-    let is : input ≡ fresh ((g.W.World.known c.args.world.now).holds c.deref.result.now) = search rules in
-    let there : (g.W.World.known c.args.world.now).is_absent c.deref.result.now ≡ false = search rules in
+    let given : input ≡ fresh (before.holds name) = search rules in
+    let is : input ≡ fresh (known.holds name) = rw inv.asked.known at given in
+    let opens_it : before.is_absent name ≡ false = search rules in
+    let there : known.is_absent name ≡ false = rw inv.asked.known at opens_it in
     let ready : IsOpen input = rw is (record { fine = refl; inside = refl }) in
     let pushed : c.push.new.self.items ≡ c.loop-place.inputs.items ++ c.in-Ok.input ∷ [] = search rules in
     let states : map state c.push.new.self.items ≡ old ++ input ∷ [] =
     ap (map state) pushed ∙ map-append state c.loop-place.inputs.items (c.in-Ok.input ∷ []) in
     record {
-      ready = subst (λ l. AreOpen l) (sym states) (All-push (λ source. IsOpen source) old input c.loop-place.invariant.ready ready);
-      bytes = ap (λ l. lefts l) states ∙ map-append remaining old (input ∷ [])
-          ∙ ap (λ l. l ++ input.remaining ∷ []) c.loop-place.invariant.bytes
-          ∙ ap (λ x. take c.loop-place.place (of_each (g.W.World.known c.args.world.now).holds c.args.names.now) ++ x.remaining ∷ []) is ∙ sym holds;
+      ready = subst (λ l. AreOpen l) (sym states) (All-push (λ source. IsOpen source) old input inv.ready ready);
+      bytes = ap (λ l. lefts l) states ∙ map-append remaining old (input ∷ []) ∙ ap (λ l. l ++ input.remaining ∷ []) inv.bytes
+          ∙ ap (λ x. take place (of_each known.holds names) ++ x.remaining ∷ []) is ∙ sym holds;
       there = subst (λ l. All (λ absent. absent ≡ false) l) (sym absent)
-          (All-push (λ absent. absent ≡ false) (take c.loop-place.place (of_each (g.W.World.known c.args.world.now).is_absent c.args.names.now))
-          ((g.W.World.known c.args.world.now).is_absent c.deref.result.now) c.loop-place.invariant.there there);
+          (All-push (λ absent. absent ≡ false) (take place (of_each known.is_absent names)) (known.is_absent name) inv.there there);
+      asked = rw more (asked_more inv.asked asked);
     }
 
 pub returns : goal.returns
-returns g c = record {
-  ready = c.loop-place.invariant.ready;
-  bytes = c.loop-place.invariant.bytes
-      ∙ all_taken (g.W.World.known c.args.world.now).holds c.args.names.now c.loop-place.place c.loop-place-test.false c.loop-place.auto.place-end;
-  there = subst (λ l. All (λ absent. absent ≡ false) l)
-      (all_taken (g.W.World.known c.args.world.now).is_absent c.args.names.now c.loop-place.place c.loop-place-test.false
-      c.loop-place.auto.place-end)
-      c.loop-place.invariant.there;
-  refused = tt;
-}
+returns g c =
+    let inv = c.loop-place.invariant in
+    let known = (g.W.World.state c.args.world.now).known in
+    let names = c.args.names.now in
+    let under = c.loop-place-test.false in
+    let within = c.loop-place.auto.place-end in
+    record {
+      ready = inv.ready;
+      bytes = inv.bytes ∙ all_taken known.holds names c.loop-place.place under within;
+      there = subst (λ l. All (λ absent. absent ≡ false) l) (all_taken known.is_absent names c.loop-place.place under within) inv.there;
+      refused = tt;
+      asked = rw (all_taken gives names c.loop-place.place under within) at inv.asked;
+    }

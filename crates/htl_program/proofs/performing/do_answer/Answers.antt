@@ -7,6 +7,7 @@ pub returns : goal.returns
 returns g c = record {
   ended = c.answer-ended.result;
   is = search rules;
+  questions = search rules;
   status_is = search rules;
   after_run = g.P.Person.heard c.ends.new.self;
   hears_run = run_told _ _ _ c.args.line.now.command c.begins.ensures c.ends.ensures;

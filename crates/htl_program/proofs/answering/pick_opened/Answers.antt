@@ -3,7 +3,7 @@ use Rattle.std.proofs.Common.{◌≡◌, ◌∙◌, Err, ap, drop, false, length
 use Rattle.htl_lemmas.proofs.Lists.{take_front}
 use Rattle.htl_program.proofs.PassedOn.{no_fault, same_fault}
 use Rattle.htl_program.proofs.SourcesRead.{about_none, as_answered, as_refused}
-use Rattle.htl_program.proofs.running.pick_opened.Goals as goal
+use Rattle.htl_program.proofs.answering.pick_opened.Goals as goal
 
 pub returns-in-Err-clause-ended : goal.returns-in-Err-clause-ended
 returns-in-Err-clause-ended g c =

@@ -1,6 +1,7 @@
 pub mod Arguments
+pub mod Disks
 pub mod Explanations
-pub mod Inputs
+pub mod Files
 pub mod Meanings
 pub mod Notes
 pub mod Openings

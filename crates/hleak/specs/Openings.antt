@@ -1,4 +1,4 @@
--- What the system says of a file, and what a read of it came to.
+-- What the system says of a file, and why it could not be opened.
 use Rattle.std.specs.Prelude.{◌≡◌, ◌⊎◌, ⊤, ℕ, Bool, true, false, Result, Ok, Err}
 use Rattle.std.specs.Prelude.{Option, None, Some}
 use Rattle.std.specs.Fs.{IsDir, IsFile, file_type, metadata_len}
@@ -15,11 +15,11 @@ IsKnownLen (Ok of) None = ¬ IsFile (file_type of)
 IsKnownLen (Err refused) (Some len) = ⊥
 IsKnownLen (Err refused) None = ⊤
 
--- it stays open unless the system says that it is a regular file or a folder
-abbrev pub StaysOpen : {E : Type 0} → Result Metadata E → Bool → Type 0
-StaysOpen (Ok of) true = (¬ IsFile (file_type of)) × (¬ IsDir (file_type of))
-StaysOpen (Ok of) false = IsFile (file_type of) ⊎ IsDir (file_type of)
-StaysOpen (Err refused) stays = stays ≡ true
+-- it gives other bytes each time that it is opened, unless the system says that it is a regular file or a folder
+abbrev pub IsStream : {E : Type 0} → Result Metadata E → Bool → Type 0
+IsStream (Ok of) true = (¬ IsFile (file_type of)) × (¬ IsDir (file_type of))
+IsStream (Ok of) false = IsFile (file_type of) ⊎ IsDir (file_type of)
+IsStream (Err refused) is_stream = is_stream ≡ true
 
 -- why a file could not be opened or read, as the system says
 abbrev pub open_fault : ErrorKind → OpenFault

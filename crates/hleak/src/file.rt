@@ -1,56 +1,65 @@
 //! A file that is open only while it is read.
 
-ghost use Rattle.std.specs.Prelude.{◌≡◌, ◌≤◌, ◌+◌, ◌-◌, ◌^◌, IfOk, OnErr, OnOk, Ok, length, min};
-ghost use Rattle.std.specs.Prelude.{option_map, string_bytes};
-ghost use Rattle.hleak.specs.Openings.{IsKnownLen, StaysOpen};
-ghost use Rattle.hleak.specs.Stages.{IsBegun, IsStageAfter, IsUnread, is_unread};
+ghost use Rattle.std.specs.Prelude.{◌≡◌, ◌≤◌, ◌↔◌, IfOk, IfSome, OnErr, OnOk, false, length, true};
+ghost use Rattle.std.specs.Prelude.{string_bytes};
+ghost use Rattle.std.specs.Io.KnownBytes.{ReadConsumes};
+ghost use Rattle.htl_device.specs.Devices.{tail_of};
+ghost use Rattle.hleak.specs.Disks.{IsAnswered};
+ghost use Rattle.hleak.specs.Files.{IsLenBehind, left_of};
+ghost use Rattle.hleak.specs.Stages.{IsBegun, IsStageAfter, is_unread};
 
-use std::fs::{File, Metadata};
+use crate::disk::{Disk, Found};
+use std::alloc::Global;
 use std::io;
-use std::io::{Read, Seek, SeekFrom};
+use std::io::Read;
 
 /// How far the reading of a file has come.
 #[derive(Drop)]
-pub enum Stage {
+pub enum Stage<F> {
     /// Nothing was read, and the file isn't open.
     Found,
-    Open(File),
+    Open(F),
     /// The end was found, and the file isn't open any more.
     Ended,
 }
 
-/// A file of a name, which is opened at its first read and closed once its end is found.
+/// A file of a name, which is opened at its first read and closed once its end is found. Or standard
+/// input, which is open from the first.
 #[derive(Drop)]
-pub struct InputFile {
-    rt: HostRuntime,
+pub struct InputFile<D: Disk> {
+    disk: D,
     name: String,
-    /// The length of the file as it was found, less the skipped bytes.
+    /// The length of a regular file as it was found, less the skipped bytes.
     len: Option<u64>,
     /// How many bytes in front aren't read.
     skipped: u64,
-    stage: Stage,
+    stage: Stage<D::File>,
+    ghost fits: { IsLenBehind len skipped ((D.known disk).holds (string_bytes name)) },
 }
 
-impl InputFile {
+impl<D: Disk> InputFile<D> {
     /// The file of this name, where it can be opened. It is closed again until it is read, so that
-    /// there may be more files than may be open at once. What gives other bytes each time that it is
-    /// opened, as a pipe or a terminal, stays open.
-    pub fn find(rt: &HostRuntime, name: &str) -> io::Result<InputFile>
-        ensures name { IfOk result (λ found. string_bytes found.name ≡ name.now) }
-        ensures unread { IfOk result (λ found. IsUnread found.stage) }
-        ensures front { IfOk result (λ found. found.skipped ≡ 0) }
+    /// there may be more files than may be open at once. A stream stays open.
+    pub fn find(disk: D, alloc: Global, name: &str) -> io::Result<InputFile<D>>
+        ensures answered { IsAnswered (D.known disk) name.now result }
+        ensures bytes { IfOk result (λ found. ⟦<InputFile<D> as Read>⟧.remaining found
+            ≡ (D.known disk).holds name.now) }
+        ensures closed { IfOk result (λ found. IfSome (D.is_stream disk name.now)
+            (λ is_stream. found.stage ≡ Stage.Found ↔ is_stream ≡ false)) }
     {
-        let file = File::open(rt, name)?;
-        let name = String::from_str(rt.alloc(), name)?;
-        let metadata = file.metadata();
-        let len = known_len(&metadata);
-        let stage = if stays_open(&metadata) {
+        let Found {
+            file,
+            len,
+            is_stream,
+        } = disk.find(name)?;
+        let name = String::from_str(alloc, name)?;
+        let stage = if is_stream {
             Stage::Open(file)
         } else {
             Stage::Found
         };
         Ok(InputFile {
-            rt: *rt,
+            disk,
             name,
             len,
             skipped: 0,
@@ -58,7 +67,20 @@ impl InputFile {
         })
     }
 
-    /// The length of the file as it was found, less the skipped bytes, if it is known.
+    /// Standard input.
+    pub fn standard(disk: D, alloc: Global) -> InputFile<D>
+        ensures { ⟦<InputFile<D> as Read>⟧.remaining result ≡ (D.known disk).standard }
+    {
+        InputFile {
+            disk,
+            name: String::new(alloc),
+            len: None,
+            skipped: 0,
+            stage: Stage::Open(disk.standard()),
+        }
+    }
+
+    /// The length of a regular file as it was found, less the skipped bytes.
     pub fn len(&self) -> Option<u64>
         ensures { result ≡ self.now.len }
     {
@@ -72,34 +94,39 @@ impl InputFile {
         matches!(self.stage, Stage::Found) && self.len.is_some()
     }
 
-    /// The file from an offset on behind what is skipped, opened once more. No contract knows what
-    /// a file holds, so none says where it is read from.
-    pub fn tail(&self, offset: u64) -> io::Result<File> {
-        let mut file = File::open(&self.rt, &self.name)?;
-        file.seek(SeekFrom::Start(self.skipped.saturating_add(offset)))?;
-        Ok(file)
+    /// The file from an offset on behind what is skipped, opened once more.
+    pub fn tail(&self, offset: u64) -> io::Result<D::File>
+        requires { is_unread self.now.stage self.now.len ≡ true }
+        ensures { IfOk result (λ file. D.File.remaining file
+            ≡ tail_of offset (⟦<InputFile<D> as Read>⟧.remaining self.now)) }
+    {
+        self.disk
+            .open(&self.name, self.skipped.saturating_add(offset))
     }
 
-    /// Skips bytes of a file of which nothing was read: reading begins behind them.
+    /// Skips bytes of a regular file of which nothing was read: reading begins behind them.
     pub fn skip(&mut self, len: u64)
-        ensures front { self.new.skipped ≡ min (self.old.skipped + len) (2 ^ 64 - 1) }
-        ensures len { self.new.len ≡ option_map (λ left. left - len) self.old.len }
-        ensures stage { self.new.stage ≡ self.old.stage }
-        ensures name { self.new.name ≡ self.old.name }
+        requires { is_unread self.old.stage self.old.len ≡ true }
+        ensures { ⟦<InputFile<D> as Read>⟧.remaining self.new
+            ≡ tail_of len (⟦<InputFile<D> as Read>⟧.remaining self.old) }
     {
+        let left = self.len.map(|left| left.saturating_sub(len));
         self.skipped = self.skipped.saturating_add(len);
-        self.len = self.len.map(|left| left.saturating_sub(len));
+        self.len = left;
     }
 
     /// Opens the file, where that wasn't done.
     fn begin(&mut self) -> io::Result<()>
         ensures begun { OnOk result (IsBegun self.old.stage self.new.stage) }
-        ensures refused { OnErr result ((self.new ≡ self.old) × (self.old.stage ≡ Stage.Found)) }
-        ensures name { self.new.name ≡ self.old.name }
-        ensures front { self.new.skipped ≡ self.old.skipped }
+        ensures refused { OnErr result ((self.old.stage ≡ Stage.Found)
+            × (self.new.stage ≡ Stage.Found)) }
+        ensures bytes { ⟦<InputFile<D> as Read>⟧.remaining self.new
+            ≡ ⟦<InputFile<D> as Read>⟧.remaining self.old }
+        ensures same { (self.new.name ≡ self.old.name) × (self.new.len ≡ self.old.len)
+            × (self.new.skipped ≡ self.old.skipped) }
     {
         if let Stage::Found = self.stage {
-            self.stage = Stage::Open(self.tail(0)?);
+            self.stage = Stage::Open(self.disk.open(&self.name, self.skipped)?);
         }
         Ok(())
     }
@@ -108,11 +135,13 @@ impl InputFile {
     /// there are no bytes, and the file isn't opened again.
     fn read_on(&mut self, buffer: &mut [u8]) -> io::Result<usize>
         ensures bound { IfOk result (λ count. count ≤ length buffer.new) }
+        ensures len { length buffer.new ≡ length buffer.old }
+        ensures bytes { ReadConsumes (⟦<InputFile<D> as Read>⟧.remaining self.old)
+            (⟦<InputFile<D> as Read>⟧.remaining self.new) result buffer.new }
         ensures stage { IfOk result (λ count.
             IsStageAfter self.old.stage (length buffer.old) count self.new.stage) }
-        ensures ended { self.old.stage ≡ Stage.Ended → (result ≡ Ok 0) }
-        ensures name { self.new.name ≡ self.old.name }
-        ensures front { self.new.skipped ≡ self.old.skipped }
+        ensures same { (self.new.name ≡ self.old.name) × (self.new.len ≡ self.old.len)
+            × (self.new.skipped ≡ self.old.skipped) }
     {
         self.begin()?;
         let Stage::Open(file) = &mut self.stage else {
@@ -126,29 +155,11 @@ impl InputFile {
     }
 }
 
-impl Read for InputFile {
+impl<D: Disk> Read for InputFile<D> {
+    ghost remaining = { λ s. left_of D.File.remaining ((D.known s.disk).holds (string_bytes s.name))
+        s.skipped s.stage };
+
     fn read(&mut self, buffer: &mut [u8]) -> io::Result<usize> {
         self.read_on(buffer)
-    }
-}
-
-/// How many bytes a file has. A pipe, a terminal or the like doesn't say.
-pub fn known_len(metadata: &io::Result<Metadata>) -> Option<u64>
-    ensures { IsKnownLen metadata.now result }
-{
-    match metadata {
-        Ok(metadata) if metadata.is_file() => Some(metadata.len()),
-        _ => None,
-    }
-}
-
-/// Whether a file stays open until it is read, since opening it once more would give other bytes. A
-/// folder is closed, though it can't be read.
-fn stays_open(metadata: &io::Result<Metadata>) -> bool
-    ensures { StaysOpen metadata.now result }
-{
-    match metadata {
-        Ok(metadata) => !metadata.is_file() && !metadata.is_dir(),
-        Err(_) => true,
     }
 }

@@ -2,34 +2,38 @@
 
 ghost use Rattle.std.specs.Prelude.{◌≡◌, is_some};
 ghost use Rattle.htl_device.specs.States.{fresh};
-ghost use Rattle.hleak.specs.Inputs.{unread_file};
+ghost use Rattle.hleak.specs.Stages.{is_unread};
 
-use crate::input::{Device, Input};
+use crate::disk::Disk;
+use crate::input::Input;
 use htl_device::{Failed, Parted, Reading, Source};
-use std::fs::File;
 use std::io::Read;
 
 /// An input of the program as a source.
 #[derive(Drop)]
-pub struct InputSource<'a> {
-    reading: Reading<Input<'a, Device>>,
+pub struct InputSource<'a, D: Disk> {
+    reading: Reading<Input<'a, D>>,
+    /// How often another reader was asked for.
+    tails: u64,
 }
 
-impl<'a> InputSource<'a> {
+impl<'a, D: Disk> InputSource<'a, D> {
     /// The input as a source that was not read yet.
-    pub fn new(input: Input<'a, Device>) -> InputSource<'a>
-        ensures input { result.reading.reader ≡ input.entry }
-        ensures state { ⟦<InputSource<'a> as Source>⟧.state result
-            ≡ fresh (⟦<Input<'a, Device> as Read>⟧.remaining input.entry) }
+    pub fn new(input: Input<'a, D>) -> InputSource<'a, D>
+        ensures { ⟦<InputSource<'a, D> as Source>⟧.state result
+            ≡ fresh (⟦<Input<'a, D> as Read>⟧.remaining input.entry) }
     {
         InputSource {
             reading: Reading::new(input),
+            tails: 0,
         }
     }
 }
 
-impl<'a> Source for InputSource<'a> {
-    ghost state = { λ s. ⟦<Reading<Input<'a, Device>> as Source>⟧.state s.reading };
+impl<'a, D: Disk> Source for InputSource<'a, D> {
+    ghost state = { λ s. record (⟦<Reading<Input<'a, D>> as Source>⟧.state s.reading) {
+      tails = s.tails;
+    } };
 
     fn ended(&self) -> bool {
         self.reading.ended()
@@ -41,20 +45,34 @@ impl<'a> Source for InputSource<'a> {
 }
 
 /// A file can be opened once more for each part.
-impl Parted for InputSource<'_> {
-    type Tail = File;
+impl<'a, D: Disk> Parted for InputSource<'a, D>
+where
+    D::File: Send,
+{
+    type Tail = D::File;
 
-    ghost is_parted = { λ s. is_some (unread_file s.reading.reader.device) };
+    ghost is_parted = { λ s. is_unread s.reading.reader.file.stage s.reading.reader.file.len };
 
     fn len(&self) -> Option<u64> {
-        self.reading.reader.unread_file()?.len()
+        let file = &self.reading.reader.file;
+        if !file.is_unread() {
+            return None;
+        }
+        file.len()
     }
 
-    fn tail(&self, offset: u64) -> Option<File> {
-        self.reading.reader.unread_file()?.tail(offset).ok()
+    fn tail(&mut self, offset: u64) -> Option<D::File> {
+        self.tails = self.tails.saturating_add(1);
+        let file = &self.reading.reader.file;
+        if !file.is_unread() {
+            return None;
+        }
+        file.tail(offset).ok()
     }
 
     fn skip(&mut self, len: u64) {
-        self.reading.reader.skip(len);
+        if self.reading.reader.file.is_unread() {
+            self.reading.reader.skip(len);
+        }
     }
 }

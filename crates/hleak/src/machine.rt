@@ -1,37 +1,38 @@
-//! The files and the standard input of the machine. No contract knows what its files hold, so no
-//! clause says what is opened. Each body here is a line or two, to be read; `.ci/statuses` and
-//! `.ci/picks` test that it opens the right name.
+//! What the program opens: the files and the standard input of a disk.
 
-ghost use Rattle.std.specs.Prelude.{◌≡◌, Err, IfErr, IfOk, None, Ok, false};
+ghost use Rattle.std.specs.Prelude.{◌≡◌, Err, IfErr, IfOk, None, Ok};
 ghost use Rattle.std_io.specs.IoError.{error_kind};
+ghost use Rattle.htl_device.specs.States.{fresh};
 ghost use Rattle.hleak.specs.Openings.{open_fault};
 
-use crate::file::{InputFile, known_len};
+use crate::disk::Disk;
+use crate::file::InputFile;
 use crate::input::Input;
 use crate::input_source::InputSource;
 use crate::progress::Progress;
 use crate::reason::LastRefusal;
 use crate::shown::Shown;
+use htl_device::Source;
 use htl_program::{OpenFault, World};
-use std::os::unix::fs::FileTypeExt;
-use std::{fs, io};
+use std::io;
 
 /// What the program opens. What is read of it is counted where somebody watches, and why something is
 /// refused is noted.
 #[derive(Clone, Copy)]
-pub struct Machine<'p> {
+pub struct Machine<'p, D: Disk> {
     pub rt: HostRuntime,
+    pub disk: D,
     /// Shows how much was read, where a person watches.
     pub progress: Option<&'p Progress>,
     pub refusal: &'p LastRefusal,
 }
 
-impl<'p> Machine<'p> {
+impl<'p, D: Disk> Machine<'p, D> {
     /// Says to a person who watches that a pipe of this name is waited for: opening it lasts until
     /// somebody writes to it. Those of the process itself, as the shell's `<(..)`, are open already.
     fn await_writer(&self, name: &str) {
         let is_open = name.starts_with("/dev/") || name.starts_with("/proc/");
-        if self.progress.is_some() && !is_open && is_pipe(&self.rt, name) {
+        if self.progress.is_some() && !is_open && self.disk.is_pipe(name) {
             let _ = eprintln!(self.rt; "hleak: waiting for {}", Shown::name(name));
         }
     }
@@ -52,39 +53,49 @@ impl<'p> Machine<'p> {
             }
         }
     }
+
+    /// Standard input, which is counted where somebody watches. What a person types is not.
+    fn standard(&self, progress: Option<&'p Progress>) -> InputSource<'p, D>
+        ensures { ⟦<InputSource<'p, D> as Source>⟧.state result
+            ≡ fresh (D.known self.now.disk).standard }
+    {
+        let progress = progress.filter(|_| !self.disk.is_typed());
+        let file = InputFile::standard(self.disk, self.rt.alloc());
+        InputSource::new(Input::new(file, self.disk.standard_len(), progress, self.refusal))
+    }
 }
 
-impl<'p> World for Machine<'p> {
-    type Input = InputSource<'p>;
+impl<'p, D: Disk> World for Machine<'p, D>
+where
+    D::File: Send,
+{
+    type Input = InputSource<'p, D>;
 
-    // Nothing is known of it.
-    ghost known = { λ _. record {
-      holds = λ _. None;
-      is_absent = λ _. false;
-      standard = None;
-    } };
+    // It keeps no log of what it was asked for.
+    ghost state = { λ machine. record { known = D.known machine.disk; asked = None } };
 
-    fn open(&self, name: &str) -> Result<InputSource<'p>, OpenFault> {
+    fn open(&mut self, name: &str) -> Result<InputSource<'p, D>, OpenFault> {
         self.await_writer(name);
-        let file = self.opened(InputFile::find(&self.rt, name))?;
-        Ok(InputSource::new(Input::file(file, self.progress, self.refusal)))
+        let file = self.opened(InputFile::find(self.disk, self.rt.alloc(), name))?;
+        let len = file.len();
+        Ok(InputSource::new(Input::new(file, len, self.progress, self.refusal)))
     }
 
-    fn read(&self, name: &str) -> Result<Vec<u8>, OpenFault> {
+    fn read(&mut self, name: &str) -> Result<Vec<u8>, OpenFault> {
         self.await_writer(name);
-        self.opened(fs::read(&self.rt, name))
+        self.opened(self.disk.read(name))
     }
 
-    fn standard_input(&self) -> InputSource<'p> {
-        InputSource::new(Input::standard(&self.rt, self.progress, self.refusal))
+    fn standard_input(&mut self) -> InputSource<'p, D> {
+        self.standard(self.progress)
     }
 
-    fn questions(&self) -> InputSource<'p> {
-        InputSource::new(Input::standard(&self.rt, None, self.refusal))
+    fn questions(&mut self) -> InputSource<'p, D> {
+        self.standard(None)
     }
 
     fn can_be_read_again(&self, name: &str) -> bool {
-        known_len(&fs::metadata(&self.rt, name)).is_some()
+        self.disk.can_be_read_again(name)
     }
 }
 
@@ -96,13 +107,5 @@ fn fault_of(error: &io::Error) -> OpenFault
         OpenFault::NoMemory
     } else {
         OpenFault::Refused
-    }
-}
-
-/// Whether the name is that of a pipe.
-fn is_pipe(rt: &HostRuntime, name: &str) -> bool {
-    match fs::metadata(rt, name) {
-        Ok(metadata) => metadata.file_type().is_fifo(),
-        Err(_) => false,
     }
 }

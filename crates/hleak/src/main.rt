@@ -2,9 +2,9 @@
 //! over those in files, prints segments as text or makes them of text, or explains a code.
 //!
 //! What its arguments ask for is done by `htl_program`, for any world. Here is the world of the
-//! machine (`machine.rt`), whose files (`file.rt`) are opened once they are read (`input.rt`), also by
-//! several workers (`input_source.rt`), and the person who reads standard error (`terminal.rt`).
-//! `listener.rt` writes there beside the replies of a dialogue.
+//! machine (`machine.rt`): the files of its disk (`disk.rt`), which are opened once they are read
+//! (`file.rt`, `input.rt`), also by several workers (`input_source.rt`). And here is the person who
+//! reads standard error (`terminal.rt`). `listener.rt` writes there beside the replies of a dialogue.
 //!
 //! Where standard error is a terminal, a person reads more: `progress.rt` shows how much was read,
 //! `lacking.rt` says what a question lacks in the segments, `note.rt` that segments are missing, and
@@ -13,10 +13,11 @@
 //! characters of names from the terminal.
 #![tactic(auto)]
 
-ghost use Rattle.std.specs.Prelude.{⊤, IfErr, IfOk};
+ghost use Rattle.std.specs.Prelude.{◌≡◌, ⊤, IfErr, IfOk, drop};
 ghost use Rattle.htl_command.specs.Refusals.{IsUsageWith};
 ghost use Rattle.hleak.specs.Arguments.{AreArguments};
 
+mod disk;
 mod explaining;
 mod file;
 mod input;
@@ -37,7 +38,7 @@ use listener::Listener;
 use machine::Machine;
 use progress::Progress;
 use reason::LastRefusal;
-use std::alloc::AllocError;
+use std::alloc::{AllocError, Global};
 use std::io::IsTerminal;
 use std::process::ExitCode;
 use std::{env, io};
@@ -52,8 +53,9 @@ fn main(rt: HostRuntime) -> ExitCode {
     };
     let progress = progress.as_ref();
     let refusal = LastRefusal::new();
-    let world = Machine {
+    let mut world = Machine {
         rt,
+        disk: rt,
         progress,
         refusal: &refusal,
     };
@@ -71,7 +73,7 @@ fn main(rt: HostRuntime) -> ExitCode {
         Ok(arguments) => program(
             &rt,
             rt.alloc(),
-            &world,
+            &mut world,
             arguments,
             &mut Inputs::new(rt.alloc()),
             &mut console,
@@ -82,13 +84,15 @@ fn main(rt: HostRuntime) -> ExitCode {
     ExitCode::from(status)
 }
 
-/// The arguments after the program's name. A person who gives none at a terminal is shown the short
-/// help: the stored run would wait for digits that are typed.
+/// The arguments after the program's name.
 fn arguments(rt: &HostRuntime) -> Result<Vec<String>, ParseFault>
     ensures { IfErr result (IsUsageWith ⊤) }
 {
     match env::args(rt) {
-        Ok(arguments) => Ok(or_help(rt, arguments.skip(1).collect(rt.alloc())?)?),
+        Ok(words) => {
+            let given = behind_name(words.collect(rt.alloc())?);
+            Ok(or_help(rt.alloc(), given, rt.stdin().is_terminal())?)
+        }
         Err(error) if error.kind() == io::ErrorKind::InvalidData => {
             Err(ParseFault::no_text(rt.alloc()))
         }
@@ -96,12 +100,23 @@ fn arguments(rt: &HostRuntime) -> Result<Vec<String>, ParseFault>
     }
 }
 
-/// The arguments, or the one for the short help where there is none and standard input is a terminal.
-fn or_help(rt: &HostRuntime, mut given: Vec<String>) -> Result<Vec<String>, AllocError>
-    ensures { IfOk result (λ arguments. AreArguments given.items arguments.items) }
+/// The words behind the first, which is the program's name.
+fn behind_name(mut words: Vec<String>) -> Vec<String>
+    ensures { result.items ≡ drop 1 words.items }
 {
-    if given.is_empty() && rt.stdin().is_terminal() {
-        given.push(String::from_str(rt.alloc(), "-h")?)?;
+    if !words.is_empty() {
+        words.remove(0);
+    }
+    words
+}
+
+/// The arguments, or the one for the short help where there is none and standard input is a terminal:
+/// the stored run would wait for digits that are typed.
+fn or_help(alloc: Global, mut given: Vec<String>, is_typed: bool) -> Result<Vec<String>, AllocError>
+    ensures { IfOk result (λ arguments. AreArguments is_typed given.items arguments.items) }
+{
+    if given.is_empty() && is_typed {
+        given.push(String::from_str(alloc, "-h")?)?;
     }
     Ok(given)
 }

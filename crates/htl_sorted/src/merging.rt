@@ -48,7 +48,7 @@ pub fn merge<L: Joined, A: Allocator>(
     // Two rows of one key leave room over, which is given back at the end. To count such keys first
     // would be one more walk over both lists.
     let most = left.len().saturating_add(right.len());
-    let mut rows = Vec::with_capacity(alloc, most)?;
+    let mut rows = Vec::with_capacity(alloc, room_for(most))?;
     let mut i = 0;
     let mut j = 0;
     while i < left.len() && j < right.len() {
@@ -71,8 +71,15 @@ pub fn merge<L: Joined, A: Allocator>(
     }
     append::<L, A>(&mut rows, &left[i..])?;
     append::<L, A>(&mut rows, &right[j..])?;
-    rows.shrink_to_fit();
+    rows.shrink_to(room_for(rows.len()));
     Ok(rows)
+}
+
+/// The room for a list of this length: at most a quarter more. So a list that grows a little at a
+/// time takes blocks of few sizes, and those that it gives back serve others.
+fn room_for(len: usize) -> usize {
+    let step = 1 << len.max(1).ilog2().saturating_sub(2);
+    len.saturating_add(step - 1) / step * step
 }
 
 fn append<L: Joined, A: Allocator>(

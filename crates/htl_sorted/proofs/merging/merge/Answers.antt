@@ -56,8 +56,8 @@ returns-clause-sorted g c =
       | then-loop-i-test+else-j-right w ↦ omega arith
       | else-loop-i-test w ↦ omega arith
     ] in
-    let rest = rests_behind c.loop-i.rows.items c.args.left.now c.args.right.now c.append.new.rows.items c.shrink_to_fit.new.self.items
-    c.loop-i.i c.loop-i.j c.in_ok-append.ensures (c.shrink_to_fit.ensures.items ∙ c.in_ok-append-2.ensures) in
+    let rest = rests_behind c.loop-i.rows.items c.args.left.now c.args.right.now c.append.new.rows.items c.shrink_to.new.self.items
+    c.loop-i.i c.loop-i.j c.in_ok-append.ensures (c.shrink_to.ensures.items ∙ c.in_ok-append-2.ensures) in
     merged_sorted g.L.Keyed.key_of g.L.Keyed.value_of g.L.Key.Ord.cmp g.L.Joined.joined c.args.left.now c.args.right.now
     g.met.L.Key.Ord.total c.requires.left c.requires.right c.loop-i.i c.loop-i.j _ _ c.loop-i.invariant one rest
 
@@ -67,7 +67,7 @@ returns-clause-values g c =
       | then-loop-i-test+else-j-right w ↦ omega arith
       | else-loop-i-test w ↦ omega arith
     ] in
-    let rest = rests_behind c.loop-i.rows.items c.args.left.now c.args.right.now c.append.new.rows.items c.shrink_to_fit.new.self.items
-    c.loop-i.i c.loop-i.j c.in_ok-append.ensures (c.shrink_to_fit.ensures.items ∙ c.in_ok-append-2.ensures) in
+    let rest = rests_behind c.loop-i.rows.items c.args.left.now c.args.right.now c.append.new.rows.items c.shrink_to.new.self.items
+    c.loop-i.i c.loop-i.j c.in_ok-append.ensures (c.shrink_to.ensures.items ∙ c.in_ok-append-2.ensures) in
     merged_value g.L.Keyed.key_of g.L.Keyed.value_of g.L.Key.Ord.cmp g.L.Joined.joined c.args.left.now c.args.right.now
     g.met.L.Key.Ord.total c.requires.left c.requires.right c.loop-i.i c.loop-i.j _ _ c.loop-i.invariant one rest

@@ -1,1 +1,2 @@
+pub mod PrintedPlaces
 pub mod Stacked

@@ -14,5 +14,5 @@ pub mod ReferenceStacks
 pub mod Summaries
 pub mod Texts
 pub mod Names
-
--- What only private contracts cite: nothing.
+-- What only private contracts cite: where lines of stacks stand.
+pub mod Printed

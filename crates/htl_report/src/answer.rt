@@ -38,12 +38,13 @@ pub fn text(
 {
     let mut out = String::new(alloc);
     write_head(&mut out, answer.question, answer.since)?;
-    write_rows(&mut out, &answer.rows, symbols, until, top)?;
+    write_rows(alloc, &mut out, &answer.rows, symbols, until, top)?;
     Ok(out.into_bytes())
 }
 
 /// Writes the numbers of the first line, and the lines of the rows.
 fn write_rows(
+    alloc: Global,
     out: &mut String,
     rows: &Rows,
     symbols: &Symbols,
@@ -56,11 +57,11 @@ fn write_rows(
     match rows {
         Rows::Opens(rows) => {
             write_count(out, until, rows.len())?;
-            write_opens(out, symbols, first_rows(top, rows))
+            write_opens(alloc, out, symbols, first_rows(top, rows))
         }
         Rows::Listing(rows) => {
             write_count(out, until, rows.len())?;
-            write_listing(out, symbols, first_rows(top, rows))
+            write_listing(alloc, out, symbols, first_rows(top, rows))
         }
         Rows::Tags(rows) => {
             write_count(out, until, rows.len())?;
@@ -68,7 +69,7 @@ fn write_rows(
         }
         Rows::Bad(rows) => {
             write_count(out, until, rows.len())?;
-            write_bad(out, symbols, first_rows(top, rows))
+            write_bad(alloc, out, symbols, first_rows(top, rows))
         }
         Rows::Leaks(rows) => {
             write_count(out, until, rows.len())?;

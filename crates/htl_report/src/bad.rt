@@ -3,12 +3,13 @@
 ghost use Rattle.std.specs.Prelude.{◌≡◌, ◌++◌, OnOk, flat_map, string_bytes};
 ghost use Rattle.htl_report.specs.BadReferences.{bad_line, bad_lines};
 
-use crate::address::write_stack;
+use crate::printed::Printed;
 use htl_event::SharedStack;
 use htl_symbols::Symbols;
-use std::alloc::AllocError;
+use std::alloc::{AllocError, Global};
 
 pub(crate) fn write_bad(
+    alloc: Global,
     out: &mut String,
     symbols: &Symbols,
     rows: &[(u32, SharedStack, u64)],
@@ -16,9 +17,10 @@ pub(crate) fn write_bad(
     ensures { OnOk result (string_bytes out.new
         ≡ string_bytes out.old ++ flat_map (bad_lines symbols.now) rows.now) }
 {
+    let mut printed = Printed::new(alloc, rows.len())?;
     for (handle, stack, times) in rows {
         write_line(out, *handle, *times)?;
-        write_stack(out, symbols, stack.frames())?;
+        printed.write_stack(out, symbols, stack)?;
     }
     Ok(())
 }

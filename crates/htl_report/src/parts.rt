@@ -3,8 +3,9 @@
 ghost use Rattle.std.specs.Prelude.{◌≡◌, ◌++◌, ◌<◌, OnOk, string_bytes};
 ghost use Rattle.htl_report.specs.Parts.{count_part, counts, event_line, event_lines, object_part};
 ghost use Rattle.htl_report.specs.Parts.{shown_byte, shown_tag, until_part};
+ghost use Rattle.htl_report.specs.Printed.{HasPrinted};
 
-use crate::address::write_stack;
+use crate::printed::Printed;
 use htl_event::{Count, SharedEvent};
 use htl_numbers::write_hex_digits;
 use htl_symbols::Symbols;
@@ -47,18 +48,21 @@ pub(crate) fn write_count(
 }
 
 /// Writes an event, with this word and this handle, and its stack.
-pub(crate) fn write_event(
+pub(crate) fn write_event<'a>(
     out: &mut String,
     symbols: &Symbols,
+    printed: &mut Printed<'a>,
     word: &str,
     handle: u32,
-    event: &SharedEvent,
+    event: &'a SharedEvent,
 ) -> Result<(), AllocError>
-    ensures { OnOk result (string_bytes out.new
+    requires { HasPrinted symbols.now (string_bytes out.old) printed.old }
+    ensures text { OnOk result (string_bytes out.new
         ≡ string_bytes out.old ++ event_lines symbols.now word.now handle event.now) }
+    ensures kept { OnOk result (HasPrinted symbols.now (string_bytes out.new) printed.new) }
 {
     write_event_line(out, word, handle, event)?;
-    write_stack(out, symbols, event.stack.frames())
+    printed.write_stack(out, symbols, &event.stack)
 }
 
 #[tactic(auto, unfolding(crate::specs::Parts::event_line))]

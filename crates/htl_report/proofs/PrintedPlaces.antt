@@ -1,8 +1,6 @@
 -- Lines that stand at a place stand there still once more was written, and can be copied from there.
-use Rattle.std.proofs.Common.{◌≡◌, ◌++◌, ◌-◌, ◌%◌, ◌<◌, ◌≤◌, ◌∙◌, [], ℕ, List, IsUtf8, ap, append_assoc, arith, drop, get_or, length}
-use Rattle.std.proofs.Common.{length-append, slice_range, subst, sym, take, vec_len}
-use Rattle.std.specs.String.Boundary.{IsSplitPoint}
-use Rattle.std.specs.Vec.{with_item}
+use Rattle.std.proofs.Common.{◌≡◌, ◌++◌, ◌-◌, ◌%◌, ◌<◌, ◌≤◌, ◌∙◌, [], ℕ, List, IsCharBoundary, IsUtf8, ap, append_assoc, arith, drop, get_or, length}
+use Rattle.std.proofs.Common.{length-append, set, slice_range, subst, sym, take}
 use Rattle.std.proofs.Math.Seq.{drop-append_seam, take-append_seam}
 use Rattle.std.proofs.lemmas.List.{append-nil, length-set}
 use Rattle.std.proofs.lemmas.List.Elements.{All-set}
@@ -12,7 +10,6 @@ use Rattle.htl_symbols.specs.Ranges.{Range}
 use Rattle.htl_report.specs.Addresses.{stack_lines}
 use Rattle.htl_report.specs.Printed.{HasPrinted, IsPrinted}
 use Rattle.htl_report.specs.declared.printed.Place.{Place}
-use Rattle.htl_report.specs.declared.printed.Printed.{Printed}
 
 printed_on : {symbols : List Range} {text : List ℕ} {place : Place} (more : List ℕ) → IsPrinted symbols text place
     → IsPrinted symbols (text ++ more) place
@@ -26,26 +23,25 @@ printed_on {symbols} {text} {place} more p = record {
   ends = p.ends;
 }
 
-pub has_printed_on : {symbols : List Range} {text : List ℕ} {printed : Printed} (new more : List ℕ) → new ≡ text ++ more
-    → HasPrinted symbols text printed → HasPrinted symbols new printed
-has_printed_on {symbols} {text} {printed} new more e h =
-    subst (λ t. HasPrinted symbols t printed) (sym e) (record { some = h.some; each = λ k d lt. printed_on more (h.each k d lt) })
+pub has_printed_on : {symbols : List Range} {text : List ℕ} {places : List Place} (new more : List ℕ) → new ≡ text ++ more
+    → HasPrinted symbols text places → HasPrinted symbols new places
+has_printed_on {symbols} {text} {places} new more e h =
+    subst (λ t. HasPrinted symbols t places) (sym e) (record { some = h.some; each = λ k d lt. printed_on more (h.each k d lt) })
 
 -- a text may be cut behind a part of it that is a text
-cut_behind : (text front back : List ℕ) (n : ℕ) → text ≡ front ++ back → n ≡ length front → IsUtf8 front → IsUtf8 text → IsSplitPoint text n
+cut_behind : (text front back : List ℕ) (n : ℕ) → text ≡ front ++ back → n ≡ length front → IsUtf8 front → IsUtf8 text → IsCharBoundary text n
 cut_behind text front back n e here begins whole =
     let fits : n ≤ length text = omega (arith, here, ap length e, length-append front back) in
     let front_is : front ≡ take n text = sym (ap (λ m. take m text) here ∙ ap (take (length front)) e ∙ take-append_seam front back) in
-    let cut = IsCharBoundary-from_take text n whole fits (subst IsUtf8 front_is begins) in
-    (cut.0, λ some. cut.1)
+    IsCharBoundary-from_take text n whole fits (subst IsUtf8 front_is begins)
 
 pub from_cuts : {symbols : List Range} {text : List ℕ} {place : Place} → IsPrinted symbols text place → IsUtf8 text
-    → IsSplitPoint text place.from
+    → IsCharBoundary text place.from
 from_cuts {symbols} {text} {place} p =
     let lines = stack_lines symbols place.frames.now in
     cut_behind text p.before (lines ++ p.after) place.from (p.text_is ∙ append_assoc p.before lines p.after) p.from_is p.begins
 
-pub to_cuts : {symbols : List Range} {text : List ℕ} {place : Place} → IsPrinted symbols text place → IsUtf8 text → IsSplitPoint text place.to
+pub to_cuts : {symbols : List Range} {text : List ℕ} {place : Place} → IsPrinted symbols text place → IsUtf8 text → IsCharBoundary text place.to
 to_cuts {symbols} {text} {place} p =
     cut_behind text (p.before ++ stack_lines symbols place.frames.now) p.after place.to p.text_is p.to_is p.ends
 
@@ -60,13 +56,11 @@ lines_there {symbols} {text} {place} p =
     ap (λ n. take n (drop place.from text)) len ∙ ap (take (length lines)) behind ∙ take-append_seam lines p.after
 
 -- the place of a fingerprint
-pub printed_at : {symbols : List Range} {text : List ℕ} {printed : Printed} (fingerprint len : ℕ) (place : Place)
-    → HasPrinted symbols text printed → len ≡ vec_len printed.places → place ≡ get_or printed.places.items (fingerprint % len) place
-    → IsPrinted symbols text place
-printed_at {symbols} {text} {printed} fingerprint len place h len_is here =
-    let some : 0 < len = omega (arith, len_is, printed.places.ok.0, h.some) in
-    let within : fingerprint % len < length printed.places.items =
-    omega (arith, len_is, printed.places.ok.0, mod_below fingerprint len some) in
+pub printed_at : {symbols : List Range} {text : List ℕ} {places : List Place} (fingerprint len : ℕ) (place : Place)
+    → HasPrinted symbols text places → len ≡ length places → place ≡ get_or places (fingerprint % len) place → IsPrinted symbols text place
+printed_at {symbols} {text} {places} fingerprint len place h len_is here =
+    let some : 0 < len = omega (arith, len_is, h.some) in
+    let within : fingerprint % len < length places = omega (arith, len_is, mod_below fingerprint len some) in
     subst (IsPrinted symbols text) (sym here) (h.each (fingerprint % len) place within)
 
 -- lines that are written after a text stand behind it
@@ -82,12 +76,11 @@ written_there symbols old new place e from to begins ends = record {
   ends = subst IsUtf8 e ends;
 }
 
-pub has_written : {symbols : List Range} {old new : List ℕ} {printed : Printed} {place : Place} (more : List ℕ) (cell : ℕ)
-    → new ≡ old ++ more → HasPrinted symbols old printed → IsPrinted symbols new place
-    → HasPrinted symbols new (record { places = with_item printed.places cell place })
-has_written {symbols} {old} {new} {printed} {place} more cell e h there = record {
-  some = omega (arith, h.some, length-set printed.places.items cell place);
-  each = All-set (IsPrinted symbols new) printed.places.items cell place there (has_printed_on new more e h).each;
+pub has_written : {symbols : List Range} {old new : List ℕ} {places : List Place} {place : Place} (more : List ℕ) (cell : ℕ)
+    → new ≡ old ++ more → HasPrinted symbols old places → IsPrinted symbols new place → HasPrinted symbols new (set places cell place)
+has_written {symbols} {old} {new} {places} {place} more cell e h there = record {
+  some = omega (arith, h.some, length-set places cell place);
+  each = All-set (IsPrinted symbols new) places cell place there (has_printed_on new more e h).each;
 }
 
 -- no stack has no lines, which stand anywhere

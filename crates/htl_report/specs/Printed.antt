@@ -3,7 +3,6 @@ use Rattle.std.specs.Prelude.{◌≡◌, ◌<◌, ◌++◌, ℕ, List, All, IsUt
 use Rattle.htl_symbols.specs.Ranges.{Range}
 use Rattle.htl_report.specs.Addresses.{stack_lines}
 use Rattle.htl_report.specs.declared.printed.Place.{Place}
-use Rattle.htl_report.specs.declared.printed.Printed.{Printed}
 
 -- the lines of the stack stand at the place, between two characters each
 pub record IsPrinted (symbols : List Range) (text : List ℕ) (place : Place) : Type 0 where
@@ -15,6 +14,6 @@ pub record IsPrinted (symbols : List Range) (text : List ℕ) (place : Place) : 
   pub begins : IsUtf8 before
   pub ends : IsUtf8 (before ++ stack_lines symbols place.frames.now)
 
-pub record HasPrinted (symbols : List Range) (text : List ℕ) (printed : Printed) : Type 0 where
-  pub some : 0 < length printed.places.items
-  pub each : All (IsPrinted symbols text) printed.places.items
+pub record HasPrinted (symbols : List Range) (text : List ℕ) (places : List Place) : Type 0 where
+  pub some : 0 < length places
+  pub each : All (IsPrinted symbols text) places

@@ -56,10 +56,11 @@ pub(crate) fn write_event<'a>(
     handle: u32,
     event: &'a SharedEvent,
 ) -> Result<(), AllocError>
-    requires { HasPrinted symbols.now (string_bytes out.old) printed.old }
+    requires { HasPrinted symbols.now (string_bytes out.old) printed.old.places.items }
     ensures text { OnOk result (string_bytes out.new
         ≡ string_bytes out.old ++ event_lines symbols.now word.now handle event.now) }
-    ensures kept { OnOk result (HasPrinted symbols.now (string_bytes out.new) printed.new) }
+    ensures kept { OnOk result
+        (HasPrinted symbols.now (string_bytes out.new) printed.new.places.items) }
 {
     write_event_line(out, word, handle, event)?;
     printed.write_stack(out, symbols, &event.stack)

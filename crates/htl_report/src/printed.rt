@@ -21,6 +21,9 @@ pub(crate) struct Place<'a> {
 #[derive(Drop)]
 pub(crate) struct Printed<'a> {
     places: Vec<Place<'a>>,
+    /// The lines that were copied last. A text takes bytes of its own one at a time, and others all at
+    /// once.
+    lines: String,
 }
 
 impl<'a> Printed<'a> {
@@ -32,7 +35,7 @@ impl<'a> Printed<'a> {
     /// No stack was written yet. So many will be.
     pub(crate) fn new(alloc: Global, stacks: usize) -> Result<Printed<'a>, AllocError>
         ensures { IfOk result (λ printed. (symbols : List Range) (text : List ℕ)
-            → HasPrinted symbols text printed) }
+            → HasPrinted symbols text printed.places.items) }
     {
         let none = Place {
             frames: &[],
@@ -41,6 +44,7 @@ impl<'a> Printed<'a> {
         };
         Ok(Printed {
             places: vec![in alloc; none; stacks.clamp(1, MOST_PLACES)]?,
+            lines: String::new(alloc),
         })
     }
 
@@ -51,17 +55,20 @@ impl<'a> Printed<'a> {
         symbols: &Symbols,
         stack: &'a SharedStack,
     ) -> Result<(), AllocError>
-        requires { HasPrinted symbols.now (string_bytes out.old) self.old }
+        requires { HasPrinted symbols.now (string_bytes out.old) self.old.places.items }
         ensures text { OnOk result (string_bytes out.new
             ≡ string_bytes out.old ++ stack_lines symbols.now stack.now) }
-        ensures kept { OnOk result (HasPrinted symbols.now (string_bytes out.new) self.new) }
+        ensures kept { OnOk result
+            (HasPrinted symbols.now (string_bytes out.new) self.new.places.items) }
     {
         let frames = stack.frames();
         let cell = stack.fingerprint() as usize % self.places.len();
         let place = self.places[cell];
         let from = out.as_bytes().len();
         if place.frames == frames {
-            return out.extend_from_within(place.from..place.to);
+            self.lines.clear();
+            self.lines.push_str(&out.as_str()[place.from..place.to])?;
+            return out.push_str(self.lines.as_str());
         }
         write_stack(out, symbols, frames)?;
         let to = out.as_bytes().len();

@@ -8,5 +8,5 @@ use Rattle.htl_report.proofs.bad.write_bad.Given as goal
 abbrev pub invariant-loop-handle : goal.invariant-loop-handle
 invariant-loop-handle l = record {
   text : string_bytes l.out ≡ string_bytes l.initial.out ++ flat_map (bad_lines l.symbols) (take l.handle-index l.rows);
-  printed : HasPrinted l.symbols (string_bytes l.out) l.printed;
+  printed : HasPrinted l.symbols (string_bytes l.out) l.printed.places.items;
 }

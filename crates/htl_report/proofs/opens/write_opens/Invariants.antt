@@ -8,5 +8,5 @@ use Rattle.htl_report.proofs.opens.write_opens.Given as goal
 abbrev pub invariant-loop-event : goal.invariant-loop-event
 invariant-loop-event l = record {
   text : string_bytes l.out ≡ string_bytes l.initial.out ++ flat_map (open_lines l.symbols) (take l.event-index l.rows);
-  printed : HasPrinted l.symbols (string_bytes l.out) l.printed;
+  printed : HasPrinted l.symbols (string_bytes l.out) l.printed.places.items;
 }

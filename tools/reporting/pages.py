@@ -35,7 +35,7 @@ def counted(number, one, more=None):
 def share_of(number, whole):
     """A share in percent, with a digit behind the point where it is small."""
     percent = 100 * number / max(whole, 1)
-    return f"{percent:.0f} %" if percent >= 10 or percent == int(percent) else f"{percent:.1f} %"
+    return f"{percent:.0f}%" if percent >= 10 or percent == int(percent) else f"{percent:.1f}%"
 
 
 def opened(is_open, *parts, **attributes):

@@ -85,7 +85,7 @@ def handles_of(rows, names, count):
     items = []
     for row in rows[:MOST_HANDLES]:
         name = (" ", element("code", names[row["sequence"]])) if row["sequence"] in names else ()
-        items.append(element("li", element("b", row["handle"]), f" sequence {row['sequence']:,}, thread {row['thread']:,}", *name))
+        items.append(element("li", element("b", row["handle"]), f" sequence {row['sequence']:,}, thread {row['thread']}", *name))
     return listed("Handles", items, count)
 
 

@@ -15,13 +15,15 @@ STACK, FIRST, NEXT = b',"stack":', b'[{"address":"', b'},{"address":"'
 
 # Modules whose calls say little about who leaks: of Windows, in its kernel and in its programs, and of Linux.
 SYSTEM = (
-    "nt,ntoskrnl,ntkrnlmp,hal,win32k,win32kbase,win32kfull,ntdll,KERNELBASE,kernel32,wow64,wow64cpu,wow64win,ucrtbase,msvcrt,"
-    "verifier,vrfcore,vfbasics,libc.so.6,libc,libpthread.so.0,ld-linux-x86-64.so.2,[vdso]"
+    "nt,ntoskrnl,ntkrnlmp,hal,win32k,win32kbase,win32kfull,fltmgr,wdf01000,ntdll,KERNELBASE,kernel32,user32,win32u,wow64,wow64cpu,wow64win,"
+    "ucrtbase,msvcrt,vcruntime140,verifier,vrfcore,vfbasics,libc.so.6,libc,libpthread.so.0,libpthread,ld-linux-x86-64.so.2,ld,"
+    "ld-musl-x86_64.so.1,[vdso]"
 )
 
 
-# How the debugger calls a module of a name that another one has too, as the ntdll of 32-bit programs: ntdll_77dc0000.
-BASE = re.compile(r"_[0-9a-f]{8,16}$")
+# What a module's name can have at its end: its base, where the debugger has another module of this name too, as the ntdll of 32-bit
+# programs (ntdll_77dc0000); or its version, as files of the C library before glibc 2.34 (libc-2.31.so).
+ENDING = re.compile(r"(?:_[0-9a-f]{8,16}|-2\.\d+\.so)$")
 # What the line of a stack shows of its calls: at most one each.
 Line = collections.namedtuple("Line", "before telling caller")
 
@@ -145,7 +147,7 @@ def tester_of(modules):
     @functools.lru_cache(None)
     def is_system(name):
         module, mark, _ = name.partition("!")
-        return bool(mark) and (module.lower() in system or BASE.sub("", module.lower()) in system)
+        return bool(mark) and (module.lower() in system or ENDING.sub("", module.lower()) in system)
 
     return is_system
 

@@ -48,10 +48,13 @@ def findings_of(material):
 
 
 def numbers_of(material):
+    """The numbers of the summary, of the processes that the page is about: where these were named, it has no objects."""
     head, processes = material.trace.head, material.trace.processes
     handles, bad = (sum(row[of] for row in processes) for of in ("outstanding", "bad"))
-    numbers = [("open handles", handles), ("bad references", bad), ("unbalanced objects", head["unbalanced"]), ("gaps", head["gaps"])]
-    numbers += [(name, head[name]) for name in ("processes", "objects", "events", "segments", "processors")]
+    opened = "open handles" if material.trace.since is None else "open handles, older ones too"
+    of_objects = [] if material.given.process else [("unbalanced objects", head["unbalanced"]), ("objects", head["objects"])]
+    numbers = [(opened, handles), ("bad references", bad), *of_objects[:1], ("gaps", head["gaps"]), ("processes", len(processes))]
+    numbers += [*of_objects[1:], *((name, head[name]) for name in ("events", "segments", "processors"))]
     return facts(*((name, f"{number:,}") for name, number in numbers))
 
 

@@ -4,10 +4,11 @@
  * A timer's DPC ticks for each processor once a second, and a system thread drains five times a second. The unload stops both, and
  * writes what is left. It builds with the WDK, or with the headers and libraries of MinGW:
  *
- *   x86_64-w64-mingw32-gcc -std=gnu99 -O2 -D_WIN32_WINNT=0x0601 -I /usr/share/mingw-w64/include/ddk -I tools -shared -nostdlib
- *     -Wl,--subsystem,native -Wl,--entry,DriverEntry -Wl,--dynamicbase -Wl,-Map,driver.map -o driver.sys samples/driver-windows.c -lntoskrnl
+ *   x86_64-w64-mingw32-gcc -std=gnu99 -O2 -fno-optimize-sibling-calls -ffunction-sections -D_WIN32_WINNT=0x0601
+ *     -I /usr/share/mingw-w64/include/ddk -I tools -shared -nostdlib -Wl,--subsystem,native -Wl,--entry,DriverEntry -Wl,--dynamicbase
+ *     -Wl,-Map,driver.map -o driver.sys samples/driver-windows.c -lntoskrnl
  *
- * tools/symbols makes names for its addresses of driver.map, and of the base that `lm m driver` shows.
+ * `tools/symbols --base driver=HEX -o names.csv driver.map` makes names for its addresses, with the base that `lm m driver` shows.
  */
 #include <ntddk.h>
 #include "hlseg.h"
@@ -48,7 +49,7 @@ static NTSTATUS create(PCWSTR path, ACCESS_MASK access, ULONG how, HANDLE *handl
                         FILE_SYNCHRONOUS_IO_NONALERT, NULL, 0);
 }
 
-/* ---- What the driver records. */
+/* ---- What the driver records. Functions that stacks have to show are not inlined, and calls at their ends are no jumps. */
 
 /* A kernel handle has its top 33 bits set: the lower 32 bits tell it from others. */
 static uint32_t number_of(HANDLE handle) {
@@ -64,7 +65,7 @@ static struct hlseg_origin origin_of(void **frames, ULONG most) {
     return origin;
 }
 
-static NTSTATUS OpenFile(PCWSTR path, HANDLE *handle) {
+DECLSPEC_NOINLINE static NTSTATUS OpenFile(PCWSTR path, HANDLE *handle) {
     void *frames[16];
     NTSTATUS status = create(path, GENERIC_READ, FILE_OPEN, handle);
     if (NT_SUCCESS(status)) {
@@ -81,7 +82,7 @@ static void CloseFile(HANDLE handle) {
     ZwClose(handle);
 }
 
-static NTSTATUS ReadConfig(int is_faulty) {
+DECLSPEC_NOINLINE static NTSTATUS ReadConfig(int is_faulty) {
     HANDLE handle;
     NTSTATUS status = OpenFile(L"\\SystemRoot\\win.ini", &handle);
     if (!NT_SUCCESS(status)) {
@@ -94,7 +95,7 @@ static NTSTATUS ReadConfig(int is_faulty) {
     return STATUS_SUCCESS;
 }
 
-static NTSTATUS StartDevice(int device) {
+DECLSPEC_NOINLINE static NTSTATUS StartDevice(int device) {
     return ReadConfig(device % 3 == 2);
 }
 

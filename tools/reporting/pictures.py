@@ -3,7 +3,7 @@ of its letters whatever the width, since only the lines are stretched."""
 import heapq
 import zlib
 
-from .pages import Html, element, joined, share_of
+from .pages import Html, counted, element, joined, share_of
 
 MOST_BOXES, LEAST_SHARE = 800, 1 / 2000  # of a flame graph: how many calls at most, and the least share of its handles that is drawn
 ROW, COLOURS, MOST_LETTERS = 20, 6, 120  # how high a call is, in how many colours modules are, and how long its label may be
@@ -92,7 +92,7 @@ def flame_of(stacks, is_system, room):
     widest = heapq.nlargest(MOST_BOXES, wide, key=lambda box: (box.count, -box.depth))
     parts = list(room.first((box_of(box, whole.count, is_system) for box in widest), len(widest)))
     height = ROW * (1 + max((box.depth for box in widest[: len(parts)]), default=0))
-    told = f"The calls of stacks that leave {whole.count:,} handles open, the outermost at the top"
+    told = f"The calls of stacks that leave {counted(whole.count, 'handle')} open, the outermost at the top"
     return element("svg", *parts, class_="flame", role="img", aria_label=told, width="100%", height=height), len(boxes) - len(parts)
 
 

@@ -54,3 +54,6 @@ for (const tools of document.querySelectorAll(".tools")) {
 for (const graph of document.querySelectorAll(".flame")) {
   graphTools(graph);
 }
+for (const note of document.querySelectorAll(".clicks")) {
+  note.hidden = false;
+}

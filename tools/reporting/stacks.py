@@ -15,6 +15,7 @@ TOOLS = Html(
     '<p class="tools" hidden><label>Only with these words <input type="search"></label> <label>Sorted by <select>'
     '<option value="count">handles</option><option value="growth">growth</option></select></label></p>'
 )
+CLICKS = Html('<p class="note clicks" hidden>A click on a call makes it as wide as the graph, and one on the uppermost shows all again.</p>')
 
 
 def list_of(material):
@@ -69,6 +70,7 @@ def graph_of(material):
     picture, small = flame_of(stacks, material.is_system, Room(BYTES_OF_GRAPH))
     return joined(
         note("A call is as wide as its share of the open handles, and stands below its caller. The system's calls are grey."),
+        CLICKS,
         element("div", picture, class_="graph"),
         note(f"{counted(small, 'call is', 'calls are')} too small to be drawn.") if small else "",
     )

@@ -50,6 +50,10 @@ class Material:
         """How many more handles a site has than in the middle."""
         return site.count - self.middle()[1][site.names] if self.moments else 0
 
+    def handles_of(self, site):
+        """The open handles of a site that were looked at one by one."""
+        return [row for found in self.handles.values() for row in found.get(site.names, ())]
+
     def known(self):
         """The sites that the list of known ones has."""
         return [site for site in self.sites.greatest() if site.names in self.files.known]

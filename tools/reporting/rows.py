@@ -26,12 +26,15 @@ class Lines:
         """The call that tells a stack from the others."""
         return element("code", short("".join(self.lines[names].telling) or "no stack"))
 
+    def call_within(self, names):
+        """The same behind a call that it makes, where a line has one."""
+        before = [element("span", element("code", short(name)), " ← ", class_="by") for name in self.lines[names].before]
+        return joined(*before, element("strong", self.call(names)))
+
     def of(self, names):
-        """The same with a call before it, or with its caller."""
-        line = self.lines[names]
-        before = [element("span", element("code", short(name)), " ← ", class_="by") for name in line.before]
-        after = [element("span", " ← ", element("code", short(name)), class_="by") for name in line.caller]
-        return element("span", *before, element("strong", self.call(names)), *after, class_="calls")
+        """The same, or with its caller."""
+        after = [element("span", " ← ", element("code", short(name)), class_="by") for name in self.lines[names].caller]
+        return element("span", self.call_within(names), *after, class_="calls")
 
     def note(self):
         """Which calls are in all stacks, so that no line shows them."""
@@ -72,9 +75,14 @@ def calls_of_site(site):
     return joined(calls_of(site.names), element("details", head, *parts, left_out(len(stacks), parts, "stack"), class_="stacks"))
 
 
+def counts_of_names(rows, names):
+    """What open handles are of, that of which there are most first, and how many each is."""
+    return collections.Counter(names[row["sequence"]] for row in rows if row["sequence"] in names).most_common()
+
+
 def names_of_handles(rows, names):
-    """What open handles are of, that of which there are most first."""
-    found = collections.Counter(names[row["sequence"]] for row in rows if row["sequence"] in names).most_common()
+    """The same as a list."""
+    found = counts_of_names(rows, names)
     items = [element("li", element("code", name), f" {count:,}" if count > 1 else "") for name, count in found[:MOST_NAMES]]
     parts = element("h5", "What they are"), element("ul", *items, class_="names"), left_out(len(found), items, "name")
     return joined(*parts) if items else ""

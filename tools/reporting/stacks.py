@@ -59,8 +59,7 @@ def row_of(material, site, with_curve):
     more = f" and {len(site.keys) - len(first):,} more" if len(site.keys) > len(first) else ""
     where = ", ".join(f"{process} ({count:,})" for process, count in first)
     told = element("p", f"In {'process' if len(site.keys) == 1 else 'processes'} {where}{more}.")
-    handles = [row for found in material.handles.values() for row in found.get(site.names, ())]
-    inside = told, calls_of_site(site), names_of_handles(handles, material.files.names)
+    inside = told, calls_of_site(site), names_of_handles(material.handles_of(site), material.files.names)
     line = joined(material.lines.of(site.names), difference, curve)
     return stack_of(numbers, line, *inside, data_count=site.count, data_growth=growth)
 

@@ -1,5 +1,6 @@
 """What leaks at all: a sentence, what was found, the numbers of the summary, and which moments are certain."""
 from .pages import counted, element, facts, joined, left_out, share_of
+from .rows import counts_of_names, short
 
 MOST_GAPS, MOST_FINDINGS = 100, 3
 
@@ -23,9 +24,17 @@ def add_leaks(material):
             of_all = f"{share_of(site.count, material.whole)} of {material.whole:,}{not_known}"
             where = counted(len(site.keys), "process", "processes")
             growth = material.growth_of(site)
-            since = f": {growth:+,} since sequence {material.middle()[0]:,}" if growth else ""
-            told = f" left {counted(site.count, 'handle')} open, {of_all}, in {where}{since}."
-            material.findings.append(joined(material.lines.call(site.names), told))
+            since = f", {growth:+,} since sequence {material.middle()[0]:,}" if growth else ""
+            told = f" left {counted(site.count, 'handle')} open", *told_of_names(material, site), f": {of_all}, in {where}{since}."
+            material.findings.append(joined(material.lines.call_within(site.names), *told))
+
+
+def told_of_names(material, site):
+    """What a site's handles are of, or most of them, where that is known and they aren't of different things each."""
+    name, count = next(iter(counts_of_names(material.handles_of(site), material.files.names)), (None, 0))
+    if count == 0 or count == 1 < site.count:
+        return []
+    return [", of " if count == site.count else ", most often of ", element("code", short(name), class_="of")]
 
 
 def is_certain(trace):

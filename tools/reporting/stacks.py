@@ -86,7 +86,8 @@ def changes_of(material):
         rows = list(room.first(rows, material.given.top))
         parts += [element("h4", title), *rows, left_out(len(changed), rows, "stack"), "" if changed else note("No stack.")]
     for difference, names in more[:1]:
-        told = f" leaves {counted(difference, 'handle')} more open than before. {counted(len(more), 'stack leaves', 'stacks leave')} more."
+        others = f", the most of {len(more):,} stacks that leave more" if len(more) > 1 else ""
+        told = f" leaves {counted(difference, 'handle')} more open than before{others}."
         material.findings.append(joined(lines.call(names), told))
     return joined(*parts)
 

@@ -36,8 +36,8 @@ use Rattle.htl_question.specs.declared.question.Question.TheVariants as question
 use Rattle.htl_question.specs.declared.question.Since.{Since}
 use Rattle.htl_question.specs.declared.question.Since.TheVariants.{Sequence, Snapshot}
 use Rattle.htl_question.specs.declared.subject.Subject.TheVariants as subjects
-use Rattle.htl_main.specs.Answers.{IsAnswer, is_growth}
-use Rattle.htl_main.specs.Subjects.{absence_by, absence_in, is_before, is_below_last, given_sequence, later_absence, since_of}
+use Rattle.htl_evidence.specs.Bases.{IsAnswer}
+use Rattle.htl_main.specs.Subjects.{absence_by, absence_in, is_before, is_below_last, is_growth, given_sequence, later_absence, since_of}
 use Rattle.htl_main.specs.declared.completed.Absence.{Absence}
 use Rattle.htl_main.specs.declared.completed.Absence.TheVariants.{Subject, Later}
 

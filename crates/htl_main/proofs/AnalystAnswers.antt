@@ -22,7 +22,7 @@ use Rattle.htl_question.specs.declared.answer.Totals.{Totals}
 use Rattle.htl_question.specs.declared.question.Question.TheVariants as questions
 use Rattle.htl_main.specs.Analysts.{AreAnswers}
 use Rattle.htl_main.specs.Folding.{AreTaken, IsCaseOfFirsts}
-use Rattle.htl_main.specs.Answers.{IsAnswer}
+use Rattle.htl_evidence.specs.Bases.{IsAnswer}
 use Rattle.htl_main.proofs.Bases.{summarized, summary_says}
 use Rattle.htl_main.proofs.FoldLaws.{all_keys, all_of_case, is_right}
 

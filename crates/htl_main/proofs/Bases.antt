@@ -19,7 +19,7 @@ use Rattle.htl_question.specs.declared.answer.Totals.{Totals}
 use Rattle.htl_question.specs.declared.question.Question.{Question}
 use Rattle.htl_question.specs.declared.question.Question.TheVariants as questions
 use Rattle.htl_question.proofs.Wanted.{wanted_suffice}
-use Rattle.htl_main.specs.Answers.{IsAnswer, IsBasis, IsExtentOf, IsSpanUntil}
+use Rattle.htl_evidence.specs.Bases.{IsAnswer, IsBasis, IsExtentOf, IsSpanUntil}
 
 -- a summary of an extent and events is the answer over these
 pub summary_over : (B : Basis) (totals : Totals) (gaps : List Gap) (processes : List ProcessRow) (objects : List ObjectRow)
@@ -52,30 +52,9 @@ module _ (T : Trace) (until : Option ℕ) where
   abbrev counted : List Event
   counted = counted_events until (all_events T.segments)
 
-  -- of a growth nothing but the events and the span
-  pub of_growth : (process count : ℕ) (span : Option Span) → IsSpanUntil T until span
-      → IsBasis T until (questions.Growth process count) (basis counted span (extent 0 0 [] 0))
-  of_growth process count span is = record { events = refl; span = λ of many same. is; extent = λ same. absurd (cc same) }
-
   -- of a summary nothing but the events and the extent
   pub of_summary : (there : Extent) → IsExtentOf T there → IsBasis T until questions.Summary (basis counted None there)
   of_summary there is = record { events = refl; span = λ process count same. absurd (cc same); extent = λ same. is }
-
-  -- of any other question nothing but the events
-  pub of_events : (question : Question) → (question ≡ questions.Summary → ⊥)
-      → ((process count : ℕ) → question ≡ questions.Growth process count → ⊥) → IsBasis T until question (basis counted None (extent 0 0 [] 0))
-  of_events question no_summary no_growth = record {
-    events = refl;
-    span = λ process count same. absurd (no_growth process count same);
-    extent = λ same. absurd (no_summary same);
-  }
-
-  -- an answer over all that is there of these events is the answer over the trace
-  pub over_events : (question : Question) (answer : Found) → (question ≡ questions.Summary → ⊥)
-      → ((process count : ℕ) → question ≡ questions.Growth process count → ⊥)
-      → ((B : Basis) → B.events ≡ counted → IsAnswerOver B question answer) → IsAnswer T until question answer
-  over_events question answer no_summary no_growth over =
-      let B = basis counted None (extent 0 0 [] 0) in (B, of_events question no_summary no_growth, over B refl)
 
   -- a summary of the trace's extent and these events is the answer over the trace
   pub summarized : (totals : Totals) (gaps : List Gap) (processes : List ProcessRow) (objects : List ObjectRow)
@@ -112,13 +91,3 @@ module _ (T : Trace) (until : Option ℕ) where
         rw is.events at says.processes_are,
         rw is.events at says.objects_are,
       )
-
-  -- an answer over the events that serve the question is the answer over the trace
-  pub over_wanted : (question : Question) (interest : Interest) (B : Basis) (own : List Event) (answer : Found) → IsTrace T
-      → Serves question interest → IsPermutation (wanted interest counted) own → IsBasis T until question B
-      → IsAnswerOver (with_events own B) question answer → IsAnswer T until question answer
-  over_wanted question interest B own answer trace serves moved is over = (
-    B,
-    is,
-    wanted_suffice question interest B own serves (rw is.events moved) (rw is.events (own_until until (all_events T.segments) trace.sequences)) answer over,
-  )

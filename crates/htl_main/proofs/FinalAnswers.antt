@@ -21,7 +21,7 @@ use Rattle.htl_question.specs.Bases.{Basis}
 use Rattle.htl_question.specs.Rows.{Found}
 use Rattle.htl_question.specs.declared.question.Question.{Question}
 use Rattle.htl_question.specs.declared.question.Question.TheVariants.{Summary}
-use Rattle.htl_main.specs.Answers.{IsAnswer, IsBasis, span_until}
+use Rattle.htl_evidence.specs.Bases.{IsAnswer, IsBasis, span_until}
 
 -- ---- events have a span
 

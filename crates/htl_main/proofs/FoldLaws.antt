@@ -1,58 +1,43 @@
 -- An analyst that took a list of segments is right about the first of each key, and takes the next one or finds it unfit.
-use Rattle.std.proofs.Common.{◌≡◌, ◌≢◌, ℕ, ◌+◌, ◌<◌, ◌≤◌, Bool, true, false, cond, List, [], ◌∷◌, ◌++◌, length, length-set, refl, sym, ap, ◌∙◌, subst}
+use Rattle.std.proofs.Common.{◌≡◌, ◌≢◌, ℕ, ◌+◌, ◌<◌, ◌≤◌, Bool, true, false, List, [], ◌∷◌, ◌++◌, length, length-set, refl, sym, ap, ◌∙◌, subst}
 use Rattle.std.proofs.Common.{inl, inr, ◌⊎◌, arith, Some, None, Option, eq-eqb, eqb, eqb-true, ltb, ltb-true}
-use Rattle.std.specs.Prelude.{Contains, ◌↔◌, ◌||◌, count_by, is_some, map}
+use Rattle.std.specs.Prelude.{Contains, ◌↔◌, ◌||◌, is_some, map}
 use Rattle.std.proofs.lemmas.Bool.{and_from, and_parts, cases_eq, cases_lt, lt-ltb}
 use Rattle.std.proofs.lemmas.List.{get_or_past}
-use Rattle.std.proofs.lemmas.List.Sums.{sum_by-cons}
 use Rattle.htl_event.specs.Events.{Event}
-use Rattle.htl_event.specs.Handles.{IsGreatestSequence}
 use Rattle.htl_event.proofs.Members.{Contains-from_map, Contains-here, Contains-map, Contains-nil, Contains-there}
 use Rattle.htl_event.proofs.Members.{at_member, each_member, some_member}
 use Rattle.htl_segment.specs.Content.{Content, Fits}
 use Rattle.htl_segment.specs.Keys.{run_below}
-use Rattle.htl_segment.specs.Traces.{Trace, HasKey, all_events, key_is_in}
+use Rattle.htl_segment.specs.Traces.{Trace, HasKey}
 use Rattle.htl_segment.proofs.Spans.{above}
 use Rattle.htl_segment.proofs.Traces.{members_agree}
-use Rattle.htl_taken.specs.Gaps.{IsGaps}
 use Rattle.htl_taken.specs.Numbers.{Numbers, front_at, numbers_at, with_loose}
-use Rattle.htl_taken.specs.declared.gap.Gap.{Gap}
-use Rattle.htl_taken.proofs.Gaps.{gaps_agree}
 use Rattle.htl_taken.proofs.NumberSets.{numbers_at-set_same}
-use Rattle.htl_answers.specs.Parts.{AreEventsOf, Contents}
-use Rattle.htl_analyst.specs.Keys.{HasTaken, keys, number_taken}
-use Rattle.htl_analyst.specs.Moments.{IsLeastLastFolded}
+use Rattle.htl_analyst.specs.Keys.{HasTaken, number_taken}
 use Rattle.htl_analyst.specs.Refusals.{HoldsOther, IsOfState, TakeAccepted}
 use Rattle.htl_analyst.specs.Right.{IsCollection, IsOwned, IsRight, IsState, run_events}
 use Rattle.htl_analyst.specs.States.{Part, State, folded_at, held_at, no_part}
 use Rattle.htl_analyst.specs.TakenAll.{HasKeyOf, HasTakenAll, IsFirstOf}
-use Rattle.htl_analyst.specs.TakenEvents.{taken_events}
 use Rattle.htl_analyst.proofs.Firsts.{first_of_key, is_member}
 use Rattle.htl_analyst.proofs.Held.{collection_of, number, one_segment}
-use Rattle.htl_analyst.proofs.KeyEvents.{taken_keys}
-use Rattle.htl_analyst.proofs.TakenAll.{all_were_taken, take_has_taken_one_more}
+use Rattle.htl_analyst.proofs.TakenAll.{take_has_taken_one_more}
 use Rattle.htl_analyst.proofs.Updates.{place-set_other}
 use Rattle.htl_analyst.specs.Steps.{taken_as}
 use Rattle.htl_analyst.specs.declared.fault.Took.{Took}
 use Rattle.htl_analyst.specs.declared.fault.Took.TheVariants.{New, Repeat}
-use Rattle.htl_case.specs.Complete.{IsCompleteTo, IsFirstMissing}
 use Rattle.htl_case.specs.Faults.{key_of}
-use Rattle.htl_case.proofs.Sizes.{size_is}
-use Rattle.htl_main.specs.CaseOutlines.{AreFrontsOf, IsMissed}
-use Rattle.htl_main.specs.declared.coverage.Missed.{Missed}
 use Rattle.htl_main.specs.Folders.{FallsIn, IsFirstToFall, IsNewTo, Keeps, TookNext}
-use Rattle.htl_main.specs.Folding.{Accepts, AreFolded, AreOfTraceOf, AreRising, Fall, FallsAt, IsCaseOfFirsts, IsCollectionOf, IsFoldedFar, IsUnbroken}
+use Rattle.htl_main.specs.Folding.{Accepts, AreFolded, AreOfTraceOf, AreRising, Fall, FallsAt, IsCaseOfFirsts, IsCollectionOf, IsUnbroken}
 use Rattle.htl_main.specs.Folding.{IsUnfit}
 use Rattle.htl_case.specs.declared.fault.CaseFault.TheVariants as cases
 use Rattle.htl_command.specs.Needs.{needs_events}
 use Rattle.htl_question.specs.Questions.{is_of_events}
 use Rattle.htl_command.specs.declared.question.Job.{Job}
 use Rattle.htl_command.specs.declared.question.Moment.{Moment}
-use Rattle.htl_question.specs.declared.question.Question.{Question}
-use Rattle.htl_question.specs.declared.question.Question.TheVariants as questions
-use Rattle.htl_main.specs.Questions.{IsOfParts}
 use Rattle.htl_main.proofs.Collections.{firsts_of}
-use Rattle.htl_main.proofs.Covered.{one_first}
+use Rattle.htl_evidence.specs.Told.{HasFolded}
+use Rattle.htl_evidence.proofs.TellLaws.{taken_all}
 
 abbrev AreIdsOf : State → Content → Type 0
 AreIdsOf a s = (s.trace_id ≡ a.trace_id) × (s.processors ≡ a.processors)
@@ -88,14 +73,6 @@ module _ (segments : List Content) (a : State) (T : Trace) (took : HasTakenAll s
 
 -- ---- the collection of just these
 
-count_all : (p : Content → Bool) (ss : List Content) → ((s : Content) → Contains ss s → p s ≡ true) → count_by p ss ≡ length ss
-count_all p [] each = refl
-count_all p (s ∷ ss) each =
-    let one = sum_by-cons (λ t. cond (p t) 1 0) s ss in
-    let first = ap {B = ℕ} (λ (b : Bool). cond b 1 0) (each s (Contains-here s ss)) in
-    let rest = count_all p ss (λ t h. each t (Contains-there s ss t h)) in
-    omega (arith, one, first, rest)
-
 module _ (segments : List Content) (a : State) (T : Trace) (took : HasTakenAll segments a) (some : segments ≢ [])
     (all : IsCollectionOf segments T) where
   pub right_of_all : IsRight a T
@@ -110,10 +87,7 @@ module _ (segments : List Content) (a : State) (T : Trace) (took : HasTakenAll s
 
   -- each once
   pub all_counted : number_taken a ≡ length T.segments
-  all_counted =
-      size_is T a right_of_all
-      ∙ count_all (key_is_in (keys a)) T.segments
-      (λ s h. taken_keys a s.processor s.number ((all_keys s.processor s.number).1 (s, h, refl, refl)))
+  all_counted = taken_all a T right_of_all all_keys
 
 -- a case of first segments is a collection of them
 pub all_of_case : (segments : List Content) (T : Trace) → IsCaseOfFirsts segments T → IsCollectionOf segments T
@@ -121,53 +95,13 @@ all_of_case segments T case = record { collection = collection_of T case.is_case
 
 -- ---- what is known of their collection
 
-module _ (segments : List Content) (a : State) (T : Trace) (took : HasTakenAll segments a) (some : segments ≢ [])
-    (all : IsCollectionOf segments T) where
-  right_here : IsRight a T
-  right_here = right_of_all segments a T took some all
-
-  -- the events of its taken keys are all events of the collection
-  pub events_of_all : taken_events T a ≡ all_events T.segments
-  events_of_all = all_were_taken segments T a took (λ s h. is_member segments s ((all.members s).0 h))
-
-  -- the gaps of its taken keys are those of the collection
-  pub gaps_of_all : (gaps : List Gap) → IsGaps (HasTaken a) a.processors gaps → IsGaps (HasKey T) T.processors gaps
-  gaps_of_all gaps listed =
-      gaps_agree (HasTaken a) (HasKey T) T.processors gaps (λ p n within. all_keys segments a T took some all p n)
-      (subst (λ (n : ℕ). IsGaps (HasTaken a) n gaps) (sym right_here.processors) listed)
-
-  -- where all was folded that could be, a front is the first missing number
-  pub front_missing : IsFoldedFar (Some a) → (p : ℕ) → IsFirstMissing T p (front_at a.taken p)
-  front_missing far p = record {
-    below = λ n lt. (all_keys segments a T took some all p n).0 (inl lt);
-    missing = λ has. far p ((all_keys segments a T took some all p (front_at a.taken p)).1 has);
-  }
-
-  -- the least of its last folded sequences is what the collection is complete to, where all was folded that could be
-  pub complete_of_all : IsFoldedFar (Some a) → (n : ℕ) → IsLeastLastFolded T a n → IsCompleteTo T n
-  complete_of_all far n least = record {
-    bound = λ p m within unbroken.
-        (let first = one_first T p unbroken.0 (front_at a.taken p) unbroken.1 (front_missing far p) in
-        least.bound p m (subst (λ (x : ℕ). p < x) right_here.processors within)
-        (subst (λ (f : ℕ). IsGreatestSequence (Contains (run_events T p f)) m) first unbroken.2));
-    processor = least.processor;
-    within = subst (λ (x : ℕ). least.processor < x) (sym right_here.processors) least.within;
-    reached = (front_at a.taken least.processor, front_missing far least.processor, least.reached);
-  }
-
-  -- where all was folded that could be, its gaps and fronts, and the least of its last folded sequences, are what is missing of it
-  pub missed_of_all : IsFoldedFar (Some a) → (missed : Missed) → missed.trace_id ≡ a.trace_id
-      → IsGaps (HasTaken a) a.processors missed.gaps.items → AreFrontsOf a a.processors missed.fronts.items
-      → IsLeastLastFolded T a missed.complete_to → IsMissed T missed
-  missed_of_all far missed id listed fronts least = record {
-    id = id ∙ sym right_here.id;
-    gaps = gaps_of_all missed.gaps.items listed;
-    fronts = record {
-      each = fronts.each ∙ sym right_here.processors;
-      first = λ p n at. subst (IsFirstMissing T p) (fronts.front p n at) (front_missing far p);
-    };
-    complete_to = complete_of_all far missed.complete_to least;
-  }
+-- what was folded of segments is folded of their collection
+pub folded_all : (segments : List Content) (a : State) (T : Trace) → AreFolded (Some a) segments → IsCollectionOf segments T → HasFolded a T
+folded_all segments a T folded all = record {
+  right = right_of_all segments a T folded.taken.1 folded.taken.0 all;
+  keys = all_keys segments a T folded.taken.1 folded.taken.0 all;
+  far = folded.far;
+}
 
 -- ---- the next segment
 
@@ -495,12 +429,6 @@ takes_one segments a b s took before fits is accepted new rising keys right = re
 
 -- ---- answers
 
-module _ (segments : List Content) (a : State) (T : Trace) (folded : AreFolded (Some a) segments) (all : IsCollectionOf segments T)
-    (parts : List Contents) (of : AreEventsOf parts (taken_events T a)) where
-  -- the parts of the analyst stand for all events of the collection
-  pub parts_of_all : AreEventsOf parts (all_events T.segments)
-  parts_of_all = subst (AreEventsOf parts) (events_of_all segments a T folded.taken.1 folded.taken.0 all) of
-
 -- a question that needs no events is asked of all of them
 pub all_count : (job : Job) → needs_events job ≡ false → (is_of_events job.question ≡ false) × (job.until ≡ None)
 all_count job none = (
@@ -519,10 +447,3 @@ all_count job none = (
     no_moment : (until : Option Moment) → is_some until ≡ false → until ≡ None
     no_moment None is = refl
     no_moment (Some moment) is = absurd (cc is)
-
--- a question about events, other than the summary, is answered from parts
-pub of_parts : (question : Question) → is_of_events question ≡ false → (question ≡ questions.Summary → ⊥) → IsOfParts question
-of_parts questions.Summary none other = absurd (other refl)
-of_parts (questions.Trace process handle) none other = absurd (cc none)
-of_parts (questions.Growth process points) none other = absurd (cc none)
-of_parts question none other = tt

@@ -5,25 +5,19 @@ pub mod SourceLaws
 pub mod ReadingLaws
 pub mod DumpLaws
 pub mod EncodeLaws
-pub mod FewSegments
-pub mod OfProcessor
-pub mod Covered
 pub mod Collections
 pub mod FallingLaws
 pub mod RisingLaws
 pub mod FoldLaws
 pub mod FolderLaws
 pub mod FoldInputs
-pub mod Outlined
 pub mod Laters
 pub mod Missing
 pub mod Bases
-pub mod OneAnswer
 pub mod OneOutcome
 pub mod OneCoverage
 pub mod Touched
 pub mod Absences
-pub mod UnfoldedLaws
 pub mod OneSource
 pub mod DigitsLaws
 pub mod SpanLaws
@@ -41,4 +35,3 @@ pub mod UntilLaws
 pub mod AnalystAnswers
 pub mod FinalAnswers
 pub mod Foldable
-mod Shared

@@ -1,14 +1,14 @@
 -- Which processor of a trace is the first that misses a segment, and which cut end isn't known; and why a run ends that looks for gaps and symbols.
-use Rattle.std.proofs.Common.{◌≡◌, ℕ, zero, suc, ◌+◌, ◌-◌, ◌^◌, ◌<◌, ◌≤◌, Bool, true, false, List, [], ◌∷◌, ◌++◌, Option, Some, None, ◌⊎◌}
-use Rattle.std.proofs.Common.{refl, ap, subst, sym, ◌∙◌, arith, inl, inr, length, length-append, take, drop, All}
+use Rattle.std.proofs.Common.{◌≡◌, ℕ, zero, suc, ◌+◌, ◌<◌, ◌≤◌, Bool, true, false, List, [], ◌∷◌, ◌++◌, Option, Some, None, ◌⊎◌}
+use Rattle.std.proofs.Common.{refl, ap, subst, sym, ◌∙◌, arith, inl, inr, length, take, drop, All}
 use Rattle.std.specs.Prelude.{Contains, slice_get, nat_lt, if◌then◌else◌, is_some, map, IfNone, IfSome}
-use Rattle.std.proofs.lemmas.Bool.{cases_lt, ltb-false, ltb-true}
+use Rattle.std.proofs.lemmas.Bool.{ltb-false, ltb-true}
 use Rattle.std.proofs.lemmas.List.{take_more}
 use Rattle.std.proofs.lemmas.List.Elements.{All-append, All-cons, All-nil, Contains-append_cases, Contains-append_left, Contains-append_right}
 use Rattle.std.proofs.lemmas.Option.{get_or_from_slice_get, slice_get_within}
-use Rattle.htl_event.proofs.Members.{at_member, Contains-cases, Contains-here, Contains-nil, some_member}
-use Rattle.htl_segment.specs.Content.{Content, Fits}
-use Rattle.htl_segment.specs.Traces.{Trace, IsTrace, HasKey}
+use Rattle.htl_event.proofs.Members.{Contains-cases, Contains-here, Contains-nil, some_member}
+use Rattle.htl_segment.specs.Content.{Content}
+use Rattle.htl_segment.specs.Traces.{Trace, HasKey}
 use Rattle.htl_analyst.proofs.Held.{one_segment}
 use Rattle.htl_case.specs.Cases.{IsCaseOf}
 use Rattle.htl_case.specs.Faults.{AreOfOneTrace}
@@ -16,13 +16,13 @@ use Rattle.htl_case.proofs.Outcomes.{case_one_count, case_one_trace}
 use Rattle.htl_taken.specs.Gaps.{IsGap, IsGapBefore, processor_of}
 use Rattle.htl_taken.specs.declared.gap.Gap.{Gap}
 use Rattle.htl_taken.specs.declared.gap.Gap.TheVariants.{Between, Absent}
-use Rattle.htl_tables.proofs.FirstNoted.{get_cases}
 use Rattle.htl_reading.specs.declared.outcome.SegmentName.{SegmentName}
 use Rattle.htl_command.specs.declared.question.Job.{Job}
 use Rattle.std.specs.List.{AllByRecursion}
 use Rattle.htl_segment.specs.Outlines.{outline_of}
 use Rattle.htl_segment.specs.declared.outline.Outline.{Outline}
-use Rattle.htl_main.specs.CaseOutlines.{AreFronts, AreOutlinesOf, IsFirstShort, IsMissed, IsShortUpTo, lesser}
+use Rattle.htl_evidence.specs.Outlines.{AreOutlinesOf}
+use Rattle.htl_main.specs.CaseOutlines.{IsFirstShort, IsMissed, IsShortUpTo, lesser}
 use Rattle.htl_main.specs.Causes.{IsCauseAfter}
 use Rattle.htl_main.specs.Completeness.{IsFirstUnknown, IsKnown, IsLeastMissing, IsOfKey, Misses, MissesUpTo, ReportsMissing}
 use Rattle.htl_main.specs.CutInputs.{Decoding}
@@ -132,60 +132,27 @@ same_key T cut p q m n a b = (ap processor_in (sym a ∙ b), ap number_in (sym a
 
 module _ (T : Trace) (missed : Missed) (is : IsMissed T missed) (cut : CutEnd) (p last : ℕ) (of : IsOfKey T cut p last) where
   -- or of no processor
-  pub short_outside : length missed.fronts.items ≤ p → IsShortUpTo T cut None
+  pub short_outside : length missed.extent.fronts.items ≤ p → IsShortUpTo T cut None
   short_outside out = λ q up.
       let same = same_key T cut q p up.1 last up.3 of in
-      let long = is.fronts.each in
+      let long = is.extent.fronts.each in
       let within = up.0 in
       omega (arith, out, long, within, same.0)
 
   -- all segments up to it are there
-  pub short_below : (front : ℕ) → slice_get missed.fronts.items p ≡ Some front → last < front → IsShortUpTo T cut None
+  pub short_below : (front : ℕ) → slice_get missed.extent.fronts.items p ≡ Some front → last < front → IsShortUpTo T cut None
   short_below front at low = λ q up.
       let same = same_key T cut q p up.1 last up.3 of in
-      let first = is.fronts.first p front at in
+      let first = is.extent.fronts.first p front at in
       let le = up.4 in
       up.5 (subst (λ (r : ℕ). HasKey T r up.2) (sym same.0) (first.below up.2 (omega (arith, le, low, same.1))))
 
   -- the first missing one isn't behind it
-  pub short_at : (front : ℕ) → slice_get missed.fronts.items p ≡ Some front → front ≤ last → IsShortUpTo T cut (Some p)
+  pub short_at : (front : ℕ) → slice_get missed.extent.fronts.items p ≡ Some front → front ≤ last → IsShortUpTo T cut (Some p)
   short_at front at le =
-      let within = slice_get_within missed.fronts.items p front at in
-      let long = is.fronts.each in
-      (omega (arith, within, long), last, front, of, le, (is.fronts.first p front at).missing)
-
--- ---- which cut ends are known
-
--- ---- the fronts of the processors
-
--- of no processors there are none
-pub no_fronts : (T : Trace) → AreFronts T 0 []
-no_fronts T = record { each = refl; first = λ p n at. absurd (cc at) }
-
--- those of one processor more
-pub fronts_more : (T : Trace) (p : ℕ) (fronts : List ℕ) (front : ℕ) → AreFronts T p fronts → IsFirstMissing T p front
-    → AreFronts T (p + 1) (fronts ++ front ∷ [])
-fronts_more T p fronts front so_far first =
-    let long = so_far.each in
-    record {
-      each = omega (arith, long, length-append fronts (front ∷ []));
-      first = λ q n at. elim (get_cases fronts front q n at) [
-        | inl earlier ↦ so_far.first q n earlier
-        | inr last ↦ subst (λ (r : ℕ). IsFirstMissing T r n) (sym (last.0 ∙ long)) (subst (IsFirstMissing T p) last.1 first)
-      ];
-    }
-
--- a first missing number fits in 32 bits, since no segment has the greatest one
-pub first_fits : (T : Trace) (p n : ℕ) → IsTrace T → IsFirstMissing T p n → n ≤ 2 ^ 32 - 1
-first_fits T p n is first = elim (cases_lt n (2 ^ 32)) [
-  | inl lt ↦ omega (arith, lt)
-  | inr ge ↦
-      let key = first.below (2 ^ 32 - 1) (omega (arith, ge)) in
-      let fits = at_member Fits T.segments key.0 is.fit key.1 in
-      let low = fits.number in
-      let at = key.3 in
-      absurd (omega (arith, low, at))
-]
+      let within = slice_get_within missed.extent.fronts.items p front at in
+      let long = is.extent.fronts.each in
+      (omega (arith, within, long), last, front, of, le, (is.extent.fronts.first p front at).missing)
 
 -- ---- the least missing key, and the first cut end that isn't known
 

@@ -13,7 +13,7 @@ use Rattle.htl_main.specs.declared.fault.RunFault.{RunFault}
 use Rattle.htl_main.specs.declared.fault.RunFault.TheVariants.{Incomplete, UnknownCut}
 use Rattle.htl_main.specs.Moments.{IsCompleteUntil, IsNamedMoment, is_above}
 use Rattle.htl_main.specs.declared.coverage.Missed.{Missed}
-use Rattle.htl_main.proofs.OneAnswer.{one_complete}
+use Rattle.htl_evidence.proofs.OneAnswer.{one_complete}
 
 -- a job's moment over a trace is one
 pub one_moment : (T : Trace) (named : Option Moment) (a b : Option ℕ) → IsNamedMoment T named a → IsNamedMoment T named b → a ≡ b
@@ -29,9 +29,9 @@ complete_until T cuts (Some Complete) whole = tt
 
 -- so is one that is complete to the moment
 pub not_above : (T : Trace) (missed : Missed) (cuts : List CutEnd) (until : Option Moment) → IsMissed T missed
-    → is_above until missed.complete_to ≡ false → IsCompleteUntil T cuts until
+    → is_above until missed.extent.complete_to ≡ false → IsCompleteUntil T cuts until
 not_above T missed cuts None is low = absurd (cc low)
-not_above T missed cuts (Some (Sequence n)) is low = inr (missed.complete_to, is.complete_to, ltb-false missed.complete_to n low)
+not_above T missed cuts (Some (Sequence n)) is low = inr (missed.extent.complete_to, is.extent.is.complete_to, ltb-false missed.extent.complete_to n low)
 not_above T missed cuts (Some Complete) is low = tt
 
 at_seam : (P : CutEnd → Type 0) (earlier : List CutEnd) (cut : CutEnd) (later : List CutEnd) → All P (earlier ++ cut ∷ later) → P cut
@@ -47,12 +47,12 @@ not_complete T cuts fault missing whole = missing
 
 -- and up to a moment to which it isn't complete
 pub still_missing : (T : Trace) (missed : Missed) (cuts : List CutEnd) (until : Option Moment) (fault : RunFault) → IsMissed T missed
-    → is_above until missed.complete_to ≡ true → ReportsMissing T cuts fault → IsCompleteUntil T cuts until → ⊥
+    → is_above until missed.extent.complete_to ≡ true → ReportsMissing T cuts fault → IsCompleteUntil T cuts until → ⊥
 still_missing T missed cuts None fault is above missing whole = not_complete T cuts fault missing whole
 still_missing T missed cuts (Some (Sequence m)) fault is above missing (inl whole) = not_complete T cuts fault missing whole
 still_missing T missed cuts (Some (Sequence m)) fault is above missing (inr up) =
-    let same = one_complete T missed.complete_to up.0 is.complete_to up.1 in
-    let low = ltb-true missed.complete_to m above in
+    let same = one_complete T missed.extent.complete_to up.0 is.extent.is.complete_to up.1 in
+    let low = ltb-true missed.extent.complete_to m above in
     let le = up.2 in
     omega (arith, same, low, le)
 still_missing T missed cuts (Some Complete) fault is above missing whole = absurd (cc above)

@@ -12,11 +12,11 @@ use Rattle.htl_question.specs.Rows.{found, summary}
 use Rattle.htl_question.specs.declared.answer.Totals.{Totals}
 use Rattle.htl_question.specs.declared.question.Question.TheVariants as questions
 use Rattle.htl_main.specs.Coverages.{Covers, IsCoverage}
-use Rattle.htl_main.specs.Answers.{IsAnswer}
+use Rattle.htl_evidence.specs.Bases.{IsAnswer}
 use Rattle.htl_main.specs.declared.coverage.Coverage.{Coverage}
 use Rattle.htl_main.proofs.OneOutcome.{one_decoding}
 use Rattle.htl_main.proofs.Bases.{summary_says}
-use Rattle.htl_main.proofs.OneAnswer.{one_complete, one_gaps}
+use Rattle.htl_evidence.proofs.OneAnswer.{one_complete, one_gaps}
 
 abbrev coverage_of : ℕ → ℕ → Coverage
 coverage_of gaps complete_to = record { gaps = gaps; complete_to = complete_to }

@@ -20,29 +20,11 @@ use Rattle.htl_command.specs.declared.question.Job.{Job}
 use Rattle.htl_question.specs.Questions.{Serves, subject_of}
 use Rattle.htl_question.specs.Subjects.{is_about}
 use Rattle.htl_question.specs.declared.question.Question.{Question}
-use Rattle.htl_question.specs.declared.question.Question.TheVariants as questions
 use Rattle.htl_question.proofs.About.{about_is_wanted, all_of_subject, unseen_stack, wanted_is_about}
 use Rattle.htl_symbols.proofs.Searches.{list_any-true, list_any-false}
 use Rattle.htl_main.specs.Picked.{TellsOfNoHandle}
 use Rattle.htl_main.specs.Picking.{is_of_open_handles, IsPickedAsOf}
-use Rattle.htl_main.specs.Questions.{IsOfParts}
 use Rattle.htl_main.specs.Moments.{IsNamedMoment}
-
--- ---- questions
-
--- a question other than a summary, a listing or a growth is answered from parts
-pub of_parts : (question : Question) → (question ≡ questions.Summary → ⊥)
-    → ((process handle : ℕ) → question ≡ questions.Trace process handle → ⊥)
-    → ((process points : ℕ) → question ≡ questions.Growth process points → ⊥) → IsOfParts question
-of_parts (questions.Outstanding p) summary trace growth = tt
-of_parts (questions.Diff p since) summary trace growth = tt
-of_parts (questions.Tags o) summary trace growth = tt
-of_parts (questions.Bad p) summary trace growth = tt
-of_parts (questions.Leaks p since at_least) summary trace growth = tt
-of_parts (questions.Stacks o tag) summary trace growth = tt
-of_parts (questions.Trace p handle) summary trace growth = absurd (trace p handle refl)
-of_parts (questions.Growth p points) summary trace growth = absurd (growth p points refl)
-of_parts questions.Summary summary trace growth = absurd (summary refl)
 
 -- ---- what the question is about
 

@@ -13,7 +13,7 @@ use Rattle.htl_main.specs.Completeness.{IsComplete, IsKnown}
 use Rattle.htl_main.specs.Coverages.{IsCoverage}
 use Rattle.htl_main.specs.Moments.{IsCompleteUntil, is_touched}
 use Rattle.htl_main.specs.declared.coverage.Coverage.{Coverage}
-use Rattle.htl_main.proofs.OneAnswer.{one_complete}
+use Rattle.htl_evidence.proofs.OneAnswer.{one_complete}
 
 empty : (gaps : List Gap) → length gaps ≡ 0 → (gap : Gap) → Contains gaps gap → ⊥
 empty [] none gap here = Contains-nil gap here

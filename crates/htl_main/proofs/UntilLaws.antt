@@ -1,26 +1,13 @@
--- The events of a trace up to a moment are few enough to count, and are found in the segments and in lists of them.
-use Rattle.std.proofs.Common.{◌≡◌, ◌<◌, ◌^◌, ℕ, Bool, List, [], ◌∷◌, Option, Some, None, length, refl, ap, ◌∙◌, arith, Vec, Global}
-use Rattle.std.specs.Prelude.{nat_le}
+-- The events of a trace up to a moment are found in the segments, and in lists of them.
+use Rattle.std.proofs.Common.{◌≡◌, ℕ, Bool, List, [], ◌∷◌, Option, Some, None, refl, ap, ◌∙◌, Vec, Global}
 use Rattle.std.specs.List.{list_any}
 use Rattle.std.proofs.lemmas.List.Folds.{list_any-append}
-use Rattle.std.proofs.lemmas.List.Sums.{count_by-le-length, length-filter}
 use Rattle.htl_event.specs.Events.{Event}
 use Rattle.htl_event.specs.Moments.{counted_events}
 use Rattle.htl_segment.specs.Content.{Content}
 use Rattle.htl_segment.specs.Picks.{events_in}
-use Rattle.htl_segment.specs.Traces.{Trace, IsTrace, all_events}
+use Rattle.htl_segment.specs.Traces.{all_events}
 use Rattle.htl_case.proofs.Counted.{counted-append}
-use Rattle.htl_main.proofs.FewSegments.{few_events}
-
--- the events of a trace up to a moment are fewer than 2 ^ 64
-pub few_counted : (T : Trace) (until : Option ℕ) → IsTrace T → length (counted_events until (all_events T.segments)) < 2 ^ 64
-few_counted T None trace = few_events T trace
-few_counted T (Some moment) trace =
-    let all = few_events T trace in
-    let test : Event → Bool = λ e. nat_le e.sequence moment in
-    let kept = length-filter test (all_events T.segments) in
-    let some = count_by-le-length test (all_events T.segments) in
-    omega (arith, all, kept, some)
 
 counted-none : (until : Option ℕ) → counted_events until [] ≡ []
 counted-none None = refl

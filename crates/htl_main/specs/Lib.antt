@@ -5,7 +5,6 @@ pub mod Completeness
 pub mod Moments
 pub mod Coverages
 pub mod Subjects
-pub mod Answers
 pub mod Printed
 pub mod Remarks
 pub mod Causes
@@ -27,10 +26,8 @@ pub mod Histories
 pub mod Ends
 pub mod Folders
 pub mod Faults
-pub mod Questions
 pub mod Reads
 pub mod Dumping
-pub mod Unfolded
 pub mod CaseOutlines
 pub mod Spans
 pub mod Pairs

@@ -14,7 +14,7 @@ use Rattle.htl_command.specs.declared.question.Format.{Format}
 use Rattle.htl_command.specs.declared.question.Format.TheVariants.{Plain, Json, Folded}
 use Rattle.htl_command.specs.declared.question.Job.{Job}
 use Rattle.htl_question.specs.Rows.{Found, Listed, leaks}
-use Rattle.htl_main.specs.Answers.{IsAnswer}
+use Rattle.htl_evidence.specs.Bases.{IsAnswer}
 use Rattle.htl_main.specs.Completeness.{ReportsMissing}
 use Rattle.htl_main.specs.CutInputs.{Decoding, IsDecoding}
 use Rattle.htl_main.specs.Inputs.{IsReportedOfInput, StopsAtInput}

@@ -7,7 +7,7 @@ use Rattle.htl_symbols.specs.Ranges.{Range}
 use Rattle.htl_report.specs.Names.{none_named, shown_addresses}
 use Rattle.htl_command.specs.declared.question.Job.{Job}
 use Rattle.htl_question.specs.Rows.{Found, has_finding, is_unmarked}
-use Rattle.htl_main.specs.Answers.{IsAnswer}
+use Rattle.htl_evidence.specs.Bases.{IsAnswer}
 use Rattle.htl_main.specs.Inputs.{DecodeAll}
 use Rattle.htl_main.specs.Moments.{IsNamedMoment}
 use Rattle.htl_main.specs.Printed.{HasSymbols}

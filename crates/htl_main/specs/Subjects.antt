@@ -1,5 +1,5 @@
 -- Whether anything can be found of what a question is about (this project's own): a number that was mistyped looks like one without a leak.
-use Rattle.std.specs.Prelude.{◌≡◌, ℕ, Bool, true, ◌&&◌, nat_lt, if◌then◌else◌, List, Option, Some, None}
+use Rattle.std.specs.Prelude.{◌≡◌, ℕ, Bool, true, false, ◌&&◌, nat_lt, if◌then◌else◌, List, Option, Some, None}
 use Rattle.std.specs.List.{list_any}
 use Rattle.htl_event.specs.Events.{Event}
 use Rattle.htl_event.specs.Moments.{counted_events}
@@ -10,6 +10,7 @@ use Rattle.htl_command.specs.declared.question.Job.{Job}
 use Rattle.htl_question.specs.Questions.{asks_since, subject_of}
 use Rattle.htl_question.specs.Subjects.{is_about}
 use Rattle.htl_question.specs.declared.question.Question.{Question}
+use Rattle.htl_question.specs.declared.question.Question.TheVariants.{Growth}
 use Rattle.htl_question.specs.declared.question.Since.{Since}
 use Rattle.htl_question.specs.declared.question.Since.TheVariants.{Sequence}
 use Rattle.htl_main.specs.Inputs.{DecodeAll}
@@ -48,6 +49,11 @@ absence_by has_subject question until events =
 abbrev pub absence_in : Question → Option ℕ → List Event → Option Absence
 absence_in question until events =
     absence_by (list_any (is_about (subject_of question)) (counted_events until events)) question until events
+
+-- the question asks how a number grows: its answer has a row for each moment, also where there is nothing
+abbrev pub is_growth : Question → Bool
+is_growth (Growth process count) = true
+is_growth question = false
 
 -- what there is not of what the job asks about in a trace
 abbrev pub HasAbsence : Trace → Job → Option Absence → Type 0

@@ -1,12 +1,9 @@
-//! How much of its trace a case has, by the outlines of its segments, or an analyst.
+//! How much of its trace a case has, or an analyst.
 
-ghost use Rattle.std.specs.Prelude.{◌≡◌, ◌<◌, ◌≤◌, ◌++◌, ℕ, take, All, IfOk, OnOk};
-ghost use Rattle.std.specs.List.Sorted.{IsNonDecreasingBy};
-ghost use Rattle.htl_taken.specs.GapLists.{gaps_from, gaps_of};
-ghost use Rattle.htl_taken.specs.Rising.{reach_from};
+ghost use Rattle.std.specs.Prelude.{◌≡◌, ℕ};
 ghost use Rattle.htl_segment.specs.Traces.{Trace};
-ghost use Rattle.htl_main.specs.CaseOutlines.{AreFrontsOf, AreOutlinesOf, greatest_from, lesser};
-ghost use Rattle.htl_main.specs.CaseOutlines.{numbers_of};
+ghost use Rattle.htl_evidence.specs.Outlines.{AreOutlinesOf};
+ghost use Rattle.htl_main.specs.CaseOutlines.{lesser};
 ghost use Rattle.htl_main.specs.Moments.{is_above};
 
 use crate::cut_inputs::CutEnd;
@@ -15,9 +12,9 @@ use htl_analyst::Analyst;
 use htl_case::{Case, PickedCase};
 use htl_command::Moment;
 use htl_event::NoMemory;
+use htl_evidence::Extent;
 use htl_reading::SegmentName;
 use htl_segment::Outline;
-use htl_taken::Gap;
 use std::alloc::Global;
 
 /// How much of its trace a case has. An answer over a case with a gap holds for the segments that
@@ -74,13 +71,8 @@ pub(crate) fn is_above(until: Option<Moment>, sequence: u64) -> bool
 pub(crate) struct Missed {
     /// The identity of the trace.
     pub trace_id: u64,
-    /// The gaps by processor: each longest run of missing numbers below one that is there, or that
-    /// the processor has no segment.
-    pub gaps: Vec<Gap>,
-    /// The first missing number of each processor.
-    pub fronts: Vec<u32>,
-    /// The sequence up to which no segment is missing.
-    pub complete_to: u64,
+    /// How much there is of it.
+    pub extent: Extent,
 }
 
 impl Missed {
@@ -89,7 +81,8 @@ impl Missed {
     ghost use Rattle.htl_segment.specs.Content.{Content};
     ghost use Rattle.htl_segment.specs.Traces.{Trace};
     ghost use Rattle.htl_case.specs.Complete.{IsFirstMissing};
-    ghost use Rattle.htl_main.specs.CaseOutlines.{AreOutlinesOf, IsFirstShort, IsMissed, IsShortUpTo};
+    ghost use Rattle.htl_evidence.specs.Outlines.{AreOutlinesOf};
+    ghost use Rattle.htl_main.specs.CaseOutlines.{IsFirstShort, IsMissed, IsShortUpTo};
     ghost use Rattle.htl_main.specs.Completeness.{IsComplete, IsFirstUnknown, IsKnown, IsLeastMissing};
     ghost use Rattle.htl_main.specs.Completeness.{IsOfKey, Misses, ReportsMissing};
     ghost use Rattle.htl_main.specs.Coverages.{IsCoverage};
@@ -119,23 +112,9 @@ impl Missed {
         ensures { IfOk result (λ missed. (T : Trace) → AreOutlinesOf processors outlines.now T
             → IsMissed T missed) }
     {
-        let mut gaps = Vec::new(alloc);
-        let mut fronts = Vec::new(alloc);
-        let mut complete_to = u64::MAX;
-        let mut rest = outlines;
-        for processor in 0..processors {
-            let (own, after) = split_at_processor(rest, processor);
-            add_gaps(&mut gaps, processor, own)?;
-            let first = unbroken(own);
-            fronts.push(first.len().min(u32::MAX as usize) as u32)?;
-            complete_to = greatest_last(first).min(complete_to);
-            rest = after;
-        }
         Ok(Missed {
             trace_id: trace_id(outlines),
-            gaps,
-            fronts,
-            complete_to,
+            extent: Extent::of_outlines(alloc, processors, outlines)?,
         })
     }
 
@@ -145,13 +124,9 @@ impl Missed {
             → AreFolded (Some analyst.now) segments → IsCollectionOf segments T
             → IsMissed T missed) }
     {
-        let gaps = analyst.gaps(alloc)?;
-        let fronts = fronts(alloc, analyst)?;
         Ok(Missed {
             trace_id: analyst.trace_id(),
-            gaps,
-            fronts,
-            complete_to: analyst.complete_to(),
+            extent: Extent::of_analyst(alloc, analyst)?,
         })
     }
 
@@ -160,8 +135,8 @@ impl Missed {
         ensures { (T : Trace) → IsMissed T self.now → IsCoverage T result }
     {
         Coverage {
-            gaps: self.gaps.len() as u64,
-            complete_to: self.complete_to,
+            gaps: self.extent.gaps.len() as u64,
+            complete_to: self.extent.complete_to,
         }
     }
 
@@ -197,7 +172,7 @@ impl Missed {
         ensures { (T : Trace) → IsMissed T self.now → processor < T.processors
             → IsFirstMissing T processor result }
     {
-        match self.fronts.get(usize::from(processor)) {
+        match self.extent.fronts.get(usize::from(processor)) {
             Some(front) => *front,
             None => 0,
         }
@@ -207,7 +182,7 @@ impl Missed {
     fn first_short(&self, cuts: &[CutEnd]) -> Option<u16>
         ensures { (T : Trace) → IsMissed T self.now → IsFirstShort T cuts.now result }
     {
-        let mut first = match self.gaps.first() {
+        let mut first = match self.extent.gaps.first() {
             Some(gap) => Some(gap.processor()),
             None => None,
         };
@@ -223,7 +198,7 @@ impl Missed {
         ensures { (T : Trace) → IsMissed T self.now → IsShortUpTo T cut.now result }
     {
         let name = self.known(cut)?;
-        let front = *self.fronts.get(usize::from(name.processor))?;
+        let front = *self.extent.fronts.get(usize::from(name.processor))?;
         if name.number < front {
             return None;
         }
@@ -238,7 +213,7 @@ impl Missed {
     {
         let name = cut.name?;
         let is_ours = name.trace_id == self.trace_id
-            && usize::from(name.processors) == self.fronts.len();
+            && usize::from(name.processors) == self.extent.fronts.len();
         if is_ours { Some(name) } else { None }
     }
 
@@ -278,83 +253,4 @@ fn trace_id(outlines: &[Outline]) -> u64
         Some(outline) => outline.trace_id,
         None => 0,
     }
-}
-
-/// The front of each processor of an analyst.
-fn fronts(alloc: Global, analyst: &Analyst<Global>) -> Result<Vec<u32>, NoMemory>
-    ensures { IfOk result (λ fronts. AreFrontsOf analyst.now analyst.now.processors fronts.items) }
-{
-    let mut fronts = Vec::new(alloc);
-    for processor in 0..analyst.processors() {
-        fronts.push(analyst.front(processor))?;
-    }
-    Ok(fronts)
-}
-
-/// Adds the gaps of a processor with these outlines.
-fn add_gaps(gaps: &mut Vec<Gap>, processor: u16, own: &[Outline]) -> Result<(), NoMemory>
-    ensures { OnOk result (gaps.new.items
-        ≡ gaps.old.items ++ gaps_of processor 0 (numbers_of own.now)) }
-{
-    if own.is_empty() {
-        gaps.push(Gap::Absent { processor })?;
-        return Ok(());
-    }
-    add_runs(gaps, processor, own)
-}
-
-/// Adds the runs of missing numbers before each of these outlines.
-fn add_runs(gaps: &mut Vec<Gap>, processor: u16, outlines: &[Outline]) -> Result<(), NoMemory>
-    ensures { OnOk result (gaps.new.items
-        ≡ gaps.old.items ++ gaps_from processor 0 (numbers_of outlines.now)) }
-{
-    let mut next = 0;
-    for outline in outlines {
-        let number = outline.number;
-        if next < u64::from(number) {
-            gaps.push(Gap::Between {
-                processor,
-                from: next as u32,
-                to: number - 1,
-            })?;
-        }
-        next = u64::from(number) + 1;
-    }
-    Ok(())
-}
-
-/// Splits ordered outlines, none of an earlier processor, into those of this processor and those of
-/// later ones.
-fn split_at_processor(outlines: &[Outline], processor: u16) -> (&[Outline], &[Outline])
-    ensures parts { result.0.now ++ result.1.now ≡ outlines.now }
-    ensures own { IsNonDecreasingBy (λ o. o.processor) outlines.now
-        → All (λ o. processor ≤ o.processor) outlines.now
-        → All (λ o. o.processor ≡ processor) result.0.now }
-    ensures after { IsNonDecreasingBy (λ o. o.processor) outlines.now
-        → All (λ o. processor < o.processor) result.1.now }
-{
-    outlines.split_at(outlines.partition_point(|outline| outline.processor <= processor))
-}
-
-/// The processor's outlines before its first missing number.
-fn unbroken(own: &[Outline]) -> &[Outline]
-    ensures { result.now ≡ take (reach_from 0 (numbers_of own.now)) own.now }
-{
-    for (place, outline) in own.iter().enumerate() {
-        if outline.number as usize != place {
-            return &own[..place];
-        }
-    }
-    own
-}
-
-/// The greatest last sequence of these outlines, 0 where there are none.
-fn greatest_last(outlines: &[Outline]) -> u64
-    ensures { result ≡ greatest_from 0 outlines.now }
-{
-    let mut greatest = 0;
-    for outline in outlines {
-        greatest = outline.last.max(greatest);
-    }
-    greatest
 }

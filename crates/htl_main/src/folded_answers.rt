@@ -3,17 +3,15 @@
 ghost use Rattle.std.specs.Prelude.{◌≡◌, ◌≢◌, [], IfErr, IfOk, List, None, OnOk, Some, false, true};
 ghost use Rattle.htl_command.specs.Needs.{needs_events};
 ghost use Rattle.htl_question.specs.Questions.{is_of_events};
-ghost use Rattle.htl_question.specs.declared.question.Question.TheVariants as questions;
 ghost use Rattle.htl_segment.specs.Content.{Content};
 ghost use Rattle.htl_segment.specs.Traces.{Trace};
-ghost use Rattle.htl_main.specs.Answers.{IsAnswer};
+ghost use Rattle.htl_evidence.specs.Bases.{IsAnswer};
 ghost use Rattle.htl_main.specs.Asked.{IsUnasked};
 ghost use Rattle.htl_main.specs.Completeness.{IsComplete};
 ghost use Rattle.htl_main.specs.Folding.{AreFolded, IsAskedOver, IsCollectionOf};
 ghost use Rattle.htl_main.specs.Printed.{IsText};
 ghost use Rattle.htl_main.specs.Remarks.{RemarksOver};
 
-use crate::answering::answer_of;
 use crate::coverage::Missed;
 use crate::fault::RunFault;
 use crate::folding::Folded;
@@ -22,8 +20,8 @@ use crate::remarks::remarks_on;
 use htl_analyst::Analyst;
 use htl_command::{Job, Setting};
 use htl_event::NoMemory;
-use htl_question::{Answer, Question, Rows, Totals};
-use htl_summary::{Objects, Summary, summarize};
+use htl_evidence::{Folds, answer};
+use htl_question::{Answer, Question};
 use std::alloc::Global;
 use std::thread::Threads;
 
@@ -55,7 +53,7 @@ pub fn folded_text(
         return Ok(AnswerText::none(alloc));
     };
     check_complete(alloc, setting.complete, analyst)?;
-    let answer = answer(rt, alloc, setting.workers, job.question, analyst)?;
+    let answer = answer_of_folds(rt, alloc, setting.workers, job.question, analyst)?;
     let lines = lines(alloc, job, None, &answer, &folded.symbols)?;
     Ok(AnswerText {
         lines,
@@ -81,8 +79,8 @@ fn check_complete(alloc: Global, complete: bool, analyst: &Analyst<Global>) -> R
 }
 
 /// The answer of an analyst to a question that needs no events.
-fn answer(
-    rt: &(impl Threads + Sync),
+fn answer_of_folds<Rt: Threads + Sync>(
+    rt: &Rt,
     alloc: Global,
     workers: u32,
     question: Question,
@@ -93,40 +91,6 @@ fn answer(
         → AreFolded (Some analyst.now) segments → IsAskedOver question segments T
         → IsAnswer T None question answer) }
 {
-    match question {
-        Question::Summary => summary(rt, alloc, workers, analyst),
-        question => answer_of(alloc, analyst.parts(), question),
-    }
-}
-
-/// The summary of what an analyst took.
-fn summary(
-    rt: &(impl Threads + Sync),
-    alloc: Global,
-    workers: u32,
-    analyst: &Analyst<Global>,
-) -> Result<Answer, NoMemory>
-    ensures { IfOk result (λ answer. (segments : List Content) (T : Trace)
-        → AreFolded (Some analyst.now) segments → IsAskedOver questions.Summary segments T
-        → IsAnswer T None questions.Summary answer) }
-{
-    let gaps = analyst.gaps(alloc)?;
-    let Summary { objects, processes } = summarize(rt, alloc, workers, analyst.parts())?;
-    let Objects { number, unbalanced } = objects;
-    Ok(Answer {
-        question: Question::Summary,
-        since: None,
-        rows: Rows::Summary {
-            totals: Totals {
-                processors: analyst.processors(),
-                segments: analyst.taken(),
-                events: analyst.events(),
-                complete_to: analyst.complete_to(),
-                objects: number,
-            },
-            gaps,
-            processes,
-            objects: unbalanced,
-        },
-    })
+    let evidence = Folds { analyst };
+    answer(rt, alloc, workers, &evidence, question)
 }

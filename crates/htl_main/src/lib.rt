@@ -15,10 +15,9 @@
 //! (the segments of sources and of inputs in memory), `decoded.rt` (which input each segment is
 //! of), `cases.rt` and `pairing.rt` (the case of all segments, or the two that a fault is about),
 //! `origin.rt` (where these two came from), `coverage.rt` (what a case misses of its trace),
-//! `cut_inputs.rt` (which inputs end within a segment), `answering.rt` (the answer over a case),
-//! `unfolded.rt` (segments as they are, over which a run answers), `summarizing.rt` (the summary of
-//! a case), `completed.rt` (what a run reports beside its answer), `picked_run.rt`, `picking.rt` and
-//! `picked.rt` (the run that keeps only what its question asks about),
+//! `cut_inputs.rt` (which inputs end within a segment), `completed.rt` (what a run reports beside its
+//! answer), `picked_run.rt`, `picking.rt` and `picked.rt` (the run that keeps only what its question
+//! asks about),
 //! `folding.rt` and `taking.rt` (sources that are read and forgotten), `folder.rt` (how their
 //! segments are taken and folded), `falling.rt` (which segment falls once another one is taken),
 //! `folded_answers.rt` (answers over what was folded), `dumping.rt` and `encoding.rt` (the runs of
@@ -32,9 +31,9 @@
 //! which input is refused first), `CutInputs` (which of them end within a segment), `Completeness`
 //! (whether segments are missing, and which is the least), `Moments` (the moment up to which events
 //! count), `Coverages` (how much of its trace a case
-//! has), `Subjects` (whether anything can be found of what was asked about), `Answers` and
-//! `Printed` (the answer and its lines, or the first fault in the order of a run), `Remarks` (what
-//! is told of the answer beside its lines), `Causes` and `Sources` (how a run ends for out of
+//! has), `Subjects` (whether anything can be found of what was asked about), `Printed` (the lines of
+//! an answer, or the first fault in the order of a run), `Remarks` (what is told of the answer beside
+//! its lines), `Causes` and `Sources` (how a run ends for out of
 //! memory or by a failing device), `Readings` (how any run reads its sources, in one record),
 //! `Dumps` and `Encodings` (what the runs of `dump` and `encode` write, and why they end),
 //! `Origins` (which two segments a fault is about), `Loading` (what is loaded before a question is
@@ -46,7 +45,6 @@
 #![tactic(auto)]
 
 mod adding;
-mod answering;
 mod cases;
 mod completed;
 mod coverage;
@@ -73,9 +71,7 @@ mod refused;
 mod remarks;
 mod sources;
 mod streaming;
-mod summarizing;
 mod taking;
-mod unfolded;
 
 pub use adding::{Added, add};
 pub use completed::{Absence, Completed, absence_of, since_of};

@@ -1,19 +1,14 @@
 //! The answer over what was picked from a case.
 
-ghost use Rattle.std.specs.Prelude.{◌≡◌, ◌<◌, ◌^◌, ℕ, List, Option, IfErr, IfNone, IfOk, IfSome, OnOk};
-ghost use Rattle.std.specs.Prelude.{◌&&◌, length, not};
+ghost use Rattle.std.specs.Prelude.{◌≡◌, ◌&&◌, ℕ, List, Option, IfErr, IfNone, IfOk, IfSome, not};
 ghost use Rattle.std.specs.List.{list_any};
 ghost use Rattle.std.specs.Option.{option_copied};
 ghost use Rattle.htl_event.specs.Moments.{counted_events};
 ghost use Rattle.htl_segment.specs.Content.{Content};
-ghost use Rattle.htl_segment.specs.Picks.{events_in};
-ghost use Rattle.htl_segment.specs.Traces.{IsTrace, Trace, all_events};
-ghost use Rattle.htl_case.specs.Picked.{IsPickedUntil};
+ghost use Rattle.htl_segment.specs.Traces.{all_events};
 ghost use Rattle.htl_question.specs.Questions.{Serves, subject_of};
 ghost use Rattle.htl_question.specs.Subjects.{is_about};
-ghost use Rattle.htl_question.specs.declared.question.Question.TheVariants as questions;
-ghost use Rattle.htl_main.specs.Answers.{IsAnswer};
-ghost use Rattle.htl_main.specs.CaseOutlines.{IsMissed};
+ghost use Rattle.htl_evidence.specs.Bases.{IsAnswer};
 ghost use Rattle.htl_main.specs.Causes.{IsCauseAfter};
 ghost use Rattle.htl_main.specs.CutInputs.{decoding};
 ghost use Rattle.htl_main.specs.Moments.{IsNamedMoment};
@@ -22,20 +17,17 @@ ghost use Rattle.htl_main.specs.Picking.{EndsAnswer, IsPickedAsOf, IsPickedFor, 
 ghost use Rattle.htl_main.specs.Picking.{is_of_open_handles};
 ghost use Rattle.htl_main.specs.Printed.{AreAnswerLines};
 
-use crate::answering::{answer_of_lists, span_until};
 use crate::completed::{Completed, absence_by, any_list_about};
 use crate::coverage::Missed;
 use crate::cut_inputs::{CutEnd, cut_inputs};
 use crate::fault::RunFault;
 use crate::printing::{check_absence, check_gaps, lines, read_symbols};
 use crate::remarks::remarks_on;
-use crate::summarizing::summary_of_lists;
-use htl_answers::growth;
 use htl_case::PickedCase;
 use htl_command::Job;
-use htl_event::{Interest, NoMemory, SharedEvent, number_of_events};
-use htl_question::{Answer, Question, Rows, Totals};
-use htl_summary::{Objects, Summary};
+use htl_event::{Interest, NoMemory};
+use htl_evidence::{Picks, answer};
+use htl_question::Answer;
 use std::alloc::Global;
 use std::thread::Threads;
 
@@ -77,7 +69,7 @@ pub(crate) fn answered_of_picks(
     };
     let absence = absence_by(has_subject, job.question, until, case.span());
     check_absence(job, absence)?;
-    let answer = answer_of_picks(rt, alloc, job, until, missed, &case)?;
+    let answer = answer_of_picks(rt, alloc, job, until, &case)?;
     let lines = lines(alloc, job, until, &answer, &symbols)?;
     let completed = Completed {
         coverage,
@@ -114,93 +106,19 @@ fn falls_short(interest: Interest, has_subject: bool) -> bool
     !has_subject && matches!(interest, Interest::OpenHandles(_))
 }
 
-/// The answer to the job's question about what was picked of a case up to a moment. The case misses
-/// this of its trace.
-fn answer_of_picks(
-    rt: &(impl Threads + Sync),
+/// The answer to the job's question about what was picked of a case up to a moment.
+fn answer_of_picks<Rt: Threads + Sync>(
+    rt: &Rt,
     alloc: Global,
     job: &Job,
     until: Option<u64>,
-    missed: Missed,
     case: &PickedCase,
 ) -> Result<Answer, NoMemory>
     ensures { IfOk result (λ answer. (interest : Interest) (segments : List Content)
         (serves : Serves job.now.question interest)
-        (is : IsPickedAsOf interest until case.now segments) → IsMissed is.trace missed
+        (is : IsPickedAsOf interest until case.now segments)
         → IsAnswer is.trace until job.now.question answer) }
 {
-    let lists = case.lists();
-    match job.question {
-        Question::Summary => summary_of_picks(rt, alloc, job.setting.workers, missed, case),
-        Question::Trace { process, handle } => {
-            let rows = Rows::Listing(case.trace(alloc, process, handle)?);
-            Ok(Answer {
-                question: job.question,
-                since: None,
-                rows,
-            })
-        }
-        Question::Growth { process, points } => {
-            let span = span_until(until, case.span());
-            let rows = Rows::Points(growth(alloc, lists, process, span, points)?);
-            Ok(Answer {
-                question: job.question,
-                since: None,
-                rows,
-            })
-        }
-        question => {
-            count(lists)?;
-            answer_of_lists(alloc, lists, question)
-        }
-    }
-}
-
-/// The summary of what was picked of a case, which misses this of its trace.
-fn summary_of_picks(
-    rt: &(impl Threads + Sync),
-    alloc: Global,
-    workers: u32,
-    missed: Missed,
-    case: &PickedCase,
-) -> Result<Answer, NoMemory>
-    ensures { IfOk result (λ answer. (T : Trace) (until : Option ℕ) (interest : Interest)
-        → IsTrace T → IsMissed T missed → Serves questions.Summary interest
-        → IsPickedUntil interest T until case.now → IsAnswer T until questions.Summary answer) }
-{
-    let events = count(case.lists())?;
-    let Missed {
-        gaps,
-        complete_to,
-        ..
-    } = missed;
-    let Summary { objects, processes } = summary_of_lists(rt, alloc, workers, case.lists())?;
-    let Objects { number, unbalanced } = objects;
-    Ok(Answer {
-        question: Question::Summary,
-        since: None,
-        rows: Rows::Summary {
-            totals: Totals {
-                processors: case.processors(),
-                segments: case.outlines().len() as u64,
-                events,
-                complete_to,
-                objects: number,
-            },
-            gaps,
-            processes,
-            objects: unbalanced,
-        },
-    })
-}
-
-/// The number of events in lists. More than a `u64` can count would fit in no memory.
-fn count(lists: &[Vec<SharedEvent>]) -> Result<u64, NoMemory>
-    ensures value { IfOk result (λ number. number ≡ length (events_in lists.now)) }
-    ensures few { OnOk result (length (events_in lists.now) < 2 ^ 64) }
-{
-    match number_of_events(lists) {
-        Some(number) => Ok(number as u64),
-        None => Err(NoMemory),
-    }
+    let evidence = Picks::new(alloc, case, until);
+    answer(rt, alloc, job.setting.workers, &evidence, job.question)
 }

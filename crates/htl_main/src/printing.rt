@@ -6,6 +6,7 @@ ghost use Rattle.std.specs.Io.KnownBytes.{Appends};
 ghost use Rattle.std.specs.Option.{option_copied};
 ghost use Rattle.htl_device.specs.Devices.{AppendsPrefix};
 ghost use Rattle.htl_segment.specs.Traces.{Trace};
+ghost use Rattle.htl_evidence.specs.Bases.{IsAnswer};
 ghost use Rattle.htl_main.specs.Runs.{IsRunOver};
 ghost use Rattle.htl_main.specs.CaseOutlines.{IsMissed};
 ghost use Rattle.htl_main.specs.Completeness.{ReportsMissing};
@@ -17,7 +18,6 @@ ghost use Rattle.htl_main.specs.Picking.{EndsAnswer, NamesMissing};
 ghost use Rattle.htl_main.specs.Printing.{PrintsAnswer};
 ghost use Rattle.htl_main.specs.Remarks.{RemarksOver};
 
-use crate::answering::answer;
 use crate::cases::case_of;
 use crate::completed::{Absence, Completed, absence_of};
 use crate::coverage::{Missed, is_above};
@@ -27,11 +27,13 @@ use crate::inputs::decode_all;
 use crate::loading::{Loaded, with_symbols};
 use crate::refused::Refused;
 use crate::remarks::{Remarks, remarks_on};
+use htl_case::Case;
 use htl_command::{Format, Job, Moment};
 use htl_device::{Sink, write_whole};
 use htl_event::NoMemory;
+use htl_evidence::{AsOf, answer};
 use htl_json::json_lines;
-use htl_question::{Answer, Rows};
+use htl_question::{Answer, Question, Rows};
 use htl_report::{folded, text};
 use htl_symbols::{SymbolFault, Symbols};
 use std::alloc::Global;
@@ -159,12 +161,29 @@ pub fn answer_text(
         → RemarksOver loaded.now.case loaded.now.symbols job.now text.remarks) }
 {
     let until = loaded.moment(job.until);
-    let answer = answer(rt, alloc, workers, job.question, until, &loaded.case)?;
+    let answer = answer_as_of(rt, alloc, workers, &loaded.case, until, job.question)?;
     let lines = lines(alloc, job, until, &answer, &loaded.symbols)?;
     Ok(AnswerText {
         lines,
         remarks: remarks_on(job, &answer, &loaded.symbols),
     })
+}
+
+/// The answer to a question over the events of a case up to a moment. It is made from the segments
+/// where they lie, without folding any.
+fn answer_as_of<Rt: Threads + Sync>(
+    rt: &Rt,
+    alloc: Global,
+    workers: u32,
+    case: &Case,
+    until: Option<u64>,
+    question: Question,
+) -> Result<Answer, NoMemory>
+    ensures { IfOk result (IsAnswer case.now until question) }
+{
+    let lists = case.until(alloc, until)?;
+    let evidence = AsOf::new(alloc, case, until, &lists);
+    answer(rt, alloc, workers, &evidence, question)
 }
 
 /// The lines of an answer in the job's form, where events count up to a moment.
@@ -201,7 +220,7 @@ pub(crate) fn check_gaps(
     ensures after { IfErr result EndsAnswer }
     ensures names { IfErr result NamesMissing }
 {
-    if !complete || !is_above(until, missed.complete_to) {
+    if !complete || !is_above(until, missed.extent.complete_to) {
         return Ok(());
     }
     match missed.fault(cuts) {

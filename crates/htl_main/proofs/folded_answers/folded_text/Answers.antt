@@ -5,8 +5,8 @@ use Rattle.std.proofs.Crossing.{crosses}
 use Rattle.htl_main.proofs.FoldLaws.{all_count}
 use Rattle.htl_main.proofs.folded_answers.folded_text.Goals as goal
 
-pub answer-requires : goal.answer-requires
-answer-requires g c = (search (sendable, crosses) depth 20, (all_count c.args.job.now c.requires).0)
+pub answer_of_folds-requires : goal.answer_of_folds-requires
+answer_of_folds-requires g c = (search (sendable, crosses) depth 20, (all_count c.args.job.now c.requires).0)
 
 pub returns-in_default-clause-text : goal.returns-in_default-clause-text
 returns-in_default-clause-text g c = λ segments T folded is. absurd (is.some (rw c.in_default.is at folded).taken)

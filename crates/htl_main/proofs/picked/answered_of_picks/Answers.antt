@@ -101,7 +101,7 @@ returns-clause-ok g c = λ segments is.
         until,
         named,
         c.in_ok-answer.answer,
-        c.in_ok-answer.ensures c.args.interest segments c.requires kept missed,
+        c.in_ok-answer.ensures c.args.interest segments c.requires kept,
         c.in_ok-lines.ensures,
       );
     }
@@ -132,7 +132,7 @@ returns-clause-reports g c = λ segments is.
           until,
           named,
           c.in_ok-answer.answer,
-          c.in_ok-answer.ensures c.args.interest segments c.requires kept missed,
+          c.in_ok-answer.ensures c.args.interest segments c.requires kept,
           c.remarks_on.ensures,
         ),
       );

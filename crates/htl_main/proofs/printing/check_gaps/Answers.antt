@@ -8,7 +8,7 @@ pub returns-in-Some-clause-err : goal.returns-in-Some-clause-err
 returns-in-Some-clause-err c =
     let missed = c.args.missed.now in
     let complete : c.args.complete ≡ true = search (rules, c.if-not-complete.false) in
-    let above : is_above c.args.until missed.complete_to ≡ true = search (rules, c.if-not-is_above.false, c.is_above.ensures) in (
+    let above : is_above c.args.until missed.extent.complete_to ≡ true = search (rules, c.if-not-is_above.false, c.is_above.ensures) in (
       complete,
       λ T is. (
         still_missing T missed c.args.cuts.now c.args.until c.in-Some.fault is above (c.in-Some.ensures.some T is),

@@ -5,5 +5,6 @@ use Rattle.htl_main.proofs.coverage.Missed.coverage.Goals as goal
 
 pub returns : goal.returns
 returns c =
-    let number : c.len.result ≡ length c.args.self.now.gaps.items = grind (arith, common_steps) in
-    λ T is. record { gaps = c.args.self.now.gaps.items; are_gaps = is.gaps; counted = number; complete_to = is.complete_to }
+    let gaps = c.args.self.now.extent.gaps.items in
+    let number : c.len.result ≡ length gaps = grind (arith, common_steps) in
+    λ T is. record { gaps = gaps; are_gaps = is.extent.is.gaps; counted = number; complete_to = is.extent.is.complete_to }

@@ -11,22 +11,22 @@ returns-in_err-name c = λ T is. rw (c.from_residual.ensures) (short_unknown T c
 pub returns-in_err-front : goal.returns-in_err-front
 returns-in_err-front c = λ T is.
     let item = rw (c.from.ensures, c.deref.ensures.value) at c.in_err-front.ensures.lookup in
-    let out : length c.args.self.now.fronts.items ≤ c.in_ok-name.name.processor = omega (arith, item.3) in
+    let out : length c.args.self.now.extent.fronts.items ≤ c.in_ok-name.name.processor = omega (arith, item.3) in
     rw (c.from_residual-in_err-front.ensures) (short_outside T c.args.self.now is c.args.cut.now c.in_ok-name.name.processor
     c.in_ok-name.name.number (c.in_ok-name.ensures.some T is) out)
 
 pub returns-then-name-front : goal.returns-then-name-front
 returns-then-name-front c = λ T is.
     let item = rw (c.from.ensures, c.deref.ensures.value) at c.in_ok-front.ensures.lookup in
-    let at : slice_get c.args.self.now.fronts.items c.in_ok-name.name.processor ≡ Some c.in_ok-front.field-0.now =
-    slice_get-get_or c.args.self.now.fronts.items c.in_ok-name.name.processor c.in_ok-front.field-0.now item.3.0 ∙ ap Some (sym item.1) in
+    let at : slice_get c.args.self.now.extent.fronts.items c.in_ok-name.name.processor ≡ Some c.in_ok-front.field-0.now =
+    slice_get-get_or c.args.self.now.extent.fronts.items c.in_ok-name.name.processor c.in_ok-front.field-0.now item.3.0 ∙ ap Some (sym item.1) in
     short_below T c.args.self.now is c.args.cut.now c.in_ok-name.name.processor c.in_ok-name.name.number (c.in_ok-name.ensures.some T is)
     c.in_ok-front.field-0.now at c.if-name-front.true
 
 pub returns : goal.returns
 returns c = λ T is.
     let item = rw (c.from.ensures, c.deref.ensures.value) at c.in_ok-front.ensures.lookup in
-    let at : slice_get c.args.self.now.fronts.items c.in_ok-name.name.processor ≡ Some c.in_ok-front.field-0.now =
-    slice_get-get_or c.args.self.now.fronts.items c.in_ok-name.name.processor c.in_ok-front.field-0.now item.3.0 ∙ ap Some (sym item.1) in
+    let at : slice_get c.args.self.now.extent.fronts.items c.in_ok-name.name.processor ≡ Some c.in_ok-front.field-0.now =
+    slice_get-get_or c.args.self.now.extent.fronts.items c.in_ok-name.name.processor c.in_ok-front.field-0.now item.3.0 ∙ ap Some (sym item.1) in
     short_at T c.args.self.now is c.args.cut.now c.in_ok-name.name.processor c.in_ok-name.name.number (c.in_ok-name.ensures.some T is)
     c.in_ok-front.field-0.now at (omega (arith, c.if-name-front.false))

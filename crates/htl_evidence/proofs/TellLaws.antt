@@ -1,0 +1,136 @@
+-- What is kept in each way tells the answers.
+use Rattle.std.proofs.Common.{◌≡◌, ◌∙◌, ◌<◌, ℕ, Bool, true, false, cond, List, [], ◌∷◌, Option, None, length, refl, sym, ap, subst, inl}
+use Rattle.std.proofs.Common.{arith, map}
+use Rattle.std.specs.Prelude.{Contains, ◌↔◌, count_by, filter}
+use Rattle.std.proofs.lemmas.List.Sums.{sum_by-cons}
+use Rattle.htl_event.specs.Events.{Event}
+use Rattle.htl_event.specs.Handles.{IsGreatestSequence}
+use Rattle.htl_event.specs.Moments.{counted_events}
+use Rattle.htl_event.proofs.Members.{Contains-here, Contains-there, filter-pass}
+use Rattle.htl_segment.specs.Content.{Content}
+use Rattle.htl_segment.specs.Traces.{Trace, HasKey, all_events, key_is_in}
+use Rattle.htl_taken.specs.Gaps.{IsGaps}
+use Rattle.htl_taken.specs.declared.gap.Gap.{Gap}
+use Rattle.htl_taken.specs.Numbers.{front_at}
+use Rattle.htl_taken.proofs.Gaps.{gaps_agree}
+use Rattle.htl_answers.specs.Parts.{AreEventsOf}
+use Rattle.htl_analyst.specs.Keys.{HasTaken, keys, number_taken}
+use Rattle.htl_analyst.specs.Moments.{IsLeastLastFolded}
+use Rattle.htl_analyst.specs.Right.{IsRight, run_events}
+use Rattle.htl_analyst.specs.States.{State}
+use Rattle.htl_analyst.specs.TakenEvents.{contents_of, taken_events}
+use Rattle.htl_analyst.proofs.Answered.{are_events_read}
+use Rattle.htl_analyst.proofs.EventNumbers.{number_kept}
+use Rattle.htl_analyst.proofs.KeyEvents.{taken_keys}
+use Rattle.htl_case.specs.Cases.{IsCase}
+use Rattle.htl_case.specs.Complete.{IsCompleteTo, IsFirstMissing}
+use Rattle.htl_case.proofs.Counted.{own_until}
+use Rattle.htl_case.proofs.Pickings.{picked_own}
+use Rattle.htl_case.proofs.Sizes.{size_is}
+use Rattle.htl_question.specs.Bases.{basis, extent}
+use Rattle.htl_question.specs.declared.question.Question.{Question}
+use Rattle.htl_question.proofs.Wanted.{wanted_suffice}
+use Rattle.htl_evidence.specs.Bases.{IsExtentOf}
+use Rattle.htl_evidence.specs.Kept.{Tells, one_by_one}
+use Rattle.htl_evidence.specs.Told.{AreFoldsOf, ArePicksFor, HasFolded, PicksUntil, folds}
+use Rattle.htl_evidence.proofs.Covered.{one_first}
+use Rattle.htl_evidence.proofs.UnfoldedLaws.{are_events_of}
+
+-- the events of a case up to a moment
+pub told_as_of : (T : Trace) (until : Option ℕ) (question : Question) → IsCase T
+    → Tells true (one_by_one (counted_events until (all_events T.segments))) question T until
+told_as_of T until question case = (
+  counted_events until (all_events T.segments),
+  record {
+    are = are_events_of _ _ refl;
+    number = refl;
+    ordered = λ latest. own_until until (all_events T.segments) case.trace.sequences;
+    one_part = λ keeps. refl;
+    enough = λ span extent answer over. over;
+  },
+)
+
+-- the events that were picked for a question
+pub told_picks : (picks : PicksUntil) (question : Question) (T : Trace) (until : Option ℕ) → ArePicksFor picks question T until
+    → Tells true (one_by_one picks.picked.events) question T until
+told_picks picks question T until of = (
+  picks.picked.events,
+  record {
+    are = are_events_of _ _ refl;
+    number = refl;
+    ordered = λ latest. picked_own of.interest T until picks.picked of.is_case.trace of.are;
+    one_part = λ keeps. refl;
+    enough = λ span extent. wanted_suffice question of.interest (basis (counted_events until (all_events T.segments)) span extent)
+        picks.picked.events of.serves of.are.events (own_until until (all_events T.segments) of.is_case.trace.sequences);
+  },
+)
+
+all_pass : (p : Content → Bool) (ss : List Content) → ((s : Content) → Contains ss s → p s ≡ true) → filter p ss ≡ ss
+all_pass p [] each = refl
+all_pass p (s ∷ ss) each =
+    filter-pass p s ss (each s (Contains-here s ss)) ∙ ap (λ (ts : List Content). s ∷ ts) (all_pass p ss (λ t h. each t (Contains-there s ss t h)))
+
+-- the events of the taken keys are all events
+all_taken : (T : Trace) (a : State) → ((p n : ℕ) → HasKey T p n → HasTaken a p n) → taken_events T a ≡ all_events T.segments
+all_taken T a each = ap all_events (all_pass (key_is_in (keys a)) T.segments (λ s h.
+    taken_keys a s.processor s.number (each s.processor s.number (s, h, refl, refl))))
+
+-- what an analyst folded and holds
+pub told_folds : (a : State) (question : Question) (T : Trace) (until : Option ℕ) → AreFoldsOf a question T until
+    → Tells false (folds a) question T until
+told_folds a question T until of =
+    let right = of.folded.right in
+    let all = all_taken T a (λ p n. (of.folded.keys p n).1) in (
+      all_events T.segments,
+      record {
+        are = subst (AreEventsOf (map contents_of a.parts)) all (are_events_read T a a a.parts refl refl right);
+        number = number_kept T a right ∙ ap length all;
+        ordered = of.ordered;
+        one_part = λ keeps. absurd (cc keeps);
+        enough = λ span extent answer over. rw of.moment over;
+      },
+    )
+
+-- ---- the extent of what an analyst took
+
+count_all : (p : Content → Bool) (ss : List Content) → ((s : Content) → Contains ss s → p s ≡ true) → count_by p ss ≡ length ss
+count_all p [] each = refl
+count_all p (s ∷ ss) each =
+    let one = sum_by-cons (λ t. cond (p t) 1 0) s ss in
+    let first = ap {B = ℕ} (λ (b : Bool). cond b 1 0) (each s (Contains-here s ss)) in
+    let rest = count_all p ss (λ t h. each t (Contains-there s ss t h)) in
+    omega (arith, one, first, rest)
+
+-- where exactly its segments were taken, each was taken once
+pub taken_all : (a : State) (T : Trace) → IsRight a T → ((p n : ℕ) → HasTaken a p n ↔ HasKey T p n) → number_taken a ≡ length T.segments
+taken_all a T right same = size_is T a right ∙ count_all (key_is_in (keys a)) T.segments
+    (λ s h. taken_keys a s.processor s.number ((same s.processor s.number).1 (s, h, refl, refl)))
+
+module _ (a : State) (T : Trace) (folded : HasFolded a T) where
+  -- a front is the first missing number
+  pub front_missing : (p : ℕ) → IsFirstMissing T p (front_at a.taken p)
+  front_missing p = record {
+    below = λ n lt. (folded.keys p n).0 (inl lt);
+    missing = λ has. folded.far p ((folded.keys p (front_at a.taken p)).1 has);
+  }
+
+  complete_to : (n : ℕ) → IsLeastLastFolded T a n → IsCompleteTo T n
+  complete_to n least = record {
+    bound = λ p m within unbroken.
+        (let first = one_first T p unbroken.0 (front_at a.taken p) unbroken.1 (front_missing p) in
+        least.bound p m (subst (λ (x : ℕ). p < x) folded.right.processors within)
+        (subst (λ (f : ℕ). IsGreatestSequence (Contains (run_events T p f)) m) first unbroken.2));
+    processor = least.processor;
+    within = subst (λ (x : ℕ). least.processor < x) (sym folded.right.processors) least.within;
+    reached = (front_at a.taken least.processor, front_missing least.processor, least.reached);
+  }
+
+  pub folds_extent : (processors segments complete : ℕ) (gaps : List Gap) → processors ≡ a.processors → segments ≡ number_taken a
+      → IsGaps (HasTaken a) a.processors gaps → IsLeastLastFolded T a complete → IsExtentOf T (extent processors segments gaps complete)
+  folds_extent processors segments complete gaps count number listed least = record {
+    processors = count ∙ sym folded.right.processors;
+    segments = number ∙ taken_all a T folded.right folded.keys;
+    gaps = gaps_agree (HasTaken a) (HasKey T) T.processors gaps (λ p n within. folded.keys p n)
+        (subst (λ (n : ℕ). IsGaps (HasTaken a) n gaps) (sym folded.right.processors) listed);
+    complete_to = complete_to complete least;
+  }

@@ -1,0 +1,6 @@
+-- What public contracts cite.
+pub mod Unfolded
+pub mod Bases
+pub mod Kept
+pub mod Told
+pub mod Outlines

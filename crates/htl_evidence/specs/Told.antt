@@ -1,0 +1,55 @@
+-- Each way of keeping a trace, and which answers it tells.
+use Rattle.std.specs.Prelude.{◌≡◌, ◌↔◌, ℕ, false, map, sum_by, Option, None}
+use Rattle.htl_event.specs.Handles.{HaveOwnSequences}
+use Rattle.htl_event.specs.declared.interest.Interest.{Interest}
+use Rattle.htl_segment.specs.Traces.{Trace, HasKey, all_events}
+use Rattle.htl_analyst.specs.Keys.{HasTaken}
+use Rattle.htl_analyst.specs.Right.{IsRight}
+use Rattle.htl_analyst.specs.States.{State}
+use Rattle.htl_analyst.specs.TakenEvents.{contents_of, events_kept}
+use Rattle.htl_case.specs.Cases.{IsCase}
+use Rattle.htl_case.specs.Picked.{Picked, IsPickedUntil}
+use Rattle.htl_taken.specs.Numbers.{front_at}
+use Rattle.htl_question.specs.Questions.{Serves, is_of_counts}
+use Rattle.htl_question.specs.declared.question.Question.{Question}
+use Rattle.htl_evidence.specs.Kept.{Kept}
+
+-- a case, whose events count up to a moment where one is given
+pub record AsOf : Type 0 where
+  pub trace : Trace
+  pub until : Option ℕ
+
+abbrev pub as_of : Trace → Option ℕ → AsOf
+as_of trace until = record { trace = trace; until = until }
+
+-- what was picked of a case, up to a moment where one is given
+pub record PicksUntil : Type 0 where
+  pub picked : Picked
+  pub until : Option ℕ
+
+abbrev pub picks_until : Picked → Option ℕ → PicksUntil
+picks_until picked until = record { picked = picked; until = until }
+
+-- Of the case, up to this moment, the events of an interest that serves the question were picked.
+pub record ArePicksFor (picks : PicksUntil) (question : Question) (T : Trace) (until : Option ℕ) : Type 0 where
+  pub is_case : IsCase T
+  pub moment : until ≡ picks.until
+  pub interest : Interest
+  pub serves : Serves question interest
+  pub are : IsPickedUntil interest T until picks.picked
+
+-- what an analyst keeps of each processor
+abbrev pub folds : State → Kept
+folds a = record { parts = map contents_of a.parts; number = sum_by events_kept a.parts }
+
+-- The analyst took exactly the segments of the trace, and holds none that it could fold.
+pub record HasFolded (a : State) (T : Trace) : Type 0 where
+  pub right : IsRight a T
+  pub keys : (p n : ℕ) → HasTaken a p n ↔ HasKey T p n
+  pub far : (p : ℕ) → HasTaken a p (front_at a.taken p) → ⊥
+
+-- The analyst folded the trace, all events of which count. If the answer depends on which event is the latest, no two have one sequence.
+pub record AreFoldsOf (a : State) (question : Question) (T : Trace) (until : Option ℕ) : Type 0 where
+  pub folded : HasFolded a T
+  pub moment : until ≡ None
+  pub ordered : is_of_counts question ≡ false → HaveOwnSequences (all_events T.segments)

@@ -1,7 +1,5 @@
 pub mod Covered
 pub mod OfProcessor
 pub mod Outlined
-pub mod UnfoldedLaws
 pub mod OneAnswer
 pub mod TellLaws
-pub mod Shared

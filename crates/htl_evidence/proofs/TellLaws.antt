@@ -1,24 +1,26 @@
 -- What is kept in each way tells the answers.
-use Rattle.std.proofs.Common.{◌≡◌, ◌∙◌, ◌<◌, ℕ, Bool, true, false, cond, List, [], ◌∷◌, Option, None, length, refl, sym, ap, subst, inl}
+use Rattle.std.proofs.Common.{◌≡◌, ◌∙◌, ◌<◌, ℕ, Bool, true, false, cond, List, [], ◌∷◌, Option, length, refl, sym, ap, subst, inl}
 use Rattle.std.proofs.Common.{arith, map}
-use Rattle.std.specs.Prelude.{Contains, ◌↔◌, count_by, filter}
+use Rattle.std.specs.Prelude.{Contains, ◌↔◌, count_by}
+use Rattle.std.proofs.lemmas.List.{append-nil}
 use Rattle.std.proofs.lemmas.List.Sums.{sum_by-cons}
 use Rattle.htl_event.specs.Events.{Event}
 use Rattle.htl_event.specs.Handles.{IsGreatestSequence}
 use Rattle.htl_event.specs.Moments.{counted_events}
-use Rattle.htl_event.proofs.Members.{Contains-here, Contains-there, filter-pass}
+use Rattle.htl_event.proofs.Members.{Contains-here, Contains-there}
 use Rattle.htl_segment.specs.Content.{Content}
 use Rattle.htl_segment.specs.Traces.{Trace, HasKey, all_events, key_is_in}
 use Rattle.htl_taken.specs.Gaps.{IsGaps}
 use Rattle.htl_taken.specs.declared.gap.Gap.{Gap}
 use Rattle.htl_taken.specs.Numbers.{front_at}
 use Rattle.htl_taken.proofs.Gaps.{gaps_agree}
-use Rattle.htl_answers.specs.Parts.{AreEventsOf}
+use Rattle.htl_answers.specs.Parts.{Contents, IsFoldOf, AreEventsOf}
+use Rattle.htl_answers.proofs.JoinedTables.{tables_none}
 use Rattle.htl_analyst.specs.Keys.{HasTaken, keys, number_taken}
 use Rattle.htl_analyst.specs.Moments.{IsLeastLastFolded}
 use Rattle.htl_analyst.specs.Right.{IsRight, run_events}
 use Rattle.htl_analyst.specs.States.{State}
-use Rattle.htl_analyst.specs.TakenEvents.{contents_of, taken_events}
+use Rattle.htl_analyst.specs.TakenEvents.{contents_of}
 use Rattle.htl_analyst.proofs.Answered.{are_events_read}
 use Rattle.htl_analyst.proofs.EventNumbers.{number_kept}
 use Rattle.htl_analyst.proofs.KeyEvents.{taken_keys}
@@ -31,10 +33,25 @@ use Rattle.htl_question.specs.Bases.{basis, extent}
 use Rattle.htl_question.specs.declared.question.Question.{Question}
 use Rattle.htl_question.proofs.Wanted.{wanted_suffice}
 use Rattle.htl_evidence.specs.Bases.{IsExtentOf}
-use Rattle.htl_evidence.specs.Kept.{Tells, one_by_one}
+use Rattle.htl_evidence.specs.Kept.{Tells, one_by_one, unfolded}
 use Rattle.htl_evidence.specs.Told.{AreFoldsOf, ArePicksFor, HasFolded, PicksUntil, folds}
 use Rattle.htl_evidence.proofs.Covered.{one_first}
-use Rattle.htl_evidence.proofs.UnfoldedLaws.{are_events_of}
+
+-- ---- events as a part of which nothing was folded
+
+nothing_folded : (events : List Event) → IsFoldOf (unfolded events) []
+nothing_folded events = record { tree = λ slot stack. refl; tables = tables_none }
+
+-- a part of events that weren't folded stands for these events
+are_events_of : (part : Contents) (events : List Event) → part ≡ unfolded events → AreEventsOf (part ∷ []) events
+are_events_of part events is = rw is ([], [], nothing_folded events, refl, sym (append-nil events))
+
+-- the events that the first of parts holds
+abbrev pub held_in : List Contents → List Event
+held_in [] = []
+held_in (part ∷ parts) = part.held
+
+-- ---- each way of keeping
 
 -- the events of a case up to a moment
 pub told_as_of : (T : Trace) (until : Option ℕ) (question : Question) → IsCase T
@@ -65,22 +82,12 @@ told_picks picks question T until of = (
   },
 )
 
-all_pass : (p : Content → Bool) (ss : List Content) → ((s : Content) → Contains ss s → p s ≡ true) → filter p ss ≡ ss
-all_pass p [] each = refl
-all_pass p (s ∷ ss) each =
-    filter-pass p s ss (each s (Contains-here s ss)) ∙ ap (λ (ts : List Content). s ∷ ts) (all_pass p ss (λ t h. each t (Contains-there s ss t h)))
-
--- the events of the taken keys are all events
-all_taken : (T : Trace) (a : State) → ((p n : ℕ) → HasKey T p n → HasTaken a p n) → taken_events T a ≡ all_events T.segments
-all_taken T a each = ap all_events (all_pass (key_is_in (keys a)) T.segments (λ s h.
-    taken_keys a s.processor s.number (each s.processor s.number (s, h, refl, refl))))
-
 -- what an analyst folded and holds
 pub told_folds : (a : State) (question : Question) (T : Trace) (until : Option ℕ) → AreFoldsOf a question T until
     → Tells false (folds a) question T until
 told_folds a question T until of =
     let right = of.folded.right in
-    let all = all_taken T a (λ p n. (of.folded.keys p n).1) in (
+    let all = of.folded.events in (
       all_events T.segments,
       record {
         are = subst (AreEventsOf (map contents_of a.parts)) all (are_events_read T a a a.parts refl refl right);

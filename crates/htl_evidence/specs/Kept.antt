@@ -5,12 +5,21 @@ use Rattle.htl_event.specs.Handles.{HaveOwnSequences}
 use Rattle.htl_event.specs.Moments.{counted_events}
 use Rattle.htl_event.specs.declared.growth.Span.{Span}
 use Rattle.htl_segment.specs.Traces.{Trace, all_events}
+use Rattle.htl_tree.specs.Trees.{Tree}
 use Rattle.htl_answers.specs.Parts.{Contents, AreEventsOf}
 use Rattle.htl_question.specs.Answers.{Suffice}
 use Rattle.htl_question.specs.Bases.{Extent, basis}
 use Rattle.htl_question.specs.Questions.{is_of_counts}
 use Rattle.htl_question.specs.declared.question.Question.{Question}
-use Rattle.htl_evidence.specs.Unfolded.{unfolded}
+
+-- a part of this tree, these tables and these events
+abbrev pub contents_of : Tree → List Event → List (ℕ × ℕ) → List (ℕ × ℕ) → List Event → Contents
+contents_of tree latest marks exits held =
+    record { tree = tree; latest = latest; marks = marks; exits = exits; held = held }
+
+-- events of which nothing was folded
+abbrev pub unfolded : List Event → Contents
+unfolded events = record { tree = []; latest = []; marks = []; exits = []; held = events }
 
 -- events in parts, and their number
 pub record Kept : Type 0 where

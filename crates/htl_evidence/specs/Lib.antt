@@ -1,5 +1,4 @@
 -- What public contracts cite.
-pub mod Unfolded
 pub mod Bases
 pub mod Kept
 pub mod Told

@@ -6,7 +6,7 @@ use Rattle.htl_segment.specs.Traces.{Trace, HasKey, all_events}
 use Rattle.htl_analyst.specs.Keys.{HasTaken}
 use Rattle.htl_analyst.specs.Right.{IsRight}
 use Rattle.htl_analyst.specs.States.{State}
-use Rattle.htl_analyst.specs.TakenEvents.{contents_of, events_kept}
+use Rattle.htl_analyst.specs.TakenEvents.{contents_of, events_kept, taken_events}
 use Rattle.htl_case.specs.Cases.{IsCase}
 use Rattle.htl_case.specs.Picked.{Picked, IsPickedUntil}
 use Rattle.htl_taken.specs.Numbers.{front_at}
@@ -46,6 +46,7 @@ folds a = record { parts = map contents_of a.parts; number = sum_by events_kept 
 pub record HasFolded (a : State) (T : Trace) : Type 0 where
   pub right : IsRight a T
   pub keys : (p n : ℕ) → HasTaken a p n ↔ HasKey T p n
+  pub events : taken_events T a ≡ all_events T.segments
   pub far : (p : ℕ) → HasTaken a p (front_at a.taken p) → ⊥
 
 -- The analyst folded the trace, all events of which count. If the answer depends on which event is the latest, no two have one sequence.

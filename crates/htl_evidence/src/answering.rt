@@ -11,9 +11,8 @@ ghost use Rattle.htl_question.specs.Questions.{asks_since, is_of_events};
 ghost use Rattle.htl_question.specs.Rows.{listed};
 ghost use Rattle.htl_question.specs.declared.question.Question.TheVariants as questions;
 ghost use Rattle.htl_evidence.specs.Bases.{IsAnswer, IsExtentOf, IsSpanUntil};
-ghost use Rattle.htl_evidence.specs.Kept.{TellsBy};
+ghost use Rattle.htl_evidence.specs.Kept.{TellsBy, unfolded};
 ghost use Rattle.htl_evidence.specs.Outlines.{extent_of};
-ghost use Rattle.htl_evidence.specs.Unfolded.{unfolded};
 
 use crate::evidence::Evidence;
 use crate::extent::Extent;

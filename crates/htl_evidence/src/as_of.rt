@@ -26,7 +26,7 @@ impl<'a> Model for AsOf<'a> {
     ghost use Rattle.htl_event.specs.Moments.{counted_events};
     ghost use Rattle.htl_segment.specs.Traces.{all_events};
     ghost use Rattle.htl_case.specs.Cases.{IsCase};
-    ghost use Rattle.htl_evidence.specs.Unfolded.{unfolded};
+    ghost use Rattle.htl_evidence.specs.Kept.{unfolded};
     ghost use Rattle.htl_evidence.specs.Told.{AsOf, as_of};
 
     ghost Value = { AsOf };

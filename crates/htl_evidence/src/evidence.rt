@@ -17,9 +17,8 @@ pub trait Evidence {
     ghost use Rattle.htl_question.specs.declared.question.Question.{Question};
     ghost use Rattle.htl_question.specs.declared.question.Question.TheVariants as questions;
     ghost use Rattle.htl_evidence.specs.Bases.{IsExtentOf, IsSpanUntil};
-    ghost use Rattle.htl_evidence.specs.Kept.{Kept, Tells};
+    ghost use Rattle.htl_evidence.specs.Kept.{Kept, Tells, unfolded};
     ghost use Rattle.htl_evidence.specs.Outlines.{extent_of};
-    ghost use Rattle.htl_evidence.specs.Unfolded.{unfolded};
 
     /// What is kept of some of the events.
     type Part: Part<Alloc = Global>;

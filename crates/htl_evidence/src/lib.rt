@@ -6,8 +6,7 @@
 //! Files, in reading order: `evidence.rt` (what a question is answered from), `answering.rt` (the
 //! answer), `as_of.rt`, `picks.rt` and `folds.rt` (the three ways of keeping: whole segments, picked
 //! events, and what an analyst folded), `unfolded.rt` (events as a part of which nothing was folded),
-//! `extent.rt` and `outlines.rt` (how much there is of a trace, by the outlines of its segments),
-//! `laws.rt` (a trace has one answer).
+//! `extent.rt` and `outlines.rt` (how much there is of a trace, by the outlines of its segments).
 #![tactic(auto)]
 
 mod answering;
@@ -15,7 +14,6 @@ mod as_of;
 mod evidence;
 mod extent;
 mod folds;
-pub mod laws;
 mod outlines;
 mod picks;
 mod unfolded;

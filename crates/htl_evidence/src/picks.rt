@@ -21,7 +21,7 @@ pub struct Picks<'a> {
 
 impl<'a> Model for Picks<'a> {
     ghost use Rattle.std.specs.Prelude.{◌≡◌};
-    ghost use Rattle.htl_evidence.specs.Unfolded.{unfolded};
+    ghost use Rattle.htl_evidence.specs.Kept.{unfolded};
     ghost use Rattle.htl_evidence.specs.Told.{PicksUntil, picks_until};
 
     ghost Value = { PicksUntil };

@@ -18,7 +18,7 @@ pub struct Unfolded<'a, E> {
 
 impl<'a, E: EventList> Unfolded<'a, E> {
     ghost use Rattle.std.specs.Prelude.{◌≡◌, flat_map};
-    ghost use Rattle.htl_evidence.specs.Unfolded.{unfolded};
+    ghost use Rattle.htl_evidence.specs.Kept.{unfolded};
 
     /// A part of these lists. It allocates nothing.
     pub(crate) fn new(alloc: Global, held: &'a [E]) -> Unfolded<'a, E>
@@ -37,7 +37,7 @@ impl<'a, E: EventList> Unfolded<'a, E> {
 
 impl<'a, E: EventList> Part for Unfolded<'a, E> {
     ghost use Rattle.std.specs.Prelude.{flat_map};
-    ghost use Rattle.htl_evidence.specs.Unfolded.{contents_of};
+    ghost use Rattle.htl_evidence.specs.Kept.{contents_of};
 
     type Held = E;
 

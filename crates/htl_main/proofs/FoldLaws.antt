@@ -21,7 +21,7 @@ use Rattle.htl_analyst.specs.States.{Part, State, folded_at, held_at, no_part}
 use Rattle.htl_analyst.specs.TakenAll.{HasKeyOf, HasTakenAll, IsFirstOf}
 use Rattle.htl_analyst.proofs.Firsts.{first_of_key, is_member}
 use Rattle.htl_analyst.proofs.Held.{collection_of, number, one_segment}
-use Rattle.htl_analyst.proofs.TakenAll.{take_has_taken_one_more}
+use Rattle.htl_analyst.proofs.TakenAll.{all_were_taken, take_has_taken_one_more}
 use Rattle.htl_analyst.proofs.Updates.{place-set_other}
 use Rattle.htl_analyst.specs.Steps.{taken_as}
 use Rattle.htl_analyst.specs.declared.fault.Took.{Took}
@@ -100,6 +100,7 @@ pub folded_all : (segments : List Content) (a : State) (T : Trace) → AreFolded
 folded_all segments a T folded all = record {
   right = right_of_all segments a T folded.taken.1 folded.taken.0 all;
   keys = all_keys segments a T folded.taken.1 folded.taken.0 all;
+  events = all_were_taken segments T a folded.taken.1 (λ s h. is_member segments s ((all.members s).0 h));
   far = folded.far;
 }
 

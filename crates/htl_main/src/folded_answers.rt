@@ -79,6 +79,7 @@ fn check_complete(alloc: Global, complete: bool, analyst: &Analyst<Global>) -> R
 }
 
 /// The answer of an analyst to a question that needs no events.
+#[tactic(auto, using(htl_segment::proofs::Threads::segment_sync))]
 fn answer_of_folds<Rt: Threads + Sync>(
     rt: &Rt,
     alloc: Global,

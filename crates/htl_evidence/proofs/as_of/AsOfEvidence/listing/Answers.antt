@@ -6,7 +6,7 @@ use Rattle.htl_event.specs.Events.{Event}
 use Rattle.htl_event.specs.Handles.{IsListing}
 use Rattle.htl_event.specs.Moments.{counted_events}
 use Rattle.htl_segment.specs.Traces.{all_events}
-use Rattle.htl_evidence.proofs.UnfoldedLaws.{held_in}
+use Rattle.htl_evidence.proofs.TellLaws.{held_in}
 use Rattle.htl_evidence.proofs.as_of.AsOfEvidence.listing.Goals as goal
 
 pub returns : goal.returns

@@ -4,7 +4,7 @@ use Rattle.std.specs.Prelude.{Contains, IfOk}
 use Rattle.std.proofs.lemmas.Result.{IfOk-weaker}
 use Rattle.htl_event.specs.Events.{Event}
 use Rattle.htl_event.specs.Handles.{HaveOwnSequences, IsListing}
-use Rattle.htl_evidence.proofs.UnfoldedLaws.{held_in}
+use Rattle.htl_evidence.proofs.TellLaws.{held_in}
 use Rattle.htl_evidence.proofs.picks.PicksEvidence.listing.Goals as goal
 
 -- what is so of an outcome on a condition is so of its value on that condition

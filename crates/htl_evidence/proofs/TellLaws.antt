@@ -46,11 +46,6 @@ nothing_folded events = record { tree = λ slot stack. refl; tables = tables_non
 are_events_of : (part : Contents) (events : List Event) → part ≡ unfolded events → AreEventsOf (part ∷ []) events
 are_events_of part events is = rw is ([], [], nothing_folded events, refl, sym (append-nil events))
 
--- the events that the first of parts holds
-abbrev pub held_in : List Contents → List Event
-held_in [] = []
-held_in (part ∷ parts) = part.held
-
 -- ---- each way of keeping
 
 -- the events of a case up to a moment

@@ -12,7 +12,7 @@ use std::alloc::Global;
 
 /// How much there is of a trace: of how many processors it is, how many segments there are, and
 /// which are missing.
-#[derive(Debug, Drop)]
+#[derive(Drop)]
 pub struct Extent {
     pub processors: u16,
     pub segments: u64,

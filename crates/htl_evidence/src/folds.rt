@@ -24,6 +24,7 @@ impl Evidence for Folds<'_> {
 
     ghost tells = { λ e question T until. AreFoldsOf e.analyst.now question T until };
 
+    #[tactic(auto, using(crate::proofs::TellLaws::told_folds))]
     fn parts(&self) -> &[Part<Global>] {
         self.analyst.parts()
     }

@@ -61,6 +61,7 @@ impl<'a> Evidence for Picks<'a> {
 
     ghost tells = { λ e question T until. ArePicksFor e question T until };
 
+    #[tactic(auto, using(crate::proofs::TellLaws::told_picks))]
     fn parts(&self) -> &[Unfolded<'a, Vec<SharedEvent>>] {
         from_ref(&self.part)
     }

@@ -1,5 +1,5 @@
 -- Where there is nothing of what a question asks about, its answer finds nothing.
-use Rattle.std.proofs.Common.{◌≡◌, ℕ, ◌+◌, ◌<◌, ◌≤◌, Bool, true, false, ◌&&◌, ◌||◌, not, List, [], ◌∷◌, Option, Some, None, refl, sym, ap, ◌∙◌, subst, arith}
+use Rattle.std.proofs.Common.{◌≡◌, ℕ, ◌<◌, ◌≤◌, Bool, true, false, ◌&&◌, ◌||◌, not, List, [], ◌∷◌, Option, Some, None, refl, sym, ap, ◌∙◌, subst, arith}
 use Rattle.std.proofs.Common.{inl, inr, ◌⊎◌, length, nat_eq}
 use Rattle.std.specs.Prelude.{Contains, count_by, filter, nat_le, nat_lt, ◌==◌}
 use Rattle.std.specs.List.{list_any}
@@ -37,9 +37,8 @@ use Rattle.htl_question.specs.declared.question.Since.{Since}
 use Rattle.htl_question.specs.declared.question.Since.TheVariants.{Sequence, Snapshot}
 use Rattle.htl_question.specs.declared.subject.Subject.TheVariants as subjects
 use Rattle.htl_evidence.specs.Bases.{IsAnswer}
-use Rattle.htl_main.specs.Subjects.{absence_by, absence_in, is_before, is_below_last, is_growth, given_sequence, later_absence, since_of}
+use Rattle.htl_main.specs.Subjects.{absence_by, absence_in, is_below_last, is_growth, given_sequence, later_absence, since_of}
 use Rattle.htl_main.specs.declared.completed.Absence.{Absence}
-use Rattle.htl_main.specs.declared.completed.Absence.TheVariants.{Subject, Later}
 
 -- ---- lists without elements
 

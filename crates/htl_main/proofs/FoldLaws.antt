@@ -1,11 +1,11 @@
 -- An analyst that took a list of segments is right about the first of each key, and takes the next one or finds it unfit.
-use Rattle.std.proofs.Common.{◌≡◌, ◌≢◌, ℕ, ◌+◌, ◌<◌, ◌≤◌, Bool, true, false, List, [], ◌∷◌, ◌++◌, length, length-set, refl, sym, ap, ◌∙◌, subst}
+use Rattle.std.proofs.Common.{◌≡◌, ◌≢◌, ℕ, ◌+◌, ◌<◌, ◌≤◌, Bool, true, false, List, [], ◌++◌, length, length-set, refl, sym, ap, ◌∙◌, subst}
 use Rattle.std.proofs.Common.{inl, inr, ◌⊎◌, arith, Some, None, Option, eq-eqb, eqb, eqb-true, ltb, ltb-true}
 use Rattle.std.specs.Prelude.{Contains, ◌↔◌, ◌||◌, is_some, map}
 use Rattle.std.proofs.lemmas.Bool.{and_from, and_parts, cases_eq, cases_lt, lt-ltb}
 use Rattle.std.proofs.lemmas.List.{get_or_past}
 use Rattle.htl_event.specs.Events.{Event}
-use Rattle.htl_event.proofs.Members.{Contains-from_map, Contains-here, Contains-map, Contains-nil, Contains-there}
+use Rattle.htl_event.proofs.Members.{Contains-from_map, Contains-map, Contains-nil}
 use Rattle.htl_event.proofs.Members.{at_member, each_member, some_member}
 use Rattle.htl_segment.specs.Content.{Content, Fits}
 use Rattle.htl_segment.specs.Keys.{run_below}
@@ -16,7 +16,7 @@ use Rattle.htl_taken.specs.Numbers.{Numbers, front_at, numbers_at, with_loose}
 use Rattle.htl_taken.proofs.NumberSets.{numbers_at-set_same}
 use Rattle.htl_analyst.specs.Keys.{HasTaken, number_taken}
 use Rattle.htl_analyst.specs.Refusals.{HoldsOther, IsOfState, TakeAccepted}
-use Rattle.htl_analyst.specs.Right.{IsCollection, IsOwned, IsRight, IsState, run_events}
+use Rattle.htl_analyst.specs.Right.{IsCollection, IsOwned, IsRight, IsState}
 use Rattle.htl_analyst.specs.States.{Part, State, folded_at, held_at, no_part}
 use Rattle.htl_analyst.specs.TakenAll.{HasKeyOf, HasTakenAll, IsFirstOf}
 use Rattle.htl_analyst.proofs.Firsts.{first_of_key, is_member}

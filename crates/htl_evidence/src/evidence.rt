@@ -43,22 +43,21 @@ pub trait Evidence {
         ensures value { IfOk result (λ number. number ≡ (kept self.now).number) }
         ensures few { OnOk result (size_of_all (kept self.now).parts < 2 ^ 64) };
 
-    /// The events of a handle, the newest first. Only these are copied.
+    /// The events of a handle, the newest first, where all events are kept. Only these are copied.
     fn listing(
         &self,
         alloc: Global,
         process: u32,
         handle: u32,
     ) -> Result<Vec<SharedEvent>, NoMemory>
-        requires { keeps_events ≡ true }
-        ensures { IfOk result (λ rows. (own : List Event)
+        ensures { IfOk result (λ rows. (own : List Event) → keeps_events ≡ true
             → (kept self.now).parts ≡ unfolded own ∷ [] → HaveOwnSequences own
             → IsListing (Contains own) process handle rows.items) };
 
-    /// The moments from the first event of the trace to the last one that counts.
+    /// The moments from the first event of the trace to the last one that counts, where all events
+    /// are kept.
     fn span(&self) -> Option<Span>
-        requires { keeps_events ≡ true }
-        ensures { (process points : ℕ) (T : Trace) (until : Option ℕ)
+        ensures { (process points : ℕ) (T : Trace) (until : Option ℕ) → keeps_events ≡ true
             → tells self.now (questions.Growth process points) T until
             → IsSpanUntil T until result };
 

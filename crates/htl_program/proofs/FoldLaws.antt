@@ -15,10 +15,11 @@ use Rattle.htl_main.specs.declared.folding.Folded.{Folded}
 use Rattle.htl_main.specs.declared.refused.Refused.{Refused}
 use Rattle.htl_program.specs.Asking.{GoesOn, IsFolding}
 use Rattle.htl_program.specs.Loads.{FoldsFiles}
+use Rattle.htl_program.specs.Openings.{AreOpened}
 use Rattle.htl_program.specs.Readings.{IsUnopenedFor}
 use Rattle.htl_program.specs.Worlds.{Known, WorldChange}
 use Rattle.htl_program.proofs.FirstAbsent.{held_memory, none_is_absent}
-use Rattle.htl_program.proofs.NamesRead.{AreOpenedBy, all_read, none_read}
+use Rattle.htl_program.proofs.NamesRead.{all_read, none_read}
 
 -- What holds of all that were taken holds of a list that these are.
 module _ (setting : Setting) (before : List Content) (texts : List (List ℕ)) (Keeps : List Content → Type 0) where
@@ -109,7 +110,7 @@ module _ (world : WorldChange) (setting : Setting) (before : Folded) (names : Li
 
   -- Files were opened, and what was folded is what came of them.
   pub opened_and_folded : {R A : Type 0} (state : R → SourceState) (after : Folded) (sources : Vec R A) (now : List R)
-      (ended : Result Added Refused) → AreOpenedBy state world names (Ok sources)
+      (ended : Result Added Refused) → AreOpened state world names (Ok sources)
       → FoldsAs setting (map state sources.items) (map state now) before after ended → FoldsFiles known setting before names after ended
   opened_and_folded state after sources now ended are is = record {
     sources = map state now;

@@ -31,10 +31,11 @@ use Rattle.htl_main.proofs.CutLaws.{ends_both, ends_moved}
 use Rattle.htl_program.specs.Asking.{AddsTo, AreRunsRemarks, IsAnswerText, IsRunsAbsence, IsRunsText, own_run}
 use Rattle.htl_program.specs.Endings.{RunsOut}
 use Rattle.htl_program.specs.Loads.{AddsFiles}
+use Rattle.htl_program.specs.Openings.{AreOpened}
 use Rattle.htl_program.specs.Readings.{IsUnopenedFor}
 use Rattle.htl_program.specs.Worlds.{Known, WorldChange}
 use Rattle.htl_program.proofs.FirstAbsent.{held_memory}
-use Rattle.htl_program.proofs.NamesRead.{AreOpenedBy, all_read, none_read}
+use Rattle.htl_program.proofs.NamesRead.{all_read, none_read}
 
 module _ (setting : Setting) (inputs : List (List ℕ)) (symbols : Option (List ℕ)) (T : Trace) (table : List Range)
     (loaded : AreLoadedOf inputs symbols setting None T table) where
@@ -156,7 +157,7 @@ module _ (world : WorldChange) (setting : Setting) (before : Loaded) (names : Li
 
   -- Files were opened, and what was added is what came of them.
   pub opened_and_added : {R A : Type 0} (state : R → SourceState) (after : Loaded) (sources : Vec R A) (now : List R)
-      (ended : Result Added Refused) → AreOpenedBy state world names (Ok sources)
+      (ended : Result Added Refused) → AreOpened state world names (Ok sources)
       → AddsAs setting (map state sources.items) (map state now) before after ended → AddsFiles known setting before names after ended
   opened_and_added state after sources now ended are is = record {
     sources = map state now;

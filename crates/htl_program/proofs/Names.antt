@@ -3,7 +3,8 @@ use Rattle.std.proofs.Common.{◌≡◌, ◌≢◌, ◌+◌, ◌<◌, ◌≤◌,
 use Rattle.std.specs.Prelude.{◌==◌, Some, get_or, slice_get, string_bytes}
 use Rattle.std.proofs.lemmas.List.{get_or-map, length-map, take_more, take_all}
 use Rattle.std.proofs.lemmas.Option.{slice_get_read}
-use Rattle.htl_program.specs.Worlds.{of_each}
+use Rattle.htl_program.specs.Rounds.{all_opened, inputs_opened}
+use Rattle.htl_program.specs.Worlds.{of_each, of_inputs}
 
 -- there is as much as there are names
 pub as_many : {X A : Type 0} (of : List ℕ → X) (names : List (String A)) → length (of_each of names) ≡ length names
@@ -55,3 +56,14 @@ all_taken of names n le ge =
 pub some_names : {A : Type 0} (names : List (String A)) → (length names == 0) ≡ false → map string_bytes names ≢ []
 some_names [] some none = cc some
 some_names (name ∷ names) some none = cc none
+
+-- where there are names, the inputs are their files, and these are what is opened
+pub inputs_named : {X A : Type 0} (of : List ℕ → X) (standard : X) (names : List (String A)) → (length names == 0) ≡ false
+    → of_inputs of standard names ≡ of_each of names
+inputs_named of standard [] some = absurd (cc some)
+inputs_named of standard (name ∷ more) some = refl
+
+pub opened_named : {A : Type 0} (names : List (String A)) → (length names == 0) ≡ false
+    → inputs_opened (map string_bytes names) ≡ all_opened (map string_bytes names)
+opened_named [] some = absurd (cc some)
+opened_named (name ∷ more) some = refl

@@ -17,7 +17,6 @@ use Rattle.htl_program.specs.Openings.{AreOpened}
 use Rattle.htl_program.specs.Outcomes.{ReadsInputs}
 use Rattle.htl_program.specs.Readings.{AreUnread, IsUnopenedFor}
 use Rattle.htl_program.specs.Runs.{IsRunOfNames}
-use Rattle.htl_program.specs.Rounds.{all_opened}
 use Rattle.htl_program.specs.Worlds.{IsFirstRefused, IsTable, IsTableAbsent, IsTableUnknown, Known, WorldChange, of_each, of_inputs}
 use Rattle.htl_program.proofs.PassedOn.{same_fault}
 use Rattle.htl_program.proofs.FirstAbsent.{first_or_memory, none_absent}
@@ -62,10 +61,6 @@ no_table world name (Ok read) there refused gone = absurd (there gone)
 no_table world name (Err fault) there (inl memory) gone = inr (ap Err memory)
 no_table world name (Err fault) there (inr symbols) gone = inl (ap Err symbols.0)
 
--- the files of these names were opened
-abbrev pub AreOpenedBy : {R A : Type 0} → (R → SourceState) → WorldChange → List (List ℕ) → Result (Vec R A) RunFault → Type 0
-AreOpenedBy state world names = AreOpened state world (map world.old.known.holds names) (all_opened names) names
-
 module _ {S : Type 0} (world : Known) (is_text : Bool) (names : List (List ℕ)) where
   -- where a name could not be opened, no source was read
   pub none_read : (fault : RunFault) → IsUnopenedFor (map world.holds names) (map world.is_absent names) fault
@@ -79,7 +74,7 @@ module _ {S : Type 0} (world : Known) (is_text : Bool) (names : List (List ℕ))
 
 -- where all names were opened, they were read as the sources of a run
 pub all_read : {S R A : Type 0} (world : WorldChange) (is_text : Bool) (names : List (List ℕ)) (state : R → SourceState) (sources : Vec R A)
-    (now : List R) (result : Result S RunFault) → AreOpenedBy state world names (Ok sources)
+    (now : List R) (result : Result S RunFault) → AreOpened state world names (Ok sources)
     → AreRead is_text (map state sources.items) (map state now) result → ReadsNames world.old.known is_text names (map state now) result
 all_read world is_text names state sources now result are read = record {
   absent = λ place absent.

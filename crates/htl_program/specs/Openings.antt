@@ -1,5 +1,5 @@
 -- For the clauses of private functions: how inputs and a table of symbols are opened, all of them or none.
-use Rattle.std.specs.Prelude.{◌≡◌, ◌++◌, ◌∷◌, ◌⊎◌, [], ℕ, false, List, All, IfErr, IfOk, OnOk, Option, Some, None, Result, Ok, Err}
+use Rattle.std.specs.Prelude.{◌≡◌, ◌++◌, ◌∷◌, ◌⊎◌, [], ℕ, false, List, All, IfErr, IfOk, OnErr, OnOk, Option, Some, None, Result, Ok, Err}
 use Rattle.std.specs.Prelude.{String, Vec, map, option_map, string_bytes}
 use Rattle.htl_device.specs.States.{AreOpen, SourceState, lefts}
 use Rattle.htl_main.specs.declared.fault.RunFault.{RunFault}
@@ -7,7 +7,7 @@ use Rattle.htl_main.specs.declared.fault.RunFault.TheVariants.{Memory, SymbolsRe
 use Rattle.htl_program.specs.Endings.{IsUnopened, IsUntabled}
 use Rattle.htl_program.specs.Outcomes.{HaveTexts, IsAbsentAt}
 use Rattle.htl_program.specs.Readings.{AreUnread, IsUnopenedFor}
-use Rattle.htl_program.specs.Rounds.{Asks, EndsEarly, OpensInputs, inputs_opened, untabled}
+use Rattle.htl_program.specs.Rounds.{Asks, EndsEarly, OpensInputs, all_opened, inputs_opened, untabled}
 use Rattle.htl_program.specs.Worlds.{Ask, IsAsked, IsTable, IsTableAbsent, IsTableUnknown, WorldChange, of_each, of_inputs, to_read}
 use Rattle.htl_program.specs.declared.world.OpenFault.{OpenFault}
 
@@ -16,15 +16,24 @@ abbrev pub AsksFor : {S : Type 0} → WorldChange → List (List ℕ) → List A
 AsksFor world names all (Ok opened) = IsAsked world.old world.new all
 AsksFor world names all (Err fault) = Asks world (EndsEarly names all fault)
 
--- Inputs of which nothing was read, or why there are none. It is given what is known of each input, what the world is asked for to open all
--- of them, and their names.
-pub record AreOpened {R A : Type 0} (state : R → SourceState) (world : WorldChange) (known : List (Option (List ℕ))) (all : List Ask)
-    (names : List (List ℕ)) (result : Result (Vec R A) RunFault) : Type 0 where
-  pub ready : IfOk result (λ inputs. AreOpen (map state inputs.items))
-  pub bytes : IfOk result (λ inputs. lefts (map state inputs.items) ≡ known)
+-- The files of these names, of which nothing was read, or why there are none.
+pub record AreOpened {R A : Type 0} (state : R → SourceState) (world : WorldChange) (names : List (List ℕ))
+    (result : Result (Vec R A) RunFault) : Type 0 where
+  pub ready : IfOk result (λ files. AreOpen (map state files.items))
+  pub bytes : IfOk result (λ files. lefts (map state files.items) ≡ map world.old.known.holds names)
   pub there : OnOk result (All (λ absent. absent ≡ false) (map world.old.known.is_absent names))
   pub refused : IfErr result (IsUnopenedFor (map world.old.known.holds names) (map world.old.known.is_absent names))
-  pub asked : AsksFor world names all result
+  pub asked : AsksFor world names (all_opened names) result
+
+-- The inputs of the names were opened, which these are and of which nothing was read; or none of them is there, and why.
+pub record OpensInputsOf {A : Type 0} (world : WorldChange) (names : List (String A)) (inputs : List SourceState)
+    (result : Result (Unit {0}) RunFault) : Type 0 where
+  pub ready : OnOk result (AreOpen inputs)
+  pub bytes : OnOk result (lefts inputs ≡ of_inputs world.old.known.holds world.old.known.standard names)
+  pub there : OnOk result (All (λ absent. absent ≡ false) (of_each world.old.known.is_absent names))
+  pub none : OnErr result (inputs ≡ [])
+  pub refused : IfErr result (IsUnopenedFor (of_each world.old.known.holds names) (of_each world.old.known.is_absent names))
+  pub asked : AsksFor world (map string_bytes names) (inputs_opened (map string_bytes names)) result
 
 -- the world was asked for the table, if one is named
 abbrev pub AsksForTable : {S : Type 0} → WorldChange → Option (List ℕ) → Result S RunFault → Type 0

@@ -82,8 +82,7 @@ fn run_inputs<Rt: Threads + Sync, W: World, O: Sink>(
         Err(Lacking::Process) => {}
         Err(Lacking::Segments) => return run_again(rt, alloc, world, run, symbols, inputs, out),
     }
-    inputs.clear();
-    *inputs = open_inputs(alloc, world, &run.files)?;
+    open_inputs(alloc, world, &run.files, inputs)?;
     let widest = question.widest_interest();
     match pick_opened(rt, alloc, &run.job, widest, inputs, symbols, out) {
         Ok(ended) => ended,
@@ -134,8 +133,7 @@ fn run_again<Rt: Threads + Sync, W: World, O: Sink>(
     ensures asked { Asks (change (W.state world.old) (W.state world.new))
         (Rounds 1 (map string_bytes run.now.files.items) (by_fault result)) }
 {
-    inputs.clear();
-    *inputs = open_inputs(alloc, world, &run.files)?;
+    open_inputs(alloc, world, &run.files, inputs)?;
     run_from(rt, alloc, &run.job, inputs, symbols, out)
 }
 

@@ -30,8 +30,7 @@ pub fn dump<W: World, O: Sink>(
     ensures untouched { (place : ℕ) → IsAbsentAt (W.state world.old).known files.now place
         → out.new ≡ out.old }
 {
-    inputs.clear();
-    *inputs = open_inputs(alloc, world, files)?;
+    open_inputs(alloc, world, files, inputs)?;
     dump_from(alloc, form, inputs, out)
 }
 
@@ -52,7 +51,6 @@ pub fn encode<W: World, O: Sink>(
         (map W.Input.state inputs.new.items) hex files.now (O.state out.old) (O.state out.new)
         result }
 {
-    inputs.clear();
-    *inputs = open_inputs(alloc, world, files)?;
+    open_inputs(alloc, world, files, inputs)?;
     encode_from(alloc, hex, inputs, out)
 }

@@ -132,10 +132,7 @@ fn reply<Rt: Threads + Sync, W: World, O: Sink, H: Host>(
                 first_fault: None,
             })
         }
-        Said::Asks(job) => {
-            let conversed = reply_to(alloc, files, kept, has_table, job, out, host)?;
-            Ok(conversed)
-        }
+        Said::Asks(job) => reply_to(alloc, files, kept, has_table, job, out, host),
         Said::Reads(names) => {
             let ended = files.read(alloc, world, kept, names)?;
             let text = reading_reply(alloc, ended)?;

@@ -52,10 +52,7 @@ impl Kept {
             → HasOutcomeIn setting.complete self.now job.now result }
     {
         match self {
-            Kept::Case(loaded) => {
-                let answer = answer_text(rt, alloc, setting.workers, job, loaded)?;
-                Ok(answer)
-            }
+            Kept::Case(loaded) => Ok(answer_text(rt, alloc, setting.workers, job, loaded)?),
             Kept::State(folded) => folded_text(rt, alloc, setting, job, folded),
         }
     }

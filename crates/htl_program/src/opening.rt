@@ -1,9 +1,9 @@
 //! Opens the inputs of a run, and reads its table of symbols.
 
 ghost use Rattle.std.specs.Prelude.{◌≡◌, map, option_copied, option_map, string_bytes};
-ghost use Rattle.htl_program.specs.Openings.{AreOpened, IsTableRead, OpensAll};
-ghost use Rattle.htl_program.specs.Rounds.{all_opened, inputs_opened, unopened};
-ghost use Rattle.htl_program.specs.Worlds.{change, of_each, of_inputs};
+ghost use Rattle.htl_program.specs.Openings.{AreOpened, IsTableRead, OpensAll, OpensInputsOf};
+ghost use Rattle.htl_program.specs.Rounds.{unopened};
+ghost use Rattle.htl_program.specs.Worlds.{change};
 
 use crate::world::{OpenFault, World};
 use htl_main::RunFault;
@@ -21,28 +21,28 @@ pub(crate) fn open_all<W: World>(
     ensures { OpensAll (change (W.state world.old) (W.state world.new)) names.now
         (option_copied symbols.entry) (map W.Input.state inputs.new.items) result }
 {
-    inputs.clear();
-    *inputs = open_inputs(alloc, world, names)?;
+    open_inputs(alloc, world, names, inputs)?;
     read_table(world, symbols)
 }
 
 /// Opens the files of the names in order, or standard input where there is none. The first that is
-/// refused is reported.
+/// refused is reported. `inputs` has then what was opened, and nothing of what it had.
 pub(crate) fn open_inputs<W: World>(
     alloc: Global,
     world: &mut W,
     names: &[String],
-) -> Result<Vec<W::Input>, RunFault>
-    ensures { AreOpened W.Input.state (change (W.state world.old) (W.state world.new))
-        (of_inputs (W.state world.old).known.holds (W.state world.old).known.standard names.now)
-        (inputs_opened (map string_bytes names.now)) (map string_bytes names.now) result }
+    inputs: &mut Vec<W::Input>,
+) -> Result<(), RunFault>
+    ensures { OpensInputsOf (change (W.state world.old) (W.state world.new)) names.now
+        (map W.Input.state inputs.new.items) result }
 {
+    inputs.clear();
     if names.is_empty() {
-        let mut inputs = Vec::new(alloc);
         inputs.push(world.standard_input())?;
-        return Ok(inputs);
+        return Ok(());
     }
-    open_files(alloc, world, names)
+    *inputs = open_files(alloc, world, names)?;
+    Ok(())
 }
 
 /// Opens the files of the names in order. The first that is refused is reported.
@@ -52,8 +52,7 @@ pub(crate) fn open_files<W: World>(
     names: &[String],
 ) -> Result<Vec<W::Input>, RunFault>
     ensures { AreOpened W.Input.state (change (W.state world.old) (W.state world.new))
-        (of_each (W.state world.old).known.holds names.now)
-        (all_opened (map string_bytes names.now)) (map string_bytes names.now) result }
+        (map string_bytes names.now) result }
 {
     let mut inputs = Vec::new(alloc);
     for (place, name) in names.iter().enumerate() {

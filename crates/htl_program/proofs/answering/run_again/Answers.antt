@@ -11,31 +11,31 @@ use Rattle.htl_program.proofs.NamesRead.{inputs_unread, run_of_names}
 use Rattle.htl_program.proofs.RanOut.{ran_out}
 use Rattle.htl_program.proofs.answering.run_again.Goals as goal
 
-pub returns-in_err-inputs-clause-run : goal.returns-in_err-inputs-clause-run
-returns-in_err-inputs-clause-run g c =
+pub returns-in_err-open_inputs-clause-run : goal.returns-in_err-open_inputs-clause-run
+returns-in_err-open_inputs-clause-run g c =
     let world = (g.W.World.state c.args.world.now).known in
     let names = c.deref.result.now in
-    let fault = c.in_err-inputs.field-0.0 in
-    let refused = c.in_err-inputs.ensures.refused in
+    let fault = c.in_err-open_inputs.field-0.0 in
+    let refused = c.in_err-open_inputs.ensures.refused in
     let p = err_from_is_err_and c.from_residual.result c.from_residual.ensures.1 in
     record {
       ends = rw (← c.deref.ensures.value) (λ texts all. inr (ran_out c.from_residual.result p.0 p.1
           (p.2.0 ∙ only_memory world.holds world.standard names texts (of_each world.is_absent names) fault all refused) p.2.1));
       reads = rw (← c.deref.ensures.value) (inputs_unread world _ names _ _ fault (ap by_fault p.1 ∙ ap Err p.2.0)
-          (inl (ap (map g.W.Input.Source.state) c.clear.ensures.items, refused)));
+          (inl (c.in_err-open_inputs.ensures.none, refused)));
       sink = search rules;
     }
 
-pub returns-in_err-inputs-clause-asked : goal.returns-in_err-inputs-clause-asked
-returns-in_err-inputs-clause-asked g c =
+pub returns-in_err-open_inputs-clause-asked : goal.returns-in_err-open_inputs-clause-asked
+returns-in_err-open_inputs-clause-asked g c =
     let p = err_from_is_err_and c.from_residual.result c.from_residual.ensures.1 in
-    last_round (map string_bytes c.args.run.now.files.items) (by_fault c.from_residual.result) 0 _ _ c.in_err-inputs.field-0.0
-    (ap by_fault p.1 ∙ ap Err p.2.0) (rw c.deref.ensures.value at c.in_err-inputs.ensures.asked)
+    last_round (map string_bytes c.args.run.now.files.items) (by_fault c.from_residual.result) 0 _ _ c.in_err-open_inputs.field-0.0
+    (ap by_fault p.1 ∙ ap Err p.2.0) (rw c.deref.ensures.value at c.in_err-open_inputs.ensures.asked)
 
 pub returns-clause-run : goal.returns-clause-run
 returns-clause-run g c =
-    let inputs = c.in_ok-inputs.field-0 in
-    let opened = c.in_ok-inputs.ensures in
+    let inputs = c.open_inputs.new.inputs in
+    let opened = c.in_ok-open_inputs.ensures in
     let kept : length c.run_from.new.inputs ≡ inputs.len = search rules in
     let back = take_front c.run_from.new.inputs (drop (length c.run_from.new.inputs) inputs.items) inputs.len kept in
     rw back (run_of_names g.W.Input.Source.state (g.W.World.state c.args.world.now).known c.args.run.now _ inputs.items c.run_from.new.inputs _ _ _

@@ -20,18 +20,18 @@ returns-then-not-can_pick-clause-run g c =
     rw back (run_of_names g.W.Input.Source.state (g.W.World.state c.args.world.now).known c.args.run.now _ inputs.items c.run_from.new.inputs _ _ _
     c.requires.ready c.requires.bytes (rw c.deref_mut.ensures.value at c.run_from.ensures))
 
-pub returns-in_err-inputs-clause-run : goal.returns-in_err-inputs-clause-run
-returns-in_err-inputs-clause-run g c =
+pub returns-in_err-open_inputs-clause-run : goal.returns-in_err-open_inputs-clause-run
+returns-in_err-open_inputs-clause-run g c =
     let world = (g.W.World.state c.args.world.now).known in
     let names = c.deref.result.now in
-    let fault = c.in_err-inputs.field-0.0 in
-    let refused = c.in_err-inputs.ensures.refused in
+    let fault = c.in_err-open_inputs.field-0.0 in
+    let refused = c.in_err-open_inputs.ensures.refused in
     let p = err_from_is_err_and c.from_residual.result c.from_residual.ensures.1 in
     record {
       ends = rw (← c.deref.ensures.value) (λ texts all. inr (ran_out c.from_residual.result p.0 p.1
           (p.2.0 ∙ only_memory world.holds world.standard names texts (of_each world.is_absent names) fault all refused) p.2.1));
       reads = rw (← c.deref.ensures.value) (inputs_unread world _ names _ _ fault (ap by_fault p.1 ∙ ap Err p.2.0)
-          (inl (ap (map g.W.Input.Source.state) c.clear.ensures.items, refused)));
+          (inl (c.in_err-open_inputs.ensures.none, refused)));
       sink = search rules;
     }
 
@@ -39,10 +39,10 @@ pub returns-in-Ok-pick_opened-clause-run : goal.returns-in-Ok-pick_opened-clause
 returns-in-Ok-pick_opened-clause-run g c =
     let world = (g.W.World.state c.args.world.now).known in
     let state = g.W.Input.Source.state in
-    let opened = c.in_ok-inputs.field-0.items in
+    let opened = c.open_inputs.new.inputs.items in
     let bytes : lefts (map state opened) ≡ of_inputs world.holds world.standard c.args.run.now.files.items =
-    rw (← c.deref.ensures.value) c.in_ok-inputs.ensures.bytes in
-    rw (← c.in-Err-Process.ensures.unwritten) (run_of_names state world c.args.run.now _ opened _ _ _ _ c.in_ok-inputs.ensures.ready bytes
+    rw (← c.deref.ensures.value) c.in_ok-open_inputs.ensures.bytes in
+    rw (← c.in-Err-Process.ensures.unwritten) (run_of_names state world c.args.run.now _ opened _ _ _ _ c.in_ok-open_inputs.ensures.ready bytes
     c.in-Ok-pick_opened.ensures.ended)
 
 pub returns-in-Err-clause-asked : goal.returns-in-Err-clause-asked
@@ -51,15 +51,15 @@ returns-in-Err-clause-asked g c =
     let ended = by_fault c.run_again-in-Err.result in
     let can = c.can_pick.ensures c.if-not-can_pick.false in
     again names ended (g.W.World.state c.args.world.now).known c.args.run.now.job.setting.form.hex _ _ can.0 can.1 can.2
-    (one_round names ended 1 _ _ _ c.in_ok-inputs.field-0 (rw c.deref.ensures.value at c.in_ok-inputs.ensures.asked)
+    (one_round names ended 1 _ _ _ (tt {0}) (rw c.deref.ensures.value at c.in_ok-open_inputs.ensures.asked)
     c.run_again-in-Err.ensures.asked)
 
-pub returns-in_err-inputs-clause-asked : goal.returns-in_err-inputs-clause-asked
-returns-in_err-inputs-clause-asked g c =
+pub returns-in_err-open_inputs-clause-asked : goal.returns-in_err-open_inputs-clause-asked
+returns-in_err-open_inputs-clause-asked g c =
     let names = map string_bytes c.args.run.now.files.items in
     let ended = by_fault c.from_residual.result in
     let can = c.can_pick.ensures c.if-not-can_pick.false in
     let p = err_from_is_err_and c.from_residual.result c.from_residual.ensures.1 in
     again names ended (g.W.World.state c.args.world.now).known c.args.run.now.job.setting.form.hex _ _ can.0 can.1 can.2
-    (last_round names ended 1 _ _ c.in_err-inputs.field-0.0 (ap by_fault p.1 ∙ ap Err p.2.0)
-    (rw c.deref.ensures.value at c.in_err-inputs.ensures.asked))
+    (last_round names ended 1 _ _ c.in_err-open_inputs.field-0.0 (ap by_fault p.1 ∙ ap Err p.2.0)
+    (rw c.deref.ensures.value at c.in_err-open_inputs.ensures.asked))

@@ -7,19 +7,19 @@ use Rattle.htl_program.proofs.FirstAbsent.{first_or_memory, none_absent, only_me
 use Rattle.htl_program.proofs.NamesRead.{inputs_read, inputs_unread}
 use Rattle.htl_program.proofs.converting.encode.Goals as goal
 
-pub returns-in_err-inputs : goal.returns-in_err-inputs
-returns-in_err-inputs g c =
+pub returns-in_err-open_inputs : goal.returns-in_err-open_inputs
+returns-in_err-open_inputs g c =
     let world = (g.W.World.state c.args.world.now).known in
     let names = c.args.files.now in
-    let fault = c.in_err-inputs.field-0.0 in
-    let opened = c.in_err-inputs.ensures in
+    let fault = c.in_err-open_inputs.field-0.0 in
+    let opened = c.in_err-open_inputs.ensures in
     let is : c.from_residual.result ≡ Err fault = search rules in
     record {
       ends = λ texts all. inr (is ∙ ap Err
           (only_memory world.holds world.standard names texts (of_each world.is_absent names) fault all opened.refused));
       absent = λ place absent.
           first_or_memory c.from_residual.result (of_each world.holds names) (of_each world.is_absent names) fault place is opened.refused absent;
-      reads = inputs_unread world _ names _ _ fault is (inl (ap (map g.W.Input.Source.state) c.clear.ensures.items, opened.refused));
+      reads = inputs_unread world _ names _ _ fault is (inl (opened.none, opened.refused));
       failed = search rules;
       untouched = search rules;
       asked = once_ended (map string_bytes names) c.from_residual.result _ _ fault is opened.asked;
@@ -29,8 +29,8 @@ pub returns : goal.returns
 returns g c =
     let world = (g.W.World.state c.args.world.now).known in
     let names = c.args.files.now in
-    let inputs = c.in_ok-inputs.field-0 in
-    let opened = c.in_ok-inputs.ensures in
+    let inputs = c.open_inputs.new.inputs in
+    let opened = c.in_ok-open_inputs.ensures in
     let kept : length c.encode_from.new.inputs ≡ inputs.len = search rules in
     let back = take_front c.encode_from.new.inputs (drop (length c.encode_from.new.inputs) inputs.items) inputs.len kept in
     let is = rw c.deref_mut.ensures.value at c.encode_from.ensures in
@@ -40,5 +40,5 @@ returns g c =
       reads = inputs_read world _ names _ inputs.items _ _ opened.ready opened.bytes is.reading;
       failed = is.failed;
       untouched = is.untouched;
-      asked = once (map string_bytes names) c.encode_from.result _ _ inputs opened.asked;
+      asked = once (map string_bytes names) c.encode_from.result _ _ (tt {0}) opened.asked;
     })

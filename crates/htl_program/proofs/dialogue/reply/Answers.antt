@@ -109,14 +109,11 @@ returns-in_err-write-in-Reads-clause-err g c =
 pub returns-in_err-write-in-Wrong-clause-asked : goal.returns-in_err-write-in-Wrong-clause-asked
 returns-in_err-write-in-Wrong-clause-asked g c = no_names (g.W.World.state c.args.world.now)
 
-pub returns-in_ok-conversed-in-Asks-clause-ok : goal.returns-in_ok-conversed-in-Asks-clause-ok
-returns-in_ok-conversed-in-Asks-clause-ok g c =
-    rw c.in-Asks.is (c.in_ok-conversed-in-Asks.ensures.ok (g.W.World.state c.args.world.now).known)
+pub returns-in-Asks-clause-ok : goal.returns-in-Asks-clause-ok
+returns-in-Asks-clause-ok g c = rw c.in-Asks.is (c.reply_to.ensures.ok (g.W.World.state c.args.world.now).known)
 
-pub returns-in_err-conversed-in-Asks-clause-err : goal.returns-in_err-conversed-in-Asks-clause-err
-returns-in_err-conversed-in-Asks-clause-err g c =
-    let p = err_from_is_err_and c.from_residual-in_err-conversed-in-Asks.result c.from_residual-in_err-conversed-in-Asks.ensures.1 in
-    rw (p.1, p.2, c.in-Asks.is) (c.in_err-conversed-in-Asks.ensures.err (g.W.World.state c.args.world.now).known)
+pub returns-in-Asks-clause-err : goal.returns-in-Asks-clause-err
+returns-in-Asks-clause-err g c = rw c.in-Asks.is (c.reply_to.ensures.err (g.W.World.state c.args.world.now).known)
 
-pub returns-in_err-conversed-in-Asks-clause-asked : goal.returns-in_err-conversed-in-Asks-clause-asked
-returns-in_err-conversed-in-Asks-clause-asked g c = no_names (g.W.World.state c.args.world.now)
+pub returns-in-Asks-clause-asked : goal.returns-in-Asks-clause-asked
+returns-in-Asks-clause-asked g c = no_names (g.W.World.state c.args.world.now)

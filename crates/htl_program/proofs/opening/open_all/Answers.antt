@@ -8,17 +8,17 @@ use Rattle.htl_program.proofs.FirstAbsent.{first_or_memory, none_absent, only_me
 use Rattle.htl_program.proofs.NamesRead.{known_table, no_table, of_table}
 use Rattle.htl_program.proofs.opening.open_all.Goals as goal
 
-pub returns-in_err-inputs : goal.returns-in_err-inputs
-returns-in_err-inputs g c =
+pub returns-in_err-open_inputs : goal.returns-in_err-open_inputs
+returns-in_err-open_inputs g c =
     let world = (g.W.World.state c.args.world.now).known in
     let names = c.args.names.now in
-    let fault = c.in_err-inputs.field-0.0 in
-    let is = c.in_err-inputs.ensures in
+    let fault = c.in_err-open_inputs.field-0.0 in
+    let is = c.in_err-open_inputs.ensures in
     let p = err_from_is_err_and c.from_residual.result c.from_residual.ensures.1 in
     rw (p.1, p.2) (record {
       ready = tt;
       bytes = tt;
-      unread = inl (ap (map g.W.Input.Source.state) c.clear.ensures.items, is.refused);
+      unread = inl (is.none, is.refused);
       read = tt;
       known = λ texts table all has. only_memory world.holds world.standard names texts (of_each world.is_absent names) fault all is.refused;
       absent = λ place absent. first_or_memory (Err fault) (of_each world.holds names) (of_each world.is_absent names) fault place refl
@@ -32,7 +32,7 @@ pub returns : goal.returns
 returns g c =
     let world = (g.W.World.state c.args.world.now).known in
     let names = c.args.names.now in
-    let is = c.in_ok-inputs.ensures in
+    let is = c.in_ok-open_inputs.ensures in
     let known : (g.W.World.state c.open_inputs.new.world).known ≡ world = is.asked.known in
     let table = c.read_table.ensures in
     record {
@@ -44,6 +44,6 @@ returns g c =
           (rw known at table.refused) has;
       absent = λ place absent. absurd (none_absent (of_each world.holds names) (of_each world.is_absent names) place is.there absent);
       untabled = λ texts all gone. no_table world (option_copied c.args.symbols) c.read_table.result (rw known at table.there) (rw known at table.refused) gone;
-      asked = inputs_given (map string_bytes names) (option_map string_bytes (option_copied c.args.symbols)) _ _ _ c.in_ok-inputs.field-0
+      asked = inputs_given (map string_bytes names) (option_map string_bytes (option_copied c.args.symbols)) _ _ _ (tt {0})
           c.read_table.result is.asked c.read_table.ensures.asked;
     }

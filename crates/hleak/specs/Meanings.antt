@@ -12,7 +12,7 @@ use Rattle.htl_program.specs.Parts.{part_text}
 use Rattle.htl_program.specs.Words.{advice_of, form_wrong_of, part_of, with_part, wrong_of}
 use Rattle.htl_program.specs.declared.named_part.NamedPart.{NamedPart}
 use Rattle.htl_program.specs.declared.named_part.NamedPart.TheVariants as parts
-use Rattle.htl_program.specs.declared.subject.Subject.{Subject}
+use Rattle.htl_question.specs.declared.subject.Subject.{Subject}
 use Rattle.htl_segment.specs.declared.fault.Fault.{Fault}
 use Rattle.htl_segment.specs.declared.fault.Fault.TheVariants as segments
 use Rattle.htl_segment.specs.declared.hexadecimal.HexFault.{HexFault}

@@ -8,8 +8,8 @@ use Rattle.htl_main.specs.Subjects.{since_of}
 use Rattle.htl_main.specs.declared.fault.RunFault.{RunFault}
 use Rattle.htl_main.specs.declared.fault.RunFault.TheVariants.{Segment, Hex, Text, Case, Symbols, Read}
 use Rattle.htl_main.specs.declared.fault.RunFault.TheVariants.{SymbolsRead, UnknownCut, Write}
-use Rattle.htl_program.specs.AskedAbout.{subject_of_question}
-use Rattle.htl_program.specs.declared.subject.Subject.{Subject}
+use Rattle.htl_question.specs.Questions.{subject_of as asks_about}
+use Rattle.htl_question.specs.declared.subject.Subject.{Subject}
 use Rattle.hleak.specs.declared.explaining.task.Task.{Task}
 use Rattle.hleak.specs.declared.explaining.task.Task.TheVariants.{Question, Convert, Ask, Read as Reads}
 
@@ -39,7 +39,7 @@ symbols_name (Reads of) = codes "the table of symbols"
 
 -- what a question is about
 abbrev pub asked_about : Task → Option Subject
-asked_about (Question run) = subject_of_question run.now.job.question
+asked_about (Question run) = asks_about run.now.job.question
 asked_about (Convert of) = None
 asked_about (Ask of) = None
 asked_about (Reads of) = None

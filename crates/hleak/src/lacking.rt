@@ -4,7 +4,7 @@
 ghost use Rattle.std.specs.Prelude.{◌≡◌};
 ghost use Rattle.hleak.specs.Notes.{or_moment};
 
-use htl_program::Lack;
+use htl_program::{Lack, SubjectText};
 use std::fmt;
 
 /// The note on what a question lacks.
@@ -25,7 +25,7 @@ impl fmt::Display for Lacking {
                 subject,
                 has_moment,
             } => {
-                let moment = or_moment(has_moment);
+                let (subject, moment) = (SubjectText { subject }, or_moment(has_moment));
                 write!(
                     f,
                     "hleak: note: {subject} has no event in these segments{moment}"
@@ -41,7 +41,7 @@ impl fmt::Display for Lacking {
                 subject,
                 has_moment,
             } => {
-                let moment = or_moment(has_moment);
+                let (subject, moment) = (SubjectText { subject }, or_moment(has_moment));
                 write!(
                     f,
                     "hleak: note: {subject} has no snapshot{moment}, so all its open handles count"

@@ -3,9 +3,9 @@
 ghost use Rattle.std.specs.Prelude.{◌≡◌};
 ghost use Rattle.htl_program.specs.AskedAbout.{event_lack, lack_of, later_lack, snapshot_lack};
 
-use crate::subject::Subject;
 use htl_command::Job;
 use htl_main::{Absence, Remarks, since_of};
+use htl_question::Subject;
 
 /// What a question lacks in the segments. Its answer may say less than it seems to.
 #[derive(Clone, Copy, Debug, PartialEq, Eq)]
@@ -36,7 +36,7 @@ impl Lack {
     fn event(job: &Job) -> Option<Lack>
         ensures { result ≡ event_lack job.now }
     {
-        let subject = Subject::of(job.question)?;
+        let subject = job.question.subject()?;
         Some(Lack::Event {
             subject,
             has_moment: job.until.is_some(),
@@ -53,7 +53,7 @@ impl Lack {
     fn snapshot(job: &Job) -> Option<Lack>
         ensures { result ≡ snapshot_lack job.now }
     {
-        let subject = Subject::of(job.question)?;
+        let subject = job.question.subject()?;
         Some(Lack::Snapshot {
             subject,
             has_moment: job.until.is_some(),

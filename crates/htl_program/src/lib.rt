@@ -17,7 +17,7 @@
 //! dialogue: each line is answered as by a run over all that was read so far), `kept.rt` (what is
 //! kept of that: all segments, or what they come to), `ask_fault.rt` (why it ends before its lines
 //! do), `explained.rt` and `words.rt` (what a fault means), `named_part.rt` (the part of the inputs
-//! that it names), `subject.rt` (what a question is about), `lack.rt` (what it lacks).
+//! that it names), `subject.rt` (what a question is about, in words), `lack.rt` (what it lacks).
 #![tactic(auto)]
 
 mod answering;
@@ -59,6 +59,6 @@ pub use output::Output;
 pub use person::Person;
 pub use printing::refuse;
 pub use speaker::Speaker;
-pub use subject::Subject;
+pub use subject::SubjectText;
 pub use words::{FREE_MEMORY, advice, form_wrong, wrong};
 pub use world::{OpenFault, World};

@@ -4,9 +4,10 @@ ghost use Rattle.std.specs.Prelude.{◌≡◌, option_map};
 ghost use Rattle.htl_program.specs.Parts.{number_part, numbered_part, numbers_part, part_text};
 ghost use Rattle.htl_program.specs.Words.{part_of, part_words};
 
-use crate::subject::Subject;
+use crate::subject::SubjectText;
 use crate::words::part;
 use htl_command::{Code, Parts, PrintedFault};
+use htl_question::Subject;
 use std::fmt;
 
 /// The part of the inputs in which a fault finds something wrong. Records, rows and segments count
@@ -112,7 +113,7 @@ impl fmt::Display for NamedPart {
             NamedPart::Sequence(sequence) => write!(f, "sequence {sequence}"),
             NamedPart::Row(row) => write!(f, "row {row}"),
             NamedPart::Field(name) => write!(f, "the line's {name}"),
-            NamedPart::Subject(subject) => write!(f, "{subject}"),
+            NamedPart::Subject(subject) => write!(f, "{}", SubjectText { subject }),
             NamedPart::Unnumbered(words) => write!(f, "{words}"),
             NamedPart::Input(input) => write!(f, "input {input}"),
         }

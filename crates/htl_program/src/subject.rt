@@ -1,53 +1,25 @@
 //! What a question is about, as a person reads it.
 
-ghost use Rattle.std.specs.Prelude.{◌≡◌};
-ghost use Rattle.htl_program.specs.AskedAbout.{subject_of_question};
-
-use htl_command::Question;
 use htl_event::base;
+use htl_question::Subject;
 use htl_report::shown_byte;
 use std::fmt;
 
-/// What a question is about, where it isn't about all events.
-#[derive(Clone, Copy, Debug, PartialEq, Eq)]
-pub enum Subject {
-    Process(u32),
-    Object(u64),
-    Tag { object: u64, tag: [u8; 4] },
-    Handle { process: u32, handle: u32 },
+/// What a question is about, in words. A handle is shown without its low two bits.
+#[derive(Clone, Copy)]
+pub struct SubjectText {
+    pub subject: Subject,
 }
 
-impl Subject {
-    /// The subject of a question. A summary has none.
-    pub fn of(question: Question) -> Option<Subject>
-        ensures { result ≡ subject_of_question question }
-    {
-        match question {
-            Question::Summary => None,
-            Question::Outstanding { process }
-            | Question::Diff { process, .. }
-            | Question::Bad { process }
-            | Question::Leaks { process, .. }
-            | Question::Growth { process, .. } => Some(Subject::Process(process)),
-            Question::Tags { object } => Some(Subject::Object(object)),
-            Question::Stacks { object, tag } => Some(Subject::Tag { object, tag }),
-            Question::Trace { process, handle } => Some(Subject::Handle {
-                process,
-                handle: base(handle),
-            }),
-        }
-    }
-}
-
-impl fmt::Display for Subject {
+impl fmt::Display for SubjectText {
     ghost use Rattle.std.specs.Prelude.{Some};
     ghost use Rattle.htl_program.specs.AskedAbout.{subject_text};
 
-    ghost output = { λ subject. Some (subject_text subject) };
+    ghost output = { λ shown. Some (subject_text shown.subject) };
 
     #[tactic(auto, using(htl_lemmas::proofs::Padding::padded_to))]
     fn fmt<W: fmt::Write>(&self, f: &mut fmt::Formatter<W>) -> fmt::Result {
-        match *self {
+        match self.subject {
             Subject::Process(process) => write!(f, "process {process}"),
             Subject::Object(object) => write!(f, "object 0x{object:016x}"),
             Subject::Tag { object, tag } => {
@@ -55,7 +27,8 @@ impl fmt::Display for Subject {
                 write!(f, "tag {tag} of object 0x{object:016x}")
             }
             Subject::Handle { process, handle } => {
-                write!(f, "handle 0x{handle:x} of process {process}")
+                let base = base(handle);
+                write!(f, "handle 0x{base:x} of process {process}")
             }
         }
     }

@@ -9,7 +9,8 @@ ghost use Rattle.hleak.specs.Meanings.{symbols_text, text_of, unknown_cut_text, 
 use crate::reason::Reason;
 use htl_case::CaseFault;
 use htl_command::Code;
-use htl_program::{NamedPart, Subject, advice, form_wrong, wrong};
+use htl_program::{NamedPart, advice, form_wrong, wrong};
+use htl_question::Subject;
 use htl_segment::{Fault, HexFault};
 use htl_symbols::SymbolFault;
 use htl_text::{FormFault, LineFault};

@@ -6,7 +6,7 @@ ghost use Rattle.hleak.specs.Subjects.{input_name, symbols_name};
 
 use htl_command::{Command, Dialogue, Run};
 use htl_main::since_of;
-use htl_program::Subject;
+use htl_question::Subject;
 
 /// What the program was doing.
 #[derive(Clone, Copy)]
@@ -76,7 +76,7 @@ impl<'a> Task<'a> {
         ensures { result ≡ asked_about self.entry }
     {
         match self {
-            Task::Question(run) => Subject::of(run.job.question),
+            Task::Question(run) => run.job.question.subject(),
             Task::Convert(_) | Task::Ask(_) | Task::Read(_) => None,
         }
     }

@@ -10,7 +10,7 @@ ghost use Rattle.hleak.specs.Disks.{IsAnswered, IsFound};
 ghost use Rattle.hleak.specs.Openings.{IsKnownLen, IsStream};
 
 use std::fs::{File, Metadata};
-use std::io::{IsTerminal, Read, Seek, SeekFrom, Stdin};
+use std::io::{Read, Seek, SeekFrom, Stdin};
 use std::os::unix::fs::FileTypeExt;
 use std::{fs, io};
 
@@ -58,9 +58,6 @@ pub trait Disk: Copy {
 
     /// The number of bytes of standard input, where it is a regular file.
     fn standard_len(&self) -> Option<u64>;
-
-    /// Whether standard input is a terminal.
-    fn is_typed(&self) -> bool;
 
     /// Whether a name gives the same bytes, as fast, when it is opened again.
     fn can_be_read_again(&self, name: &str) -> bool
@@ -124,10 +121,6 @@ impl Disk for HostRuntime {
 
     fn standard_len(&self) -> Option<u64> {
         known_len(&fs::metadata(self, "/dev/stdin"))
-    }
-
-    fn is_typed(&self) -> bool {
-        self.stdin().is_terminal()
     }
 
     fn can_be_read_again(&self, name: &str) -> bool {

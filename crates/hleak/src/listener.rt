@@ -1,30 +1,24 @@
 //! What is read on standard error beside the replies of a dialogue.
 
-ghost use Rattle.std.specs.Prelude.{◌≡◌, ◌||◌, false, not};
+ghost use Rattle.std.specs.Prelude.{◌≡◌, ◌&&◌, ◌||◌, false, not};
 ghost use Rattle.hleak.specs.Wrongs.{is_refusal};
 
-use crate::explaining::{Explanation, Task};
+use crate::explaining::Task;
 use crate::lacking::Lacking;
-use crate::note::{CutNote, Note};
-use crate::progress::Progress;
-use crate::reason::LastRefusal;
-use crate::shown::Shown;
+use crate::note::Note;
+use crate::terminals::Terminals;
+use crate::voice::Voice;
 use htl_command::Job;
 use htl_dialogue::Host;
 use htl_main::{
     Absence, Added, Between, Coverage, CutInputs, ParseFault, Refused, Remarks, RunFault,
 };
 use htl_program::{Lack, Speaker};
-use std::io::IsTerminal;
 
 /// Whoever reads standard error while a dialogue goes on.
 #[derive(Drop)]
 pub struct Listener<'p> {
-    rt: HostRuntime,
-    /// Shows how much was read, where a person watches.
-    progress: Option<&'p Progress>,
-    /// Why something could not be opened or read.
-    refusal: &'p LastRefusal,
+    voice: Voice<'p>,
     /// Whether notes are wanted: a person at a terminal reads it, or they are asked for.
     wants_notes: bool,
     /// Whether the lines are typed at a terminal.
@@ -37,55 +31,37 @@ pub struct Listener<'p> {
 
 impl<'p> Listener<'p> {
     /// A listener who has heard nothing.
-    pub fn new(
-        rt: HostRuntime,
-        progress: Option<&'p Progress>,
-        refusal: &'p LastRefusal,
-    ) -> Listener<'p>
+    pub fn new(voice: Voice<'p>, terminals: Terminals) -> Listener<'p>
+        ensures wants { result.wants_notes ≡ terminals.errors }
+        ensures typed { result.is_typed ≡ (terminals.errors && terminals.input) }
         ensures refused { result.has_refused ≡ false }
         ensures names { result.has_missed_names ≡ false }
     {
-        let is_watched = rt.stderr().is_terminal();
         Listener {
-            rt,
-            progress,
-            refusal,
-            wants_notes: is_watched,
-            is_typed: is_watched && rt.stdin().is_terminal(),
+            voice,
+            wants_notes: terminals.errors,
+            is_typed: terminals.has_typist(),
             has_refused: false,
             has_missed_names: false,
-        }
-    }
-
-    /// Writes a note, where there is one.
-    fn note(&self, note: Option<Note>) {
-        if let Some(note) = note {
-            let _ = eprintln!(self.rt; "{note}");
         }
     }
 
     /// Says which inputs end within a segment, where notes are wanted and some do.
     fn note_cut(&self, task: Task, inputs: Option<CutInputs>) {
         if let (Some(inputs), true) = (inputs, self.wants_notes) {
-            let _ = eprintln!(self.rt; "{}", CutNote { task, inputs });
+            self.voice.note_cut(task, inputs);
         }
     }
 
     /// Says why files are refused, and what that means where notes are wanted. The line that shows
     /// how much was read goes away before.
     fn report(&self, files: &[String], refused: Refused) {
-        if let Some(progress) = self.progress {
+        if let Some(progress) = self.voice.progress {
             progress.stop();
         }
-        let _ = eprintln!(self.rt; "{refused}");
+        self.voice.say(refused);
         if self.wants_notes {
-            let explanation = Explanation {
-                task: Task::Read(files),
-                fault: refused.fault,
-                between: refused.between,
-                reason: self.refusal.reason(),
-            };
-            let _ = eprintln!(self.rt; "{explanation}");
+            self.voice.explain(Task::Read(files), refused);
         }
     }
 
@@ -119,20 +95,13 @@ impl Host for Listener<'_> {
 
     fn awaits(&mut self) {
         if self.is_typed {
-            let _ = eprint!(self.rt; "hleak> ");
+            let _ = eprint!(self.voice.rt; "hleak> ");
         }
     }
 
     fn refuses(&mut self, fault: &ParseFault) {
         self.count(fault);
-        match fault {
-            ParseFault::Help(text) | ParseFault::Usage(text) => {
-                let _ = eprint!(self.rt; "{}", Shown::lines(text));
-            }
-            ParseFault::Memory => {
-                let _ = eprintln!(self.rt; "{fault}");
-            }
-        }
+        self.voice.refuse(fault);
     }
 
     fn reads(&mut self, files: &[String], ended: Result<Added, Refused>) {
@@ -156,10 +125,10 @@ impl Host for Listener<'_> {
 
     fn answered(&mut self, job: &Job, absence: Option<Absence>, remarks: Remarks) {
         if let Some(lack) = Lack::of(job, absence, remarks) {
-            let _ = eprintln!(self.rt; "{}", Lacking { lack });
+            self.voice.say(Lacking { lack });
         }
         if remarks.is_unnamed && !self.has_missed_names {
-            self.note(Some(Note::Unnamed));
+            self.voice.say(Note::Unnamed);
         }
         self.has_missed_names |= remarks.is_unnamed;
     }
@@ -176,8 +145,8 @@ impl Speaker for Listener<'_> {
     }
 
     fn begins(&mut self, files: &[String], coverage: Coverage, cut: Option<CutInputs>) {
-        if self.wants_notes {
-            self.note(Note::on_gaps(coverage));
+        if let (Some(note), true) = (Note::on_gaps(coverage), self.wants_notes) {
+            self.voice.say(note);
         }
         self.note_cut(Task::Convert(files), cut);
     }
@@ -189,7 +158,7 @@ impl Speaker for Listener<'_> {
     /// A person who has typed the end of the lines gets a line of their own for what comes after.
     fn leaves(&mut self, has_ended: bool) {
         if has_ended && self.is_typed {
-            let _ = eprintln!(self.rt; "");
+            self.voice.say("");
         }
     }
 }

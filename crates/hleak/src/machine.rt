@@ -10,8 +10,8 @@ use crate::file::InputFile;
 use crate::input::Input;
 use crate::input_source::InputSource;
 use crate::progress::Progress;
-use crate::reason::LastRefusal;
 use crate::shown::Shown;
+use crate::voice::Voice;
 use htl_device::Source;
 use htl_program::{OpenFault, World};
 use std::io;
@@ -20,11 +20,10 @@ use std::io;
 /// refused is noted.
 #[derive(Clone, Copy)]
 pub struct Machine<'p, D: Disk> {
-    pub rt: HostRuntime,
     pub disk: D,
-    /// Shows how much was read, where a person watches.
-    pub progress: Option<&'p Progress>,
-    pub refusal: &'p LastRefusal,
+    pub voice: Voice<'p>,
+    /// Whether a person types standard input.
+    pub is_typed: bool,
 }
 
 impl<'p, D: Disk> Machine<'p, D> {
@@ -32,8 +31,8 @@ impl<'p, D: Disk> Machine<'p, D> {
     /// somebody writes to it. Those of the process itself, as the shell's `<(..)`, are open already.
     fn await_writer(&self, name: &str) {
         let is_open = name.starts_with("/dev/") || name.starts_with("/proc/");
-        if self.progress.is_some() && !is_open && self.disk.is_pipe(name) {
-            let _ = eprintln!(self.rt; "hleak: waiting for {}", Shown::name(name));
+        if self.voice.progress.is_some() && !is_open && self.disk.is_pipe(name) {
+            let _ = eprintln!(self.voice.rt; "hleak: waiting for {}", Shown::name(name));
         }
     }
 
@@ -44,11 +43,11 @@ impl<'p, D: Disk> Machine<'p, D> {
     {
         match attempt {
             Ok(it) => {
-                self.refusal.forget();
+                self.voice.refusal.forget();
                 Ok(it)
             }
             Err(error) => {
-                self.refusal.note(&error);
+                self.voice.refusal.note(&error);
                 Err(fault_of(&error))
             }
         }
@@ -59,9 +58,9 @@ impl<'p, D: Disk> Machine<'p, D> {
         ensures { ⟦<InputSource<'p, D> as Source>⟧.state result
             ≡ fresh (D.known self.now.disk).standard }
     {
-        let progress = progress.filter(|_| !self.disk.is_typed());
-        let file = InputFile::standard(self.disk, self.rt.alloc());
-        InputSource::new(Input::new(file, self.disk.standard_len(), progress, self.refusal))
+        let progress = progress.filter(|_| !self.is_typed);
+        let file = InputFile::standard(self.disk, self.voice.rt.alloc());
+        InputSource::new(Input::new(file, self.disk.standard_len(), progress, self.voice.refusal))
     }
 }
 
@@ -76,9 +75,9 @@ where
 
     fn open(&mut self, name: &str) -> Result<InputSource<'p, D>, OpenFault> {
         self.await_writer(name);
-        let file = self.opened(InputFile::find(self.disk, self.rt.alloc(), name))?;
+        let file = self.opened(InputFile::find(self.disk, self.voice.rt.alloc(), name))?;
         let len = file.len();
-        Ok(InputSource::new(Input::new(file, len, self.progress, self.refusal)))
+        Ok(InputSource::new(Input::new(file, len, self.voice.progress, self.voice.refusal)))
     }
 
     fn read(&mut self, name: &str) -> Result<Vec<u8>, OpenFault> {
@@ -87,7 +86,7 @@ where
     }
 
     fn standard_input(&mut self) -> InputSource<'p, D> {
-        self.standard(self.progress)
+        self.standard(self.voice.progress)
     }
 
     fn questions(&mut self) -> InputSource<'p, D> {

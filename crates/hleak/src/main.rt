@@ -4,7 +4,8 @@
 //! What its arguments ask for is done by `htl_program`, for any world. Here is the world of the
 //! machine (`machine.rt`): the files of its disk (`disk.rt`), which are opened once they are read
 //! (`file.rt`, `input.rt`), also by several workers (`input_source.rt`). And here is the person who
-//! reads standard error (`terminal.rt`). `listener.rt` writes there beside the replies of a dialogue.
+//! reads standard error (`terminal.rt`), also beside the replies of a dialogue (`listener.rt`).
+//! `voice.rt` writes there, and `terminals.rt` says whether it is a terminal.
 //!
 //! Where standard error is a terminal, a person reads more: `progress.rt` shows how much was read,
 //! `lacking.rt` says what a question lacks in the segments, `note.rt` that segments are missing, and
@@ -30,6 +31,8 @@ mod progress;
 mod reason;
 mod shown;
 mod terminal;
+mod terminals;
+mod voice;
 
 use htl_command::ParseFault;
 use htl_main::Writing;
@@ -39,37 +42,36 @@ use machine::Machine;
 use progress::Progress;
 use reason::LastRefusal;
 use std::alloc::{AllocError, Global};
-use std::io::IsTerminal;
 use std::process::ExitCode;
 use std::{env, io};
 use terminal::Terminal;
+use terminals::Terminals;
+use voice::Voice;
 
 fn main(rt: HostRuntime) -> ExitCode {
-    let is_watched = rt.stderr().is_terminal();
-    let progress = if is_watched {
+    let terminals = Terminals::ask(rt);
+    let progress = if terminals.errors {
         Progress::begin(rt).ok()
     } else {
         None
     };
     let progress = progress.as_ref();
     let refusal = LastRefusal::new();
-    let mut world = Machine {
+    let voice = Voice {
         rt,
-        disk: rt,
         progress,
         refusal: &refusal,
     };
+    let mut world = Machine {
+        disk: rt,
+        voice,
+        is_typed: terminals.input,
+    };
     let mut console = Console {
         out: Writing::new(io::writer(&rt)),
-        person: Terminal {
-            rt,
-            progress,
-            is_watched,
-            sees_output: rt.stdout().is_terminal(),
-            refusal: &refusal,
-        },
+        person: Terminal { voice, terminals },
     };
-    let status = match arguments(&rt) {
+    let status = match arguments(&rt, terminals.input) {
         Ok(arguments) => program(
             &rt,
             rt.alloc(),
@@ -77,21 +79,22 @@ fn main(rt: HostRuntime) -> ExitCode {
             arguments,
             &mut Inputs::new(rt.alloc()),
             &mut console,
-            &mut Listener::new(rt, progress, &refusal),
+            &mut Listener::new(voice, terminals),
         ),
         Err(fault) => refuse(&fault, &mut console),
     };
     ExitCode::from(status)
 }
 
-/// The arguments after the program's name.
-fn arguments(rt: &HostRuntime) -> Result<Vec<String>, ParseFault>
+/// The arguments after the program's name, or the one for the short help where there is none and
+/// standard input is a terminal.
+fn arguments(rt: &HostRuntime, is_typed: bool) -> Result<Vec<String>, ParseFault>
     ensures { IfErr result (IsUsageWith ⊤) }
 {
     match env::args(rt) {
         Ok(words) => {
             let given = behind_name(words.collect(rt.alloc())?);
-            Ok(or_help(rt.alloc(), given, rt.stdin().is_terminal())?)
+            Ok(or_help(rt.alloc(), given, is_typed)?)
         }
         Err(error) if error.kind() == io::ErrorKind::InvalidData => {
             Err(ParseFault::no_text(rt.alloc()))

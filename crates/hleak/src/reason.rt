@@ -15,9 +15,11 @@ pub enum Reason {
     NotThere,
     /// The rights of the file, or of a folder above it, don't allow it.
     NotAllowed,
+    /// It is a folder, which has no bytes.
     Folder,
     /// The process, or the system, has as many open files as it may have.
     TooManyOpen,
+    /// The system gave another reason, or none.
     Unknown,
 }
 

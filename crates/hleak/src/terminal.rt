@@ -1,39 +1,32 @@
-//! What is read on standard error: the line of a fault, and what is said beside it to a person at a
+//! Who reads standard error: the line of a fault, and what is said beside it to a person at a
 //! terminal, or to whoever asks for notes. `htl_program` decides which of it is said.
 
 ghost use Rattle.std.specs.Prelude.{None};
 
-use crate::explaining::{Explanation, Stopped, Task};
+use crate::explaining::{Stopped, Task};
 use crate::lacking::Lacking;
-use crate::note::{CutNote, Note};
-use crate::progress::Progress;
-use crate::reason::LastRefusal;
-use crate::shown::Shown;
+use crate::note::Note;
+use crate::terminals::Terminals;
+use crate::voice::Voice;
 use htl_command::{Command, ParseFault};
 use htl_dialogue::DialogueFault;
 use htl_main::{Coverage, CutInputs, Refused, RunFault};
 use htl_program::{Lack, Person};
-use std::io::IsTerminal;
 
-/// Standard error. A line that can't be written is left out.
+/// Who reads standard error, at a terminal or not.
 #[derive(Clone, Copy)]
 pub struct Terminal<'p> {
-    pub rt: HostRuntime,
-    /// Shows how much was read, where a person watches.
-    pub progress: Option<&'p Progress>,
-    /// Whether a person at a terminal reads it.
-    pub is_watched: bool,
-    /// Whether standard output is a terminal.
-    pub sees_output: bool,
-    /// Why something could not be opened or read.
-    pub refusal: &'p LastRefusal,
+    pub voice: Voice<'p>,
+    pub terminals: Terminals,
 }
 
 impl Terminal<'_> {
     /// Says to a person at a terminal that the program waits for what is typed there.
     fn await_typing(self, what: &str) {
-        if self.is_watched && self.rt.stdin().is_terminal() {
-            let _ = eprintln!(self.rt; "hleak: no file is named: {what} expected at this terminal");
+        if self.terminals.has_typist() {
+            let _ = eprintln!(self.voice.rt;
+                "hleak: no file is named: {what} expected at this terminal"
+            );
         }
     }
 }
@@ -41,16 +34,16 @@ impl Terminal<'_> {
 impl Person for Terminal<'_> {
     ghost heard = { λ _. None };
 
-    ghost sees_output = { λ terminal. terminal.sees_output };
+    ghost sees_output = { λ terminal. terminal.terminals.output };
 
-    ghost is_watching = { λ terminal. terminal.is_watched };
+    ghost is_watching = { λ terminal. terminal.terminals.errors };
 
     fn sees_output(&self) -> bool {
-        self.sees_output
+        self.terminals.output
     }
 
     fn is_watching(&self) -> bool {
-        self.is_watched
+        self.terminals.errors
     }
 
     /// The progress is hidden while the text of segments is written to a terminal.
@@ -62,81 +55,64 @@ impl Person for Terminal<'_> {
             _ => {}
         }
         if let (Some(progress), Command::Dump { .. }, true) = (
-            self.progress,
+            self.voice.progress,
             command,
-            self.sees_output,
+            self.terminals.output,
         ) {
             progress.hide();
         }
     }
 
     fn ends(&mut self) {
-        if let Some(progress) = self.progress {
+        if let Some(progress) = self.voice.progress {
             progress.clear();
         }
     }
 
     fn refuses(&mut self, refused: &ParseFault) {
-        match refused {
-            ParseFault::Help(text) | ParseFault::Usage(text) => {
-                let _ = eprint!(self.rt; "{}", Shown::lines(text));
-            }
-            ParseFault::Memory => {
-                let _ = eprintln!(self.rt; "{refused}");
-            }
-        }
+        self.voice.refuse(refused);
     }
 
     fn loses_text(&mut self) {
-        let _ = eprintln!(self.rt; "{}", RunFault::Write);
+        self.voice.say(RunFault::Write);
     }
 
     fn reports(&mut self, refused: Refused) {
-        let _ = eprintln!(self.rt; "{refused}");
+        self.voice.say(refused);
     }
 
     fn explains(&mut self, command: &Command, refused: Refused) {
         if let Some(task) = Task::of(command) {
-            let explanation = Explanation {
-                task,
-                fault: refused.fault,
-                between: refused.between,
-                reason: self.refusal.reason(),
-            };
-            let _ = eprintln!(self.rt; "{explanation}");
+            self.voice.explain(task, refused);
         }
     }
 
     fn lacks(&mut self, lack: Lack) {
-        let _ = eprintln!(self.rt; "{}", Lacking { lack });
+        self.voice.say(Lacking { lack });
     }
 
     fn finds_no_name(&mut self) {
-        let _ = eprintln!(self.rt; "{}", Note::Unnamed);
+        self.voice.say(Note::Unnamed);
     }
 
     fn finds_gaps(&mut self, coverage: Coverage) {
-        let _ = eprintln!(self.rt; "{}", Note::Gaps(coverage));
+        self.voice.say(Note::Gaps(coverage));
     }
 
     fn finds_cut(&mut self, command: &Command, inputs: CutInputs) {
         if let Some(task) = Task::of(command) {
-            let _ = eprintln!(self.rt; "{}", CutNote { task, inputs });
+            self.voice.note_cut(task, inputs);
         }
     }
 
     fn stops(&mut self, stopped: DialogueFault) {
-        let _ = eprintln!(self.rt; "{stopped}");
+        self.voice.say(stopped);
     }
 
     fn explains_stop(&mut self, stopped: DialogueFault) {
-        let reason = self.refusal.reason();
-        let _ = eprintln!(self.rt;
-            "{}",
-            Stopped {
-                fault: stopped,
-                reason
-            }
-        );
+        self.voice.say(Stopped {
+            fault: stopped,
+            reason: self.voice.refusal.reason(),
+        });
     }
 }

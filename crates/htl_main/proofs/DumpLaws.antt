@@ -3,7 +3,7 @@ use Rattle.std.proofs.Common.{◌≡◌, ◌+◌, ◌-◌, ◌<◌, ◌≤◌, �
 use Rattle.std.proofs.Common.{arith, inl, inr, subst, append_assoc, append-nil, Option, Some, None, IfSome, Result, Ok, Err}
 use Rattle.std.specs.Prelude.{is_err, slice_get, IfErr, IfOk}
 use Rattle.std.specs.Io.KnownBytes.{Appends, Consumes, IsAtEnd, ReadConsumes}
-use Rattle.std.proofs.KnownBytes.{Appends-trans, Consumes-kept, Consumes-trans}
+use Rattle.std.proofs.KnownBytes.{Appends-nil, Appends-trans, Consumes-kept, Consumes-trans}
 use Rattle.std.proofs.Math.Seq.{drop-append_seam, take-append_seam}
 use Rattle.std.proofs.lemmas.Bool.{cases_lt}
 use Rattle.std.proofs.lemmas.Grind.{flat_map-append}
@@ -19,15 +19,16 @@ use Rattle.htl_segment.specs.Bundles.{bundle, is_early_end, IsRest, SegmentAt, S
 use Rattle.htl_segment.specs.declared.fault.Fault.{Fault}
 use Rattle.htl_segment.proofs.BundleLaws.{late_stays, no_fault_stays, splits_one}
 use Rattle.htl_text.specs.Texts.{segment_text}
-use Rattle.htl_main.specs.Inputs.{AsksMemory, HasBytes}
+use Rattle.htl_main.specs.Inputs.{HasBytes, IsReportedOfInput}
+use Rattle.htl_main.specs.Reads.{IsOfDigits}
 use Rattle.htl_main.specs.Sources.{EndsBefore}
 use Rattle.htl_main.specs.Dumps.{AreWritten, Dumps, InputStops, is_failed_write, texts_of}
 use Rattle.htl_main.specs.Dumping.{DumpedSoFar, DumpsInput, DumpEndsAt, FrontDumped, FrontStops, WholeStops}
 use Rattle.htl_main.specs.Ends.{IsEnd, IsEndRefused}
 use Rattle.htl_main.specs.declared.fault.RunFault.{RunFault}
-use Rattle.htl_main.specs.declared.fault.RunFault.TheVariants.{Segment, Read, Memory, Write}
+use Rattle.htl_main.specs.declared.fault.RunFault.TheVariants.{Hex, Segment, Read, Memory, Write}
 use Rattle.htl_main.proofs.EndLaws.{input_of}
-use Rattle.htl_main.proofs.InputLaws.{decode_next, late_reported}
+use Rattle.htl_main.proofs.InputLaws.{asks_at, decode_next, late_reported}
 use Rattle.htl_main.proofs.ReadingLaws.{ill}
 use Rattle.htl_reading.specs.declared.outcome.EarlyEnd.{EarlyEnd}
 use Rattle.htl_reading.specs.Keepers.{taken}
@@ -182,11 +183,6 @@ dumps_front form input bytes rest end old new has front ends =
 segment_at : (bytes rest : List ℕ) (ss : List Content) → Splits bytes ss rest → first_fault rest ≡ None → SegmentAt bytes (length (bundle ss))
 segment_at bytes rest ss split none = record { before = ss; rest = rest; splits = split; offset_is = refl; no_fault = none }
 
-asks : (hex partial : Bool) (input bytes rest : List ℕ) (ss : List Content) → HasBytes hex input bytes → Splits bytes ss rest
-    → first_fault rest ≡ None → AsksMemory hex partial input
-asks true partial input bytes rest ss has split none = has.0
-asks false partial input bytes rest ss has split none = (length (bundle ss), inl (rw (← has) (segment_at bytes rest ss split none)))
-
 pub input_stops : (form : InputForm) (left : Option (List ℕ)) (ended : Bool) (place : ℕ) (input bytes : List ℕ) (old new : Option (List ℕ))
     (fault : RunFault) → HasBytes form.hex input bytes → WholeStops form place bytes old new fault
     → InputStops form left ended place input old new fault
@@ -211,7 +207,7 @@ input_stops form left ended place input bytes old new (Segment at offset fault) 
   written = stops.written;
 }
 input_stops form left ended place input bytes old new Memory has stops = record {
-  reported = inl (asks form.hex form.partial input bytes stops.rest stops.segments has stops.splits stops.ends);
+  reported = inl (asks_at form.hex form.partial input bytes _ has (segment_at bytes stops.rest stops.segments stops.splits stops.ends));
   segments = stops.segments;
   are = inr (bytes, stops.rest, has, stops.splits);
   written = stops.written;
@@ -231,6 +227,24 @@ pub text_dumped : (form : InputForm) (text bytes : List ℕ) (old new : Option (
     → IfOk result (λ end. DumpsInput form text end old new)
 text_dumped form text bytes old new (Ok end) has dumped = dumps_front form text bytes dumped.0 end old new has dumped.1 dumped.2
 text_dumped form text bytes old new (Err fault) has dumped = tt
+
+-- where the dump of them stops, that of the text does
+pub text_stops : (form : InputForm) (left : Option (List ℕ)) (ended : Bool) (place : ℕ) (text bytes : List ℕ) (old new : Option (List ℕ))
+    (result : Result (Option EarlyEnd) RunFault) → HasBytes form.hex text bytes → IfErr result (WholeStops form place bytes old new)
+    → IfErr result (InputStops form left ended place text old new)
+text_stops form left ended place text bytes old new (Ok end) has stops = tt
+text_stops form left ended place text bytes old new (Err fault) has stops =
+    input_stops form left ended place text bytes old new fault has stops
+
+-- nothing is dumped of digits that are refused
+pub digits_stop : (form : InputForm) (left : Option (List ℕ)) (ended : Bool) (place : ℕ) (input : List ℕ) (out : Option (List ℕ)) (fault : RunFault)
+    → IsReportedOfInput form place input fault → IsOfDigits place fault → InputStops form left ended place input out out fault
+digits_stop form left ended place input out fault told (inl is) =
+    let asked : IsReportedOfInput form place input Memory = subst (IsReportedOfInput form place input) is told in
+    rw is (record { reported = inl asked; segments = []; are = inl refl; written = Appends-nil out })
+digits_stop form left ended place input out fault told (inr digits) =
+    let found : IsReportedOfInput form place input (Hex place digits.0) = subst (IsReportedOfInput form place input) digits.1 told in
+    rw (digits.1) (record { reported = found; segments = []; are = refl; written = Appends-nil out })
 
 -- ---- a source that is dumped as it is read
 
@@ -358,8 +372,8 @@ so_far_memory form (Some xs) (Some ys) last ended place start held piece old new
   reported = inr (
     inside,
     taken so_far.segments held ++ piece,
-    omega (arith, some, length-append (taken so_far.segments held) piece),
     Consumes-trans (Some xs) (Some ys) last (taken so_far.segments held) piece so_far.given read,
+    rw is (omega (arith, some, length-append (taken so_far.segments held) piece)),
   );
   segments = so_far.segments;
   are = inr (

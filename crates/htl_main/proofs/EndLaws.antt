@@ -1,5 +1,5 @@
 -- An input whose last bytes end within a segment comes to its segments where it may, and else to its fault.
-use Rattle.std.proofs.Common.{◌≡◌, ℕ, Bool, true, false, List, [], length, Option, Some, None, refl, arith, inl}
+use Rattle.std.proofs.Common.{◌≡◌, ℕ, Bool, true, false, List, [], length, Option, Some, None, refl, ap, arith, inl, length-append}
 use Rattle.std.proofs.Common.{IfErr, IfOk, IfSome, Result, Ok, Err, Vec, Global, inr, subst, ◌<◌}
 use Rattle.std.specs.Prelude.{nat_lt, if◌then◌else◌}
 use Rattle.htl_command.specs.declared.question.InputForm.{InputForm}
@@ -14,6 +14,7 @@ use Rattle.htl_segment.specs.declared.fault.Fault.{Fault}
 use Rattle.htl_segment.specs.declared.fault.Fault.TheVariants.{Magic}
 use Rattle.htl_main.specs.Inputs.{AsksMemory, HasBytes, IsReportedOfInput, MayBeLeft, reported_of}
 use Rattle.htl_main.specs.Sources.{IsReportedOfSource}
+use Rattle.htl_main.proofs.InputLaws.{digits_asked}
 use Rattle.htl_main.specs.declared.cut_inputs.Accepted.{Accepted}
 use Rattle.htl_main.specs.declared.fault.RunFault.{RunFault}
 use Rattle.htl_main.specs.declared.fault.RunFault.TheVariants.{Segment}
@@ -50,7 +51,8 @@ no_fault_told true rest first early told = (refl, begun_of (begins_header rest) 
 -- memory is asked for where an input is cut, as it may be
 asks_cut : (hex partial : Bool) (input bytes rest : List ℕ) (segments : List Content) → HasBytes hex input bytes → Splits bytes segments rest
     → partial ≡ true → 0 < length rest → MayBeLeft true rest → AsksMemory hex partial input
-asks_cut true partial input bytes rest segments has split may some left = has.0
+asks_cut true partial input bytes rest segments has split may some left =
+    digits_asked partial input bytes has (omega (arith, some, ap length split.parts, length-append (bundle segments) rest))
 asks_cut false partial input bytes rest segments has split may some left = (
   length (bundle segments),
   inr (

@@ -25,12 +25,10 @@ use Rattle.htl_segment.specs.Keepers.{Took, TookUpTo}
 use Rattle.htl_segment.specs.Traces.{Trace}
 use Rattle.htl_segment.specs.declared.fault.Fault.{Fault}
 use Rattle.htl_segment.specs.declared.fault.Fault.TheVariants as segments
-use Rattle.htl_segment.specs.declared.hexadecimal.HexFault.{HexFault}
-use Rattle.htl_segment.specs.declared.hexadecimal.HexFault.TheVariants as digits
 use Rattle.htl_main.specs.Completeness.{ReportsMissing}
 use Rattle.htl_main.specs.CutInputs.{AreCutEnds}
 use Rattle.htl_main.specs.Ends.{IsEnd, IsEndRefused, IsInput}
-use Rattle.htl_main.specs.Faults.{of_case, of_digits, of_hex, of_segment, of_source}
+use Rattle.htl_main.specs.Faults.{of_case, of_digits, of_segment, of_source}
 use Rattle.htl_main.specs.Folders.{AreAllTaken, Folds, GaveOwn, IsAddedToFolded, IsMissingOf, IsNotAdded, IsOfInput, IsSymbolsFault, KeepsAll}
 use Rattle.htl_main.specs.Folders.{IsBegun, TookInputs, TookToFault, folds_of, number_of}
 use Rattle.htl_main.specs.Folding.{AreAccepted, AreFolded, AreGiven, AreReadToFold, AreRising, AreTaken, AsksFoldsMemory, Folding}
@@ -40,7 +38,7 @@ use Rattle.htl_main.specs.Folding.{StopsFolding, TakesUpTo, counted, folding}
 use Rattle.htl_main.specs.Inputs.{DecodeAll, HasBytes}
 use Rattle.htl_main.specs.Printed.{WorkersFit}
 use Rattle.htl_main.specs.Readings.{AreRead}
-use Rattle.htl_main.specs.Reads.{NeverRead}
+use Rattle.htl_main.specs.Reads.{IsOfDigits, NeverRead}
 use Rattle.htl_main.specs.Sources.{EndsBefore, IsReportedOfSource}
 use Rattle.htl_main.specs.declared.adding.Added.{Added}
 use Rattle.htl_main.specs.declared.cut_inputs.CutEnd.{CutEnd}
@@ -160,40 +158,13 @@ module _ {S K : Type 0} (gathers : S → K → List Content → Type 0) where
     fault_kept None left fault is took = tt
     fault_kept (Some text) left fault is took = at_fault left text fault is took
 
-    -- ---- a source of digits
+  -- ---- digits
 
-    -- what was taken of a text is taken of the source whose known bytes it is
-    pub known_ok : (first : Option (List ℕ)) (text : List ℕ) (result : Result (Option EarlyEnd) RunFault) → IfSome first (λ xs. text ≡ xs)
-        → IfOk result (λ is_cut. TookInput old new form text is_cut)
-        → IfOk result (λ is_cut. IfSome first (λ xs. TookInput old new form xs is_cut))
-    known_ok None text (Ok is_cut) is took = tt
-    known_ok (Some xs) text (Ok is_cut) is took = rw (← is) took
-    known_ok first text (Err fault) is took = tt
-
-    -- what was left of it doesn't matter
-    any_left : (left other : Option (List ℕ)) (text : List ℕ) (fault : RunFault) (own : List Content) → form.hex ≡ true
-        → GaveOwn form other text fault own → GaveOwn form left text fault own
-    any_left left other text (faults.Read at) own is gave =
-        let none : own ≡ [] = rw is at gave in rw is none
-    any_left left other text (faults.Segment at offset fault) own is gave = gave
-    any_left left other text (faults.Hex at fault) own is gave = gave
-    any_left left other text fault own is gave = absurd gave
-
-    -- what was taken of a text before its fault is taken so of the source whose known bytes it is
-    pub known_kept : (first left : Option (List ℕ)) (text : List ℕ) (result : Result (Option EarlyEnd) RunFault) → form.hex ≡ true
-        → IfSome first (λ xs. text ≡ xs) → IfErr result (λ fault. TookOwn old new form None text fault)
-        → IfErr result (λ fault. IfSome first (λ xs. TookOwn old new form left xs fault))
-    known_kept first left text (Ok is_cut) hex is took = tt
-    known_kept None left text (Err fault) hex is took = tt
-    known_kept (Some xs) left text (Err fault) hex is took = λ other.
-        (let own = took other in
-        (own.0, subst (λ (l : List ℕ). GaveOwn form left l fault own.0) is (any_left left None text fault own.0 hex own.1), own.2))
-
-  -- nothing was taken of digits with a fault
-  pub digits_kept : (k : K) (form : InputForm) (place : ℕ) (left : Option (List ℕ)) (text : List ℕ) (fault : HexFault)
-      → TookOwn k k form left text (of_hex place fault)
-  digits_kept k form place left text digits.NoMemory other = absurd (other refl)
-  digits_kept k form place left text fault other = ([], refl, took_none k)
+  -- nothing was taken of digits that are refused
+  pub digits_kept : (k : K) (form : InputForm) (place : ℕ) (left : Option (List ℕ)) (text : List ℕ) (fault : RunFault) → IsOfDigits place fault
+      → TookOwn k k form left text fault
+  digits_kept k form place left text fault (inl is) other = absurd (other is)
+  digits_kept k form place left text fault (inr is) other = rw (is.1) ([], refl, took_none k)
 
   -- and nothing of those that couldn't be gathered
   pub unread_kept : (k : K) (form : InputForm) (place : ℕ) (first left : Option (List ℕ)) (fault : DigitsFault) → form.hex ≡ true

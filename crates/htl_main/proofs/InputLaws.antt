@@ -1,19 +1,21 @@
 -- Inputs are decoded one after another, and the first that is refused is reported.
 use Rattle.std.proofs.Common.{◌≡◌, ◌≢◌, ◌⊎◌, ◌+◌, ◌<◌, ℕ, Bool, true, false, List, [], ◌∷◌, ◌++◌, length, map, take, refl, ap, ◌∙◌, sym}
-use Rattle.std.proofs.Common.{append_assoc, inl, inr, Option, None, Some, arith, Vec, Global}
+use Rattle.std.proofs.Common.{append_assoc, inl, inr, Option, None, Some, Ok, arith, Vec, Global, length-append}
 use Rattle.std.specs.Prelude.{slice_get}
 use Rattle.std.proofs.lemmas.List.{append-nil, take_more}
 use Rattle.std.proofs.lemmas.List.Elements.{All-nil, All-head}
 use Rattle.std.proofs.lemmas.Option.{slice_get-map, slice_get_within, get_or_from_slice_get}
 use Rattle.htl_command.specs.declared.question.InputForm.{InputForm}
+use Rattle.hex.specs.Hex.{decode_of, decode_pairs}
 use Rattle.htl_segment.specs.Content.{Content, Fits}
+use Rattle.htl_segment.specs.Hexadecimal.{WritesBytes, digits_of}
 use Rattle.htl_segment.specs.Encoding.{encoding}
 use Rattle.htl_segment.specs.Faults.{first_fault}
-use Rattle.htl_segment.specs.Bundles.{bundle, is_early_end, IsRefused, SegmentAt, Splits}
+use Rattle.htl_segment.specs.Bundles.{bundle, cut_off, is_early_end, IsRefused, SegmentAt, Splits}
 use Rattle.htl_reading.specs.declared.outcome.EarlyEnd.{EarlyEnd}
 use Rattle.htl_main.specs.Ends.{IsInput}
 use Rattle.htl_segment.proofs.SegmentLaws.{segment_again}
-use Rattle.htl_segment.proofs.BundleLaws.{first_fault-no_memory}
+use Rattle.htl_segment.proofs.BundleLaws.{first_fault-no_memory, nothing_short}
 use Rattle.htl_segment.specs.Pieces.{is_memory}
 use Rattle.htl_segment.specs.declared.fault.Fault.{Fault}
 use Rattle.htl_segment.specs.declared.fault.Fault.TheVariants as faults
@@ -27,9 +29,28 @@ pub segment_fault : (input offset : ℕ) (fault : Fault) → is_memory fault ≡
 segment_fault input offset faults.NoMemory other = absurd cc
 segment_fault input offset fault other = refl
 
-asks_at : (hex partial : Bool) (input bytes : List ℕ) (offset : ℕ) → HasBytes hex input bytes → SegmentAt bytes offset
+digits_of_bytes : (digits bytes : List ℕ) → decode_of digits ≡ Ok bytes → 0 < length bytes → 0 < length digits
+unfolding decode_pairs
+digits_of_bytes [] bytes decoded some =
+    let none : Ok [] ≡ Ok bytes = decoded in
+    let same : [] ≡ bytes = cc none in
+    absurd (omega (arith, some, ap length same))
+digits_of_bytes (digit ∷ more) bytes decoded some = omega arith
+
+-- memory is asked for where digits write some bytes
+pub digits_asked : (partial : Bool) (input bytes : List ℕ) → WritesBytes input bytes → 0 < length bytes → AsksMemory true partial input
+digits_asked partial input bytes has some = (has.0, digits_of_bytes (digits_of input) bytes (has.1) some)
+
+segment_some : (rest : List ℕ) → first_fault rest ≡ None → 0 < length rest
+segment_some [] none = let short : None ≡ Some (cut_off []) = sym none ∙ nothing_short in absurd (cc short)
+segment_some (byte ∷ more) none = omega arith
+
+-- and where a segment begins
+pub asks_at : (hex partial : Bool) (input bytes : List ℕ) (offset : ℕ) → HasBytes hex input bytes → SegmentAt bytes offset
     → AsksMemory hex partial input
-asks_at true partial input bytes offset has there = has.0
+asks_at true partial input bytes offset has there =
+    digits_asked partial input bytes has
+    (omega (arith, segment_some there.rest there.no_fault, ap length there.splits.parts, length-append (bundle there.before) there.rest))
 asks_at false partial input bytes offset has there = (offset, inl (rw (← has) there))
 
 -- a fault that more bytes don't mend is reported as it is
@@ -95,10 +116,9 @@ first_at bytes t ts rest parts fits =
 -- where an input has segments, memory is asked for
 asks : (hex partial : Bool) (input bytes rest : List ℕ) (segments : List Content) → HasBytes hex input bytes → Splits bytes segments rest
     → 0 < length segments → AsksMemory hex partial input
-asks true partial input bytes rest segments has split some = has.0
-asks false partial input bytes rest [] has split some = absurd (omega arith)
-asks false partial input bytes rest (t ∷ ts) has split some =
-    (0, inl (first_at input t ts rest (sym has ∙ split.parts) (All-head Fits t ts split.fits)))
+asks hex partial input bytes rest [] has split some = absurd (omega (arith, some))
+asks hex partial input bytes rest (t ∷ ts) has split some =
+    asks_at hex partial input bytes 0 has (first_at bytes t ts rest split.parts (All-head Fits t ts split.fits))
 
 -- memory is asked for where an input has a segment
 pub asked_for : (form : InputForm) (input : List ℕ) (segments : List Content) → Decodes form input segments → 0 < length segments

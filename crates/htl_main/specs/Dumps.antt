@@ -6,6 +6,7 @@ use Rattle.htl_device.specs.Devices.{AppendsPrefix}
 use Rattle.htl_command.specs.declared.question.InputForm.{InputForm}
 use Rattle.htl_segment.specs.Content.{Content}
 use Rattle.htl_segment.specs.Bundles.{bundle, IsRest, Splits}
+use Rattle.htl_segment.specs.Hexadecimal.{digits_of}
 use Rattle.htl_text.specs.Texts.{segment_text}
 use Rattle.htl_main.specs.Inputs.{AsksMemory, DecodeAll, HasBytes, IsReportedOfInput}
 use Rattle.htl_main.specs.declared.fault.RunFault.{RunFault}
@@ -24,13 +25,19 @@ abbrev pub is_failed_write : {S : Type 0} → Result S RunFault → Bool
 is_failed_write (Err Write) = true
 is_failed_write other = false
 
+-- what is kept of what was read of an input before it is dumped: all bytes, and of a text in hexadecimal the digits
+abbrev pub kept_of : Bool → List ℕ → List ℕ
+kept_of true read = digits_of read
+kept_of false read = read
+
 -- What is reported of the source at a place that gave some of the input's bytes, has others left, and whose end was
 -- found or not. While its end isn't found, memory is asked for to keep what was read too.
 abbrev pub IsReportedOfDump : InputForm → Option (List ℕ) → Bool → ℕ → List ℕ → RunFault → Type 0
 IsReportedOfDump form left ended place input (Read at) = at ≡ place
 IsReportedOfDump form left ended place input Write = Unit {0}
 IsReportedOfDump form left ended place input Memory =
-    AsksMemory form.hex form.partial input ⊎ ((ended ≡ false) × (read : List ℕ) × (0 < length read) × Consumes (Some input) left read)
+    AsksMemory form.hex form.partial input
+    ⊎ ((ended ≡ false) × (read : List ℕ) × Consumes (Some input) left read × (0 < length (kept_of form.hex read)))
 IsReportedOfDump form left ended place input fault = IsReportedOfInput form place input fault
 
 -- the input's bytes begin with those of these segments, if there are any

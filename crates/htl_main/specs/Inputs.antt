@@ -2,7 +2,7 @@
 use Rattle.std.specs.Prelude.{◌≡◌, ◌<◌, ◌⊎◌, ℕ, Bool, true, false, List, [], ◌∷◌, ◌++◌, length, take, slice_get, Option, Some, None}
 use Rattle.std.specs.Prelude.{if◌then◌else◌}
 use Rattle.htl_segment.specs.Content.{Content}
-use Rattle.htl_segment.specs.Hexadecimal.{WritesBytes, hex_fault}
+use Rattle.htl_segment.specs.Hexadecimal.{WritesBytes, digits_of, hex_fault}
 use Rattle.htl_segment.specs.Bundles.{Splits, IsRest, RestAt, SegmentAt, bundle, is_early_end}
 use Rattle.htl_segment.specs.Faults.{first_fault}
 use Rattle.htl_segment.specs.declared.fault.Fault.{Fault}
@@ -65,9 +65,13 @@ HasHexFault hex input fault = (hex ≡ true) × (hex_fault input ≡ Some fault)
 abbrev pub IsCutAt : Bool → List ℕ → ℕ → Type 0
 IsCutAt partial input offset = (partial ≡ true) × (there : RestAt input offset) × MayBeLeft true there.rest
 
--- Memory is asked for where the digits have no fault, and where a segment begins, also one that is cut where inputs may be partial.
+-- the text writes the bytes of this input in hexadecimal, or has its fault
+abbrev pub SameDigits : List ℕ → List ℕ → Type 0
+SameDigits input text = (hex_fault text ≡ hex_fault input) × (digits_of text ≡ digits_of input)
+
+-- Memory is asked for where there are digits without a fault, and where a segment begins, also one that is cut where inputs may be partial.
 abbrev pub AsksMemory : Bool → Bool → List ℕ → Type 0
-AsksMemory true partial input = hex_fault input ≡ None
+AsksMemory true partial input = (hex_fault input ≡ None) × (0 < length (digits_of input))
 AsksMemory false partial input = (offset : ℕ) × (SegmentAt input offset ⊎ IsCutAt partial input offset)
 
 -- what is reported of the input at a place: its first fault, and out of memory only where it is asked for

@@ -4,12 +4,13 @@ use Rattle.std.specs.Prelude.{Option, IfSome, IfErr, OnOk, MatchResult, Result, 
 use Rattle.htl_device.specs.States.{IfKnown, SourceState, ends, good_reads, has_ended, has_failed, lefts, remaining}
 use Rattle.htl_device.specs.declared.source.TheConstants.{MAX_READ_LEN}
 use Rattle.htl_reading.specs.Sources.{IsReadToFault}
+use Rattle.htl_segment.specs.declared.hexadecimal.HexFault.{HexFault}
 use Rattle.htl_command.specs.declared.question.InputForm.{InputForm}
 use Rattle.htl_main.specs.Inputs.{StopsAtInput}
 use Rattle.htl_main.specs.Readings.{AreRead}
 use Rattle.htl_main.specs.Sources.{EndsBefore, IsReportedAt}
 use Rattle.htl_main.specs.declared.fault.RunFault.{RunFault}
-use Rattle.htl_main.specs.declared.fault.RunFault.TheVariants.{Read, Write}
+use Rattle.htl_main.specs.declared.fault.RunFault.TheVariants.{Hex, Memory, Read, Write}
 
 -- a failed read is reported of this source, and only where one failed, or so many reads gave bytes
 abbrev pub FailsOnly : {S : Type 0} → ℕ → Bool → ℕ → Option (List ℕ) → ℕ → Result S RunFault → Type 0
@@ -20,6 +21,10 @@ FailsOnly place failed reads known most result =
 -- a fault that names an input names this one
 abbrev pub NamesOnly : {S : Type 0} → ℕ → Result S RunFault → Type 0
 NamesOnly place result = IfErr result (λ fault. (later : ℕ) → EndsBefore fault later → place < later)
+
+-- memory was refused for the digits of the input at a place, or they are no bytes
+abbrev pub IsOfDigits : ℕ → RunFault → Type 0
+IsOfDigits place fault = (fault ≡ Memory) ⊎ ((why : HexFault) × (fault ≡ Hex place why))
 
 -- no failed read is reported
 abbrev pub NeverRead : {S : Type 0} → Result S RunFault → Type 0

@@ -6,6 +6,7 @@ use Rattle.htl_device.specs.declared.whole.TheConstants.{MAX_READS}
 use Rattle.htl_command.specs.declared.question.InputForm.{InputForm}
 use Rattle.htl_command.specs.declared.question.Job.{Job}
 use Rattle.htl_segment.specs.Bundles.{RestAt}
+use Rattle.htl_segment.specs.Hexadecimal.{digits_of}
 use Rattle.htl_reading.specs.Sources.{IsReadToFault}
 use Rattle.htl_main.specs.CutInputs.{Decoding, IsDecoding}
 use Rattle.htl_main.specs.Inputs.{AsksMemory, IsReportedOfInput, StopsAtInput}
@@ -14,9 +15,9 @@ use Rattle.htl_main.specs.Causes.{IsCause, IsCauseAfter}
 use Rattle.htl_main.specs.declared.fault.RunFault.{RunFault}
 use Rattle.htl_main.specs.declared.fault.RunFault.TheVariants.{Workers, Segment, Hex, Text, Read, Memory}
 
--- Memory is asked for to keep what was read: a text in hexadecimal, and of bytes the last, which more may make a segment of.
+-- Memory is asked for to keep what was read: digits, and of bytes the last, which more may make a segment of.
 abbrev pub KeepsSome : Bool → List ℕ → Type 0
-KeepsSome true read = 0 < length read
+KeepsSome true read = 0 < length (digits_of read)
 KeepsSome false read = (offset : ℕ) × RestAt read offset
 
 -- What is reported of the source at a place that gave some of these bytes, has others left, and whose end was found or not.

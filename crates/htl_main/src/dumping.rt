@@ -13,16 +13,18 @@ ghost use Rattle.htl_device.specs.States.{AreOpen, IsOpen};
 ghost use Rattle.htl_main.specs.Dumping.{DumpsInput, FrontDumped, FrontStops, WholeStops};
 ghost use Rattle.htl_main.specs.Dumps.{InputStops, is_failed_write};
 ghost use Rattle.htl_main.specs.Ends.{IsEnd, IsEndRefused, IsSegmentOf};
+ghost use Rattle.htl_main.specs.Inputs.{SameDigits};
 ghost use Rattle.htl_main.specs.Reads.{FailsOnly, IsRead, NamesOnly, NeverRead};
 ghost use Rattle.htl_main.specs.Runs.{IsDumpedFrom};
 
 use crate::cut_inputs::{CutInputs, check_end, with_input};
 use crate::fault::RunFault;
+use crate::inputs::bytes_of_digits;
 use crate::printing::write_lines;
 use htl_command::InputForm;
-use htl_device::{MAX_READ_LEN, MAX_READS, MIN_READ_LEN, Sink, Source, read_whole};
-use htl_reading::{EarlyEnd, early_end};
-use htl_segment::{SegmentBytes, from_hex};
+use htl_device::{MAX_READ_LEN, MAX_READS, MIN_READ_LEN, Sink, Source};
+use htl_reading::{EarlyEnd, early_end, read_digits};
+use htl_segment::SegmentBytes;
 use htl_text::dump;
 use std::alloc::Global;
 
@@ -31,8 +33,8 @@ use std::alloc::Global;
 ///
 /// The first fault ends the run: nothing is read after the read that showed it. By then the texts
 /// of all segments before the fault were written, or a first part of them if a write failed. A text
-/// in hexadecimal is read whole before it is dumped; of bytes only one incomplete segment and one
-/// read are kept.
+/// in hexadecimal is read to its end or its first foreign byte before it is dumped; of bytes only one
+/// incomplete segment and one read are kept.
 pub fn dump_from<R: Source, W: Sink>(
     alloc: Global,
     form: InputForm,
@@ -73,16 +75,16 @@ fn dump_input<R: Source, W: Sink>(
         (R.state source.new) result }
 {
     if form.hex {
-        return match read_whole(alloc, source) {
+        return match read_digits(alloc, source) {
             Ok(text) => dump_text(alloc, form, place, &text, out),
-            Err(fault) => Err(RunFault::from_read(place, fault)),
+            Err(fault) => Err(RunFault::from_digits(place, fault)),
         };
     }
     let mut buffer = [0u8; MIN_READ_LEN];
     dump_within(alloc, form, place, source, &mut buffer, MAX_READS, out)
 }
 
-/// Dumps the text in hexadecimal of the input at a place.
+/// Dumps the input at a place, which has the digits of this text.
 fn dump_text<W: Sink>(
     alloc: Global,
     form: InputForm,
@@ -92,19 +94,17 @@ fn dump_text<W: Sink>(
 ) -> Result<Option<EarlyEnd>, RunFault>
     requires out { (W.state out.old).failed ≡ false }
     requires digits { form.hex ≡ true }
-    ensures ok { IfOk result (λ end.
-        DumpsInput form text.now end (W.state out.old).contents (W.state out.new).contents) }
-    ensures stops { IfErr result (λ fault. (left : Option (List ℕ)) (ended : Bool)
-        → InputStops form left ended place text.now
-        (W.state out.old).contents (W.state out.new).contents fault) }
+    ensures ok { (input : List ℕ) → SameDigits input text.now → IfOk result (λ end.
+        DumpsInput form input end (W.state out.old).contents (W.state out.new).contents) }
+    ensures stops { (input : List ℕ) (left : Option (List ℕ)) (ended : Bool)
+        → SameDigits input text.now → IfErr result (InputStops form left ended place input
+        (W.state out.old).contents (W.state out.new).contents) }
     ensures failed { (W.state out.new).failed ≡ is_failed_write result }
     ensures no_read { NeverRead result }
     ensures named { NamesOnly place result }
 {
-    match from_hex(alloc, text) {
-        Ok(bytes) => dump_whole(alloc, form, place, &bytes, out),
-        Err(fault) => Err(RunFault::from_hex(place, fault)),
-    }
+    let bytes = bytes_of_digits(alloc, place, text)?;
+    dump_whole(alloc, form, place, &bytes, out)
 }
 
 /// Dumps all bytes of the input at a place.

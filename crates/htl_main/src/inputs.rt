@@ -1,17 +1,18 @@
 //! The segments of inputs that lie in memory.
 
-ghost use Rattle.std.specs.Prelude.{ℕ, List, IfOk, IfErr, map};
+ghost use Rattle.std.specs.Prelude.{◌≡◌, ℕ, List, IfOk, IfErr, map, true};
+ghost use Rattle.htl_segment.specs.Hexadecimal.{WritesBytes};
 ghost use Rattle.htl_main.specs.Ends.{IsInput};
-ghost use Rattle.htl_main.specs.Inputs.{HasBytes, IsReportedOfInput, StopsAtInput};
+ghost use Rattle.htl_main.specs.Inputs.{HasBytes, IsReportedOfInput, SameDigits, StopsAtInput};
 ghost use Rattle.htl_main.specs.Spans.{AreDecoded};
-ghost use Rattle.htl_main.specs.Reads.{NamesOnly, NeverRead};
+ghost use Rattle.htl_main.specs.Reads.{IsOfDigits, NamesOnly, NeverRead};
 
 use crate::cut_inputs::{Accepted, accept};
 use crate::decoded::Decoded;
 use crate::fault::RunFault;
 use htl_command::InputForm;
-use htl_reading::{Bundle, early_end};
-use htl_segment::{Segment, Segments, from_hex, split};
+use htl_reading::{Bundle, digit_count, early_end};
+use htl_segment::{HexFault, Segment, Segments, from_hex, split};
 use std::alloc::Global;
 
 /// The segments of all inputs, those of the first input first. The first fault is reported.
@@ -45,11 +46,46 @@ pub(crate) fn decode_input(
     ensures no_read { NeverRead result }
     ensures named { NamesOnly place result }
 {
-    if !form.hex {
-        return decode_bytes(alloc, form, place, input);
+    if form.hex {
+        decode_text(alloc, form, place, input)
+    } else {
+        decode_bytes(alloc, form, place, input)
     }
-    let bytes = from_hex(alloc, input).map_err(|fault| RunFault::from_hex(place, fault))?;
+}
+
+/// The segments of the input at a place, which has the digits of this text.
+pub(crate) fn decode_text(
+    alloc: Global,
+    form: InputForm,
+    place: u64,
+    text: &[u8],
+) -> Result<Accepted<Vec<Segment>>, RunFault>
+    requires { form.hex ≡ true }
+    ensures ok { (input : List ℕ) → SameDigits input text.now
+        → IfOk result (λ decoded. IsInput form input decoded.segments.items decoded.end) }
+    ensures err { (input : List ℕ) → SameDigits input text.now
+        → IfErr result (IsReportedOfInput form place input) }
+    ensures no_read { NeverRead result }
+    ensures named { NamesOnly place result }
+{
+    let bytes = bytes_of_digits(alloc, place, text)?;
     decode_bytes(alloc, form, place, &bytes)
+}
+
+/// The bytes of the input at a place, which has the digits of this text. Where it has none, no memory
+/// is asked for.
+pub(crate) fn bytes_of_digits(alloc: Global, place: u64, text: &[u8]) -> Result<Vec<u8>, RunFault>
+    ensures ok { IfOk result (λ bytes. (input : List ℕ) → SameDigits input text.now
+        → WritesBytes input bytes.items) }
+    ensures err { IfErr result (λ fault. (form : InputForm) (input : List ℕ) → form.hex ≡ true
+        → SameDigits input text.now → IsReportedOfInput form place input fault) }
+    ensures digits { IfErr result (IsOfDigits place) }
+{
+    match from_hex(alloc, text) {
+        Ok(bytes) => Ok(bytes),
+        Err(HexFault::NoMemory) if digit_count(text) == 0 => Ok(Vec::new(alloc)),
+        Err(fault) => Err(RunFault::from_hex(place, fault)),
+    }
 }
 
 /// The segments that the bytes of the input at a place encode.

@@ -10,7 +10,7 @@ ghost use Rattle.htl_main.specs.Sources.{IsReportedOfSource};
 use crate::cut_inputs::{Accepted, accept};
 use crate::decoded::Decoded;
 use crate::fault::RunFault;
-use crate::inputs::decode_input;
+use crate::inputs::decode_text;
 use htl_command::InputForm;
 use htl_device::{MAX_READS, Parted};
 use htl_reading::{read_bundle, read_digits};
@@ -62,7 +62,7 @@ fn read_input<Rt: Threads + Sync, R: Parted>(
 {
     if form.hex {
         return match read_digits(alloc, source) {
-            Ok(text) => decode_input(alloc, form, place, &text),
+            Ok(text) => decode_text(alloc, form, place, &text),
             Err(fault) => Err(RunFault::from_digits(place, fault)),
         };
     }

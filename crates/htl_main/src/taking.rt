@@ -1,6 +1,6 @@
 //! Takes the segments of sources into a folder, up to the first fault.
 
-ghost use Rattle.std.specs.Prelude.{◌≡◌, ◌≢◌, [], ℕ, List, None, true, map};
+ghost use Rattle.std.specs.Prelude.{◌≡◌, ◌≢◌, [], ℕ, List, Option, true, map};
 ghost use Rattle.std.specs.Prelude.{IfErr, IfOk, IfSome, OnErr, OnOk};
 ghost use Rattle.htl_segment.specs.Content.{Content};
 ghost use Rattle.htl_device.specs.declared.whole.TheConstants.{MAX_READS};
@@ -11,7 +11,7 @@ ghost use Rattle.htl_main.specs.Folders.{AreAllTaken, GaveOwn, IsOfInput, TookIn
 ghost use Rattle.htl_main.specs.Folders.{TookToFault, folds_of};
 ghost use Rattle.htl_main.specs.Folding.{AreFolded, AsksFoldsMemory};
 ghost use Rattle.htl_main.specs.Folding.{IsFoldingRefused, IsHalfKnown, folding};
-ghost use Rattle.htl_main.specs.Inputs.{HasBytes, IsReportedOfInput};
+ghost use Rattle.htl_main.specs.Inputs.{HasBytes, IsReportedOfInput, SameDigits};
 ghost use Rattle.htl_main.specs.Faults.{of_case};
 ghost use Rattle.htl_main.specs.Origins.{by_fault};
 ghost use Rattle.htl_main.specs.Printed.{WorkersFit};
@@ -24,13 +24,14 @@ use crate::cut_inputs::{CutEnd, add_end, check_end};
 use crate::fault::RunFault;
 use crate::folder::Folder;
 use crate::folding::Folded;
+use crate::inputs::bytes_of_digits;
 use crate::refused::Refused;
 use htl_case::CaseFault;
 use htl_command::{InputForm, Setting};
 use htl_device::Parted;
 use htl_event::NoMemory;
 use htl_reading::{EarlyEnd, early_end, read_digits, take_source};
-use htl_segment::{from_hex, split};
+use htl_segment::split;
 use std::alloc::Global;
 use std::mem;
 use std::thread::Threads;
@@ -155,7 +156,7 @@ fn read_input<Rt: Threads + Sync, R: Parted>(
     }
 }
 
-/// Has a folder take the segments of a text in hexadecimal.
+/// Has a folder take the segments of the input at a place, which has the digits of this text.
 fn take_text(
     alloc: Global,
     form: InputForm,
@@ -164,20 +165,21 @@ fn take_text(
     folder: &mut Folder,
 ) -> Result<Option<EarlyEnd>, RunFault>
     requires { form.hex ≡ true }
-    ensures ok { IfOk result (λ end. (given : List Content) × IsInput form text.now given end
+    ensures ok { (input : List ℕ) → SameDigits input text.now
+        → IfOk result (λ end. (given : List Content) × IsInput form input given end
         × Took folds_of folder.old folder.new given) }
-    ensures err { IfErr result (IsReportedOfInput form place text.now) }
-    ensures kept { IfErr result (λ fault. fault ≢ RunFault.Memory → (given : List Content)
-        × GaveOwn form None text.now fault given
+    ensures err { (input : List ℕ) → SameDigits input text.now
+        → IfErr result (IsReportedOfInput form place input) }
+    ensures kept { (input : List ℕ) (left : Option (List ℕ)) → SameDigits input text.now
+        → IfErr result (λ fault. fault ≢ RunFault.Memory → (given : List Content)
+        × GaveOwn form left input fault given
         × Took folds_of folder.old folder.new given) }
     ensures no_read { NeverRead result }
     ensures named { NamesOnly place result }
     ensures of_input { IfErr result IsOfInput }
 {
-    match from_hex(alloc, text) {
-        Ok(bytes) => take_bytes(alloc, form, place, &bytes, folder),
-        Err(fault) => Err(RunFault::from_hex(place, fault)),
-    }
+    let bytes = bytes_of_digits(alloc, place, text)?;
+    take_bytes(alloc, form, place, &bytes, folder)
 }
 
 /// Has a folder take the segments that the bytes of the input at a place encode.
@@ -193,9 +195,9 @@ fn take_bytes(
         × Took folds_of folder.old folder.new given) }
     ensures err { (input : List ℕ) → HasBytes form.hex input bytes.now
         → IfErr result (IsReportedOfInput form place input) }
-    ensures kept { (input : List ℕ) → HasBytes form.hex input bytes.now
+    ensures kept { (input : List ℕ) (left : Option (List ℕ)) → HasBytes form.hex input bytes.now
         → IfErr result (λ fault. fault ≢ RunFault.Memory → (given : List Content)
-        × GaveOwn form None input fault given
+        × GaveOwn form left input fault given
         × Took folds_of folder.old folder.new given) }
     ensures no_read { NeverRead result }
     ensures named { NamesOnly place result }

@@ -1,17 +1,10 @@
 -- Where the first foreign byte stands of a text that comes in pieces.
-use Rattle.std.proofs.Common.{◌≡◌, ◌<◌, ◌≤◌, ◌+◌, ◌++◌, ◌∷◌, [], ℕ, suc, Bool, true, false, not, List, Option, Some, None}
+use Rattle.std.proofs.Common.{◌≡◌, ◌<◌, ◌+◌, ◌++◌, ◌∷◌, [], ℕ, suc, Bool, true, false, not, List, Option, Some, None}
 use Rattle.std.proofs.Common.{length, arith, refl, cond, length-append}
+use Rattle.std.proofs.lemmas.List.Sums.{prefix_len-le-length}
 use Rattle.std.specs.Prelude.{position, IfSome}
 use Rattle.std.specs.List.{prefix_len}
 use Rattle.std.specs.Io.KnownBytes.{Consumes}
-
-counted_le : (b : Bool) (m n : ℕ) → m ≤ n → cond b (1 + m) 0 ≤ suc n
-counted_le true m n fits = omega (arith, fits)
-counted_le false m n fits = omega arith
-
-prefix_len-le-length : (p : ℕ → Bool) (xs : List ℕ) → prefix_len p xs ≤ length xs
-prefix_len-le-length p [] = omega arith
-prefix_len-le-length p (x ∷ xs) = counted_le (p x) (prefix_len p xs) (length xs) (prefix_len-le-length p xs)
 
 whole_step : (b : Bool) (m k t j : ℕ) → cond b (1 + m) 0 ≡ suc k → (m ≡ k → t ≡ k + j) → cond b (1 + t) 0 ≡ suc k + j
 whole_step true m k t j is rest = let same : m ≡ k = omega (arith, is) in omega (arith, rest same)
@@ -82,9 +75,3 @@ found_known f None left text piece i read first more = tt
 found_known f (Some known) None text piece i read first more = absurd read
 found_known f (Some known) (Some rest) text piece i read first more =
     rw read (found_more f (text ++ piece) rest (length text + i) (found_after f text piece i first more))
-
-pub found_first : (f : ℕ → Bool) (given left : Option (List ℕ)) (piece : List ℕ) (i : ℕ) → Consumes given left piece
-    → position f piece ≡ Some i → IfSome given (λ known. position f known ≡ Some i)
-found_first f None left piece i read here = tt
-found_first f (Some known) None piece i read here = absurd read
-found_first f (Some known) (Some rest) piece i read here = rw read (found_more f piece rest i here)

@@ -7,3 +7,4 @@ pub mod TailLaws
 pub mod SkipLaws
 pub mod RoundLaws
 pub mod Foreign
+pub mod DigitsLaws

@@ -5,13 +5,14 @@ use Rattle.std.specs.Prelude.{Result, Err}
 use Rattle.std.specs.Io.KnownBytes.{Consumes}
 use Rattle.htl_device.specs.States.{SourceState}
 use Rattle.htl_device.specs.declared.source.TheConstants.{MAX_READ_LEN}
-use Rattle.htl_segment.specs.Hexadecimal.{is_foreign}
+use Rattle.htl_segment.specs.Hexadecimal.{digits_of, is_foreign}
 use Rattle.htl_reading.specs.declared.digits.DigitsFault.{DigitsFault}
 use Rattle.htl_reading.specs.declared.digits.DigitsFault.TheVariants.{Foreign, Read, NoMemory}
 
--- the text is all digits and blanks
-abbrev pub IsWholeText : Option (List ℕ) → List ℕ → Type 0
-IsWholeText given text = IfSome given (λ known. text ≡ known) × (position is_foreign text ≡ None)
+-- The bytes of the source are digits and blanks, as those of the text are, which has the same digits.
+pub record IsTextOf (given : Option (List ℕ)) (text : List ℕ) : Type 0 where
+  pub clean : position is_foreign text ≡ None
+  pub of_known : IfSome given (λ known. (position is_foreign known ≡ None) × (digits_of text ≡ digits_of known))
 
 -- The first foreign byte of the text stands at this place, and at most one read's bytes were read from there on.
 pub record StopsAtForeign (given left : Option (List ℕ)) (place : ℕ) : Type 0 where
@@ -22,12 +23,14 @@ pub record StopsAtForeign (given left : Option (List ℕ)) (place : ℕ) : Type 
 
 -- How a source of these bytes is read by a call that ends with this result, and in which at most `most` reads give bytes.
 pub record ReadsDigits (most : ℕ) (given : Option (List ℕ)) (old new : SourceState) (result : Result (Vec ℕ) DigitsFault) : Type 0 where
-  pub ok : IfOk result (λ text. IsWholeText given text.items)
+  pub ok : IfOk result (λ text. IsTextOf given text.items)
   pub ended : OnOk result (new.ended ≡ true)
   pub foreign : (place : ℕ) → result ≡ Err (Foreign place) → StopsAtForeign given new.remaining place
   pub reported : new.failed ≡ true → result ≡ Err Read
-  -- Memory was refused: some bytes came, and the end was not found.
-  pub memory : result ≡ Err NoMemory → (new.ended ≡ false) × (read : List ℕ) × (0 < length read) × Consumes given new.remaining read
+  -- Memory was refused: a digit was read, and the end was not found.
+  pub memory :
+      result ≡ Err NoMemory
+      → (new.ended ≡ false) × (read : List ℕ) × Consumes given new.remaining read × (0 < length (digits_of read))
   pub failed : result ≡ Err Read → (new.failed ≡ true) ⊎ ((most ≤ new.good_reads) × IfSome given (λ known. most ≤ length known))
   pub bounded : new.good_reads ≤ old.good_reads + most
   pub tails : new.tails ≡ old.tails

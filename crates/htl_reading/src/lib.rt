@@ -20,8 +20,9 @@
 //! `specs/Taking` what a keeper took of it. In `proofs/`, `TakenLaws` shows which segments reads give,
 //! `FaultLaws` which faults are reported, `KeptLaws` which segments a keeper has after one, `ReadLaws`
 //! that how a source is read doesn't depend on the value that is returned, `PartLaws` that the parts of
-//! several workers give the segments of all bytes, `SkipLaws` and `RoundLaws` that their rounds do, and
-//! `TailLaws` how many other readers are asked for.
+//! several workers give the segments of all bytes, `SkipLaws` and `RoundLaws` that their rounds do,
+//! `TailLaws` how many other readers are asked for, and `DigitsLaws` that the text of a source has its
+//! digits.
 #![tactic(auto)]
 
 mod block;
@@ -34,7 +35,7 @@ mod parts;
 mod reading;
 mod rounds;
 
-pub use digits::{DigitsFault, read_digits};
+pub use digits::{DigitsFault, digit_count, read_digits};
 pub use fault::SourceFault;
 pub use outcome::{Bundle, EarlyEnd, SegmentName, early_end};
 pub use reading::{gather_bundle, read_bundle, take_source};

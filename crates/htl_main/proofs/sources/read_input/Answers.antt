@@ -1,8 +1,21 @@
--- `read_input` reads a source of bytes, and reports its fault, as a run does of one source.
-use Rattle.htl_main.proofs.DigitsLaws.{digits_read, digits_reported}
+-- `read_input` reads a source, and reports its fault, as a run does of one source.
+use Rattle.htl_main.specs.Ends.{IsInput}
+use Rattle.htl_main.proofs.DigitsLaws.{digits_read, digits_reported, ok_known, told_known}
 use Rattle.htl_main.proofs.EndLaws.{accepted_source, refused_source}
 use Rattle.htl_main.proofs.OneSource.{accepted_read, decoded_ill, reported_bytes_of}
 use Rattle.htl_main.proofs.sources.read_input.Goals as goal
+
+pub returns-in-Ok-clause-ok : goal.returns-in-Ok-clause-ok
+returns-in-Ok-clause-ok g c =
+    let read = rw (c.deref.ensures.value) at c.decode_text.ensures.ok in
+    ok_known (λ read input. IsInput c.args.form input read.segments.items read.end) (g.R.Source.state c.args.source.now).remaining
+    c.in-Ok.text.items c.decode_text.result c.in-Ok.ensures.ok read
+
+pub returns-in-Ok-clause-err : goal.returns-in-Ok-clause-err
+returns-in-Ok-clause-err g c =
+    let told = rw (c.deref.ensures.value) at c.decode_text.ensures.err in
+    told_known c.args.form _ _ c.args.place (g.R.Source.state c.args.source.now).remaining c.in-Ok.text.items c.decode_text.result
+    c.in-Ok.ensures.ok told
 
 pub returns-in-Err-clause-err : goal.returns-in-Err-clause-err
 returns-in-Err-clause-err g c =

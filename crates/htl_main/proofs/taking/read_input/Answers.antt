@@ -1,19 +1,29 @@
 -- A folder takes the segments of a source, which is read as one of the run, or its fault is reported.
 use Rattle.htl_main.specs.Folders.{folds_of}
-use Rattle.htl_main.proofs.DigitsLaws.{digits_read, digits_reported}
-use Rattle.htl_main.proofs.FoldInputs.{fault_kept, known_kept, known_ok, source_err, source_kept, source_ok, unread_kept}
+use Rattle.htl_main.proofs.DigitsLaws.{digits_read, digits_reported, err_known, ok_known, told_known}
+use Rattle.htl_main.proofs.FoldInputs.{TookInput, TookOwn, fault_kept, source_err, source_kept, source_ok, unread_kept}
 use Rattle.htl_main.proofs.OneSource.{accepted_read, decoded_ill, reported_bytes_of}
 use Rattle.htl_main.proofs.taking.read_input.Goals as goal
 
 pub returns-in-Ok-clause-ok : goal.returns-in-Ok-clause-ok
 returns-in-Ok-clause-ok g c =
-    known_ok folds_of c.args.folder.now c.take_text.new.folder c.args.setting.form c.args.place (g.R.Source.state c.args.source.now).remaining
-    c.in-Ok.text.items c.take_text.result c.in-Ok.ensures.ok.0 (rw (← c.deref.ensures.value) (c.take_text.ensures.ok))
+    let taken = rw (c.deref.ensures.value) at c.take_text.ensures.ok in
+    ok_known (λ end input. TookInput folds_of c.args.folder.now c.take_text.new.folder c.args.setting.form input end)
+    (g.R.Source.state c.args.source.now).remaining c.in-Ok.text.items c.take_text.result c.in-Ok.ensures.ok taken
+
+pub returns-in-Ok-clause-err : goal.returns-in-Ok-clause-err
+returns-in-Ok-clause-err g c =
+    let told = rw (c.deref.ensures.value) at c.take_text.ensures.err in
+    told_known c.args.setting.form _ _ c.args.place (g.R.Source.state c.args.source.now).remaining c.in-Ok.text.items c.take_text.result
+    c.in-Ok.ensures.ok told
 
 pub returns-in-Ok-clause-kept : goal.returns-in-Ok-clause-kept
 returns-in-Ok-clause-kept g c =
-    known_kept folds_of c.args.folder.now c.take_text.new.folder c.args.setting.form c.args.place (g.R.Source.state c.args.source.now).remaining _
-    c.in-Ok.text.items c.take_text.result c.if-setting.true c.in-Ok.ensures.ok.0 (rw (← c.deref.ensures.value) (c.take_text.ensures.kept))
+    let left = (g.R.Source.state c.read_digits.new.source).remaining in
+    let kept = rw (c.deref.ensures.value) at c.take_text.ensures.kept in
+    err_known (λ fault input. TookOwn folds_of c.args.folder.now c.take_text.new.folder c.args.setting.form left input fault)
+    (g.R.Source.state c.args.source.now).remaining c.in-Ok.text.items c.take_text.result c.in-Ok.ensures.ok
+    (λ input same. kept input left same)
 
 pub returns-in-Err-clause-err : goal.returns-in-Err-clause-err
 returns-in-Err-clause-err g c =

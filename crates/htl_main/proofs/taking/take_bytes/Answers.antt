@@ -1,5 +1,4 @@
 -- The bytes are the segments that the folder took and those that are left, or it took those before a fault.
-use Rattle.std.proofs.Common.{None}
 use Rattle.htl_main.proofs.DumpLaws.{rest_at}
 use Rattle.htl_main.proofs.EndLaws.{refused_input}
 use Rattle.htl_main.specs.Folders.{folds_of}
@@ -24,11 +23,11 @@ returns-clause-err c = λ input has.
     (c.check_end.ensures.refused split.0 rest left)
 
 pub returns-clause-kept : goal.returns-clause-kept
-returns-clause-kept c = λ input has.
+returns-clause-kept c = λ input left_over has.
     let split = c.in-Ok.ensures.gathered in
     let rest = c.in-Ok.rest.now in
     let left = c.early_end.ensures split.0 (rest_at c.args.bytes.now rest split.0 split.1) c.in-Ok.ensures.rest in
-    text_kept folds_of c.args.folder.now c.split.new.keeper c.args.form c.args.place None input c.args.bytes.now rest split.0
+    text_kept folds_of c.args.folder.now c.split.new.keeper c.args.form c.args.place left_over input c.args.bytes.now rest split.0
     c.check_end.result has split.1 split.2 (c.check_end.ensures.refused split.0 rest left)
 
 pub returns-in-Err-clause-err : goal.returns-in-Err-clause-err
@@ -36,6 +35,6 @@ returns-in-Err-clause-err c = λ input has.
     rw (c.from_segment.ensures) (refused_bytes c.args.form c.args.place input c.args.bytes.now _ _ has c.in-Err.ensures.refused)
 
 pub returns-in-Err-clause-kept : goal.returns-in-Err-clause-kept
-returns-in-Err-clause-kept c = λ input has.
-    rw (c.from_segment.ensures) (kept_before folds_of c.args.folder.now c.split.new.keeper c.args.form c.args.place None input c.args.bytes.now
+returns-in-Err-clause-kept c = λ input left has.
+    rw (c.from_segment.ensures) (kept_before folds_of c.args.folder.now c.split.new.keeper c.args.form c.args.place left input c.args.bytes.now
     c.in-Err.offset c.in-Err.fault has c.in-Err.ensures.kept)

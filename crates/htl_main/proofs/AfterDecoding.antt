@@ -14,11 +14,12 @@ use Rattle.htl_main.specs.declared.refused.Refused.{Refused}
 use Rattle.htl_main.specs.Printed.{WorkersFit}
 use Rattle.htl_main.specs.Causes.{IsCause, IsCauseAfter}
 use Rattle.htl_main.specs.Readings.{AreRead}
-use Rattle.htl_main.specs.Sources.{EndsBefore, IsReportedAt, IsSourcesCause}
+use Rattle.htl_main.specs.Sources.{IsReportedAt, IsSourcesCause}
 use Rattle.htl_main.specs.declared.fault.RunFault.{RunFault}
 use Rattle.htl_main.specs.declared.fault.RunFault.TheVariants.{Case, Hex, Incomplete, NoSubject, Segment, Symbols, Read, Write, Memory}
 use Rattle.htl_main.specs.declared.fault.RunFault.TheVariants.{UnknownCut}
-use Rattle.htl_main.proofs.ReadingLaws.{ill, read_then, well}
+use Rattle.htl_main.proofs.LateFaults.{IsLate, read_late}
+use Rattle.htl_main.proofs.ReadingLaws.{ill, well}
 
 -- the causes of a refusal don't look at what the job asks, so this one stands for any
 pub some_job : Job
@@ -37,29 +38,22 @@ pub not_write : (given : Decoding) (symbols : Option (List ℕ)) (job : Job) (fa
 not_write given symbols job Write cause is = cause
 not_write given symbols job fault cause is = cc is
 
-not_read : (given : Decoding) (symbols : Option (List ℕ)) (job : Job) (fault : RunFault) (at : ℕ)
-    → IsCauseAfter given symbols job fault → fault ≢ Read at
-not_read given symbols job (Read other) at cause is = cause
-not_read given symbols job fault at cause is = cc is
-
--- it names no input
-no_input : (given : Decoding) (symbols : Option (List ℕ)) (job : Job) (fault : RunFault) (place : ℕ)
-    → IsCauseAfter given symbols job fault → EndsBefore fault place → ⊥
-no_input given symbols job (Case found) place cause before = before
-no_input given symbols job (Incomplete processor number) place cause before = before
-no_input given symbols job (Symbols found) place cause before = before
-no_input given symbols job (UnknownCut input) place cause before = before
-no_input given symbols job NoSubject place cause before = before
-no_input given symbols job Memory place cause before = before
-no_input given symbols job fault place cause before = cause
+-- but for a late fault
+cause_late : (given : Decoding) (symbols : Option (List ℕ)) (job : Job) (fault : RunFault) → IsCauseAfter given symbols job fault → IsLate fault
+cause_late given symbols job (Case found) cause = tt
+cause_late given symbols job (Incomplete processor number) cause = tt
+cause_late given symbols job (Symbols found) cause = tt
+cause_late given symbols job (UnknownCut input) cause = tt
+cause_late given symbols job NoSubject cause = tt
+cause_late given symbols job Memory cause = tt
+cause_late given symbols job fault cause = absurd cause
 
 -- so the sources are read as by a run that ends well
 pub reads_then : {S T : Type 0} (is_text : Bool) (old new : List SourceState) (value : S) (given : Decoding) (symbols : Option (List ℕ))
     (job : Job) (fault : RunFault) → AreRead is_text old new (well value) → IsCauseAfter given symbols job fault
     → AreRead is_text old new (ill {S = T} fault)
 reads_then is_text old new value given symbols job fault read cause =
-    read_then is_text old new value (ill fault) read (λ at told. not_read given symbols job fault at cause (cc told))
-    (λ place before. no_input given symbols job fault place cause before)
+    read_late is_text old new value (ill fault) read (cause_late given symbols job fault cause)
 
 -- why nothing comes of decoded segments is why the run over their inputs ends
 pub cause_of : (job : Job) (inputs : List (List ℕ)) (symbols : Option (List ℕ)) (given : Decoding) (fault : RunFault)
@@ -77,13 +71,9 @@ cause_of job inputs symbols given fault fit decoded cause = absurd cause
 pub sources_cause_of : (job : Job) (inputs : List (List ℕ)) (lefts : List (Option (List ℕ))) (ends : List Bool) (symbols : Option (List ℕ))
     (given : Decoding) (fault : RunFault) → WorkersFit job.setting.workers → IsDecoding job.setting.form inputs given
     → IsCauseAfter given symbols job fault → IsSourcesCause job inputs lefts ends symbols fault
-sources_cause_of job inputs lefts ends symbols given (Case found) fit decoded cause = (fit, given, decoded, cause)
-sources_cause_of job inputs lefts ends symbols given (Incomplete processor number) fit decoded cause = (fit, given, decoded, cause)
-sources_cause_of job inputs lefts ends symbols given (Symbols found) fit decoded cause = (fit, given, decoded, cause)
-sources_cause_of job inputs lefts ends symbols given (UnknownCut input) fit decoded cause = (fit, given, decoded, cause)
-sources_cause_of job inputs lefts ends symbols given NoSubject fit decoded cause = (fit, given, decoded, cause)
+sources_cause_of job inputs lefts ends symbols given (Read at) fit decoded cause = absurd cause
 sources_cause_of job inputs lefts ends symbols given Memory fit decoded cause = (fit, inr (given, decoded, cause))
-sources_cause_of job inputs lefts ends symbols given fault fit decoded cause = absurd cause
+sources_cause_of job inputs lefts ends symbols given fault fit decoded cause = cause_of job inputs symbols given fault fit decoded cause
 
 -- why the reading of sources stops is why the run over them ends
 pub sources_stop : (job : Job) (inputs : List (List ℕ)) (lefts : List (Option (List ℕ))) (ends : List Bool) (symbols : Option (List ℕ))

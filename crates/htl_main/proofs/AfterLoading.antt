@@ -1,8 +1,7 @@
 -- What is answered over what was loaded is what a run prints, and what a run reports beside it holds of the inputs.
-use Rattle.std.proofs.Common.{Vec, Global, ◌≡◌, ◌≢◌, ℕ, Bool, true, List, Option, None, inr, refl}
+use Rattle.std.proofs.Common.{◌≡◌, ℕ, Bool, true, List, Option, None, inr, refl}
 use Rattle.std.specs.Prelude.{Ok}
 use Rattle.htl_device.specs.Devices.{AppendsPrefix}
-use Rattle.htl_segment.specs.Content.{Content}
 use Rattle.htl_segment.specs.Traces.{Trace}
 use Rattle.htl_symbols.specs.Ranges.{Range}
 use Rattle.htl_command.specs.declared.question.InputForm.{InputForm}
@@ -10,32 +9,26 @@ use Rattle.htl_command.specs.declared.question.Job.{Job}
 use Rattle.htl_command.specs.declared.question.Setting.{Setting}
 use Rattle.htl_main.specs.Causes.{IsCause}
 use Rattle.htl_main.specs.Coverages.{Covers, IsCoverage}
-use Rattle.htl_main.specs.CutInputs.{AreCut, Decoding, IsDecoding, decoding}
+use Rattle.htl_main.specs.CutInputs.{AreCut, Decoding, IsDecoding}
 use Rattle.htl_main.specs.Loading.{AreLoaded, AreLoadedOf, in_setting}
 use Rattle.htl_main.specs.Origins.{IsBetween}
 use Rattle.htl_main.specs.Printed.{IsText, Printed, WorkersFit}
 use Rattle.htl_main.specs.Picked.{Reports}
 use Rattle.htl_main.specs.Printing.{EndsOver, PrintsOver, ReportsOver}
 use Rattle.htl_main.specs.Runs.{IsRefusedRun}
-use Rattle.htl_main.specs.Sources.{EndsBefore, IsSourcesCause}
+use Rattle.htl_main.specs.Sources.{IsSourcesCause}
 use Rattle.htl_main.specs.Remarks.{RemarksOver, ReportsRemarks}
 use Rattle.htl_main.specs.Subjects.{HasAbsence, ReportsAbsence}
 use Rattle.htl_main.specs.declared.completed.Absence.{Absence}
 use Rattle.htl_main.specs.declared.completed.Completed.{Completed}
 use Rattle.htl_main.specs.declared.coverage.Coverage.{Coverage}
-use Rattle.htl_main.specs.declared.cut_inputs.CutEnd.{CutEnd}
 use Rattle.htl_main.specs.declared.origin.Between.TheVariants.{Nothing}
 use Rattle.htl_main.specs.declared.fault.RunFault.{RunFault}
-use Rattle.htl_main.specs.declared.fault.RunFault.TheVariants.{Memory, NoSubject, Read, Write}
+use Rattle.htl_main.specs.declared.fault.RunFault.TheVariants.{Memory, NoSubject, Write}
 use Rattle.htl_main.specs.declared.loading.Loaded.{Loaded}
 use Rattle.htl_main.specs.declared.remarks.Remarks.{Remarks}
+use Rattle.htl_main.proofs.LateFaults.{IsLate}
 use Rattle.htl_main.proofs.MomentLaws.{complete_until}
-
--- the segments of inputs and their cut ends, which were handed on, are what the inputs are decoded to
-pub decoded_as : (form : InputForm) (inputs : List (List ℕ)) (segments : List Content) (cuts kept : Vec CutEnd Global) (lent : List CutEnd)
-    → IsDecoding form inputs (decoding segments cuts.items) → kept ≡ cuts → lent ≡ kept.items
-    → IsDecoding form inputs (decoding segments lent)
-decoded_as form inputs segments cuts kept lent given same lent_is = rw (lent_is, same) given
 
 -- what a run loads of its inputs, where its workers fit
 pub loaded_of : (job : Job) (inputs : List (List ℕ)) (symbols : Option (List ℕ)) (given : Decoding) (T : Trace) (table : List Range)
@@ -115,12 +108,7 @@ module _ (setting : Setting) (inputs : List (List ℕ)) (symbols : Option (List 
   pub sources_end : (lefts : List (Option (List ℕ))) (ended : List Bool) (fault : RunFault) → EndsOver T job fault
       → (fault ≡ Write → (lines : List ℕ) × Printed (in_setting setting job) inputs symbols (Ok lines))
       → IsSourcesCause (in_setting setting job) inputs lefts ended symbols fault
-  sources_end lefts ended NoSubject over written = (
-    loaded.workers,
-    loaded.given,
-    loaded.decoded,
-    (over.0, T, (loaded.loaded.case, loaded.loaded.whole), table, loaded.loaded.named, over.1, over.2),
-  )
+  sources_end lefts ended NoSubject over written = ends NoSubject over written
   sources_end lefts ended Memory over written = (
     loaded.workers,
     inr (loaded.given, loaded.decoded, inr (T, (loaded.loaded.case, loaded.loaded.whole))),
@@ -128,17 +116,12 @@ module _ (setting : Setting) (inputs : List (List ℕ)) (symbols : Option (List 
   sources_end lefts ended Write over written = written refl
   sources_end lefts ended fault over written = absurd over
 
--- what ends it so names no input, and is about no two segments
-pub over_no_input : (T : Trace) (job : Job) (fault : RunFault) (place : ℕ) → EndsOver T job fault → EndsBefore fault place → ⊥
-over_no_input T job NoSubject place over before = before
-over_no_input T job Memory place over before = before
-over_no_input T job Write place over before = before
-over_no_input T job fault place over before = over
-
--- nothing that ends an answer over what was loaded is a failed read
-pub over_no_read : (T : Trace) (job : Job) (fault : RunFault) (at : ℕ) → EndsOver T job fault → fault ≢ Read at
-over_no_read T job (Read other) at over is = over
-over_no_read T job fault at over is = cc is
+-- what ends it so is a late fault
+pub over_late : (T : Trace) (job : Job) (fault : RunFault) → EndsOver T job fault → IsLate fault
+over_late T job NoSubject over = tt
+over_late T job Memory over = tt
+over_late T job Write over = tt
+over_late T job fault over = absurd over
 
 -- and is about no two segments
 pub over_about_none : (form : InputForm) (inputs : List (List ℕ)) (T : Trace) (job : Job) (fault : RunFault) → EndsOver T job fault

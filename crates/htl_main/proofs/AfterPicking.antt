@@ -19,14 +19,13 @@ use Rattle.htl_main.specs.Inputs.{DecodeAll}
 use Rattle.htl_main.specs.Picked.{NeverCase, Reports}
 use Rattle.htl_main.specs.Picking.{ArePickedFor, ArePicksOfAll, EndsAnswer, EndsOfPicks, EndsPrinting, IsPickedFor, PrintsOf, ReportsOf}
 use Rattle.htl_main.specs.Printed.{WorkersFit}
-use Rattle.htl_main.specs.Reads.{NeverRead}
 use Rattle.htl_main.specs.Runs.{EndsPicking}
-use Rattle.htl_main.specs.Sources.{EndsBefore, IsSourcesCause}
+use Rattle.htl_main.specs.Sources.{IsSourcesCause}
 use Rattle.htl_main.specs.declared.completed.Completed.{Completed}
 use Rattle.htl_main.specs.declared.cut_inputs.CutEnd.{CutEnd}
 use Rattle.htl_main.specs.declared.picked_run.Lacking.{Lacking}
 use Rattle.htl_main.specs.declared.fault.RunFault.{RunFault}
-use Rattle.htl_main.specs.declared.fault.RunFault.TheVariants.{Case, Incomplete, NoSubject, Read, Symbols, Memory, UnknownCut, Write}
+use Rattle.htl_main.specs.declared.fault.RunFault.TheVariants.{Case, Incomplete, NoSubject, Symbols, Memory, UnknownCut, Write}
 use Rattle.htl_main.proofs.AfterDecoding.{sources_cause_of}
 
 -- ---- what was picked
@@ -133,21 +132,3 @@ pub ends_without_case : {S : Type 0} (result : Result S RunFault) → IfErr resu
 ends_without_case (Ok ended) after = tt
 ends_without_case (Err (Case fault)) after = absurd after
 ends_without_case (Err other) after = λ broken is. cc is
-
--- or for one of a failed read
-pub ends_without_read : {S : Type 0} (result : Result S RunFault) → IfErr result EndsPrinting → NeverRead result
-ends_without_read (Ok ended) after at is = cc is
-ends_without_read (Err (Read other)) after at is = after
-ends_without_read (Err fault) after at is = cc is
-
--- and names no input
-pub ends_without_input : {S : Type 0} (result : Result S RunFault) → IfErr result EndsPrinting
-    → IfErr result (λ fault. (place : ℕ) → EndsBefore fault place → ⊥)
-ends_without_input (Ok ended) after = tt
-ends_without_input (Err (Incomplete processor number)) after = λ place before. before
-ends_without_input (Err (UnknownCut input)) after = λ place before. before
-ends_without_input (Err (Symbols fault)) after = λ place before. before
-ends_without_input (Err NoSubject) after = λ place before. before
-ends_without_input (Err Memory) after = λ place before. before
-ends_without_input (Err Write) after = λ place before. before
-ends_without_input (Err fault) after = absurd after

@@ -38,8 +38,8 @@ use Rattle.htl_main.specs.Folding.{StopsFolding, TakesUpTo, counted, folding}
 use Rattle.htl_main.specs.Inputs.{DecodeAll, HasBytes}
 use Rattle.htl_main.specs.Printed.{WorkersFit}
 use Rattle.htl_main.specs.Readings.{AreRead}
-use Rattle.htl_main.specs.Reads.{IsOfDigits, NeverRead}
-use Rattle.htl_main.specs.Sources.{EndsBefore, IsReportedOfSource}
+use Rattle.htl_main.specs.Reads.{IsOfDigits}
+use Rattle.htl_main.specs.Sources.{IsReportedOfSource}
 use Rattle.htl_main.specs.declared.adding.Added.{Added}
 use Rattle.htl_main.specs.declared.cut_inputs.CutEnd.{CutEnd}
 use Rattle.htl_main.specs.declared.fault.RunFault.{RunFault}
@@ -48,7 +48,8 @@ use Rattle.htl_main.specs.declared.folder.Folder.{Folder}
 use Rattle.htl_main.specs.declared.origin.Between.TheVariants.{Nothing}
 use Rattle.htl_main.proofs.EndLaws.{input_of, source_of, source_refused}
 use Rattle.htl_main.proofs.FoldLaws.{all_counted}
-use Rattle.htl_main.proofs.ReadingLaws.{ends_too, ill, read_then, well}
+use Rattle.htl_main.proofs.LateFaults.{IsLate, read_late}
+use Rattle.htl_main.proofs.ReadingLaws.{ends_too, ill}
 use Rattle.htl_main.proofs.RisingLaws.{accepted_rise}
 
 -- ---- what a keeper took
@@ -443,32 +444,21 @@ module _ (of : Folding) where
           cut = is.cut_is of.setting.form.hex of.inputs all.cut_ends;
         }
 
--- ---- what a fault isn't
+-- ---- faults after the reading
 
--- that of a gap
-missing_no_read : {S : Type 0} (complete : Bool) (cuts : List CutEnd) (a : State) (fault : RunFault) → IsMissingOf complete cuts a fault
-    → NeverRead (ill {S = S} fault)
-missing_no_read complete cuts a fault (inl memory) = λ place same. cc (memory, same)
-missing_no_read complete cuts a (faults.Read at) (inr missing) = absurd (missing.0)
-missing_no_read complete cuts a fault (inr missing) = λ place same. cc same
+-- a gap is a late fault
+pub gap_late : (complete : Bool) (cuts : List CutEnd) (now : Option State) (fault : RunFault) → IsNotAdded complete cuts now fault → IsLate fault
+gap_late complete cuts None fault is = rw is tt
+gap_late complete cuts (Some a) fault (inl memory) = rw memory tt
+gap_late complete cuts (Some a) (faults.Incomplete processor number) (inr missing) = tt
+gap_late complete cuts (Some a) (faults.UnknownCut input) (inr missing) = tt
+gap_late complete cuts (Some a) fault (inr missing) = absurd (missing.0)
 
-missing_no_end : (complete : Bool) (cuts : List CutEnd) (a : State) (fault : RunFault) → IsMissingOf complete cuts a fault → (place : ℕ)
-    → EndsBefore fault place → ⊥
-missing_no_end complete cuts a fault (inl memory) = λ place. rw memory (λ before. before)
-missing_no_end complete cuts a (faults.Incomplete processor number) (inr missing) = λ place before. before
-missing_no_end complete cuts a (faults.UnknownCut input) (inr missing) = λ place before. before
-missing_no_end complete cuts a fault (inr missing) = absurd (missing.0)
-
--- that of symbols
-symbols_no_read : {S : Type 0} (symbols : Option (List ℕ)) (fault : RunFault) → IsSymbolsFault symbols fault
-    → NeverRead (ill {S = S} fault)
-symbols_no_read symbols (faults.Read at) is = absurd is
-symbols_no_read symbols fault is = λ place same. cc same
-
-symbols_no_end : (symbols : Option (List ℕ)) (fault : RunFault) → IsSymbolsFault symbols fault → (place : ℕ) → EndsBefore fault place → ⊥
-symbols_no_end symbols faults.Memory is = λ place before. before
-symbols_no_end symbols (faults.Symbols fault) is = λ place before. before
-symbols_no_end symbols fault is = absurd is
+-- and so is one of the symbols
+pub symbols_late : (symbols : Option (List ℕ)) (fault : RunFault) → IsSymbolsFault symbols fault → IsLate fault
+symbols_late symbols faults.Memory is = tt
+symbols_late symbols (faults.Symbols fault) is = tt
+symbols_late symbols fault is = absurd is
 
 -- both are about no two segments, and are no failed write
 pub gap_about_none : (complete : Bool) (cuts : List CutEnd) (now : Option State) (fault : RunFault) → IsNotAdded complete cuts now fault
@@ -495,37 +485,11 @@ symbols_no_write symbols fault is told = cc told
 
 -- ---- how the sources are read
 
-module _ (is_text : Bool) (old new : List SourceState) where
-  -- memory was refused to fold what was read
-  pub read_to_fold : {S T : Type 0} (result : Result S RunFault)
-      → AreRead is_text old new result
-      → AreReadToFold is_text old new (ill {S = T} faults.Memory)
-  read_to_fold (Ok value) read =
-      inl (read_then is_text old new value (ill faults.Memory) read (λ at told. cc told)
-      (λ place before. before))
-  read_to_fold (Err fault) read = inr (refl, fault, ends_too is_text old new fault read)
-
-  module _ {S T : Type 0} (value : S) (read : AreRead is_text old new (well value)) where
-    -- there is no segment, or one is missing
-    pub read_to_gap : (complete : Bool) (cuts : List CutEnd) (now : Option State) (fault : RunFault) → IsNotAdded complete cuts now fault
-        → AreRead is_text old new (ill {S = T} fault)
-    read_to_gap complete cuts now fault told =
-        read_then is_text old new value (ill fault) read (never now fault told) (names now fault told)
-      where
-        never : (now : Option State) (fault : RunFault) → IsNotAdded complete cuts now fault → NeverRead (ill {S = T} fault)
-        never None fault told at is = cc (told, is)
-        never (Some a) fault told at is = missing_no_read complete cuts a fault told at is
-
-        names : (now : Option State) (fault : RunFault) → IsNotAdded complete cuts now fault → (place : ℕ) → EndsBefore fault place → ⊥
-        names None fault told place = rw told (λ before. before)
-        names (Some a) fault told place = missing_no_end complete cuts a fault told place
-
-    -- or the symbols have a fault
-    pub read_to_symbols : (symbols : Option (List ℕ)) (fault : RunFault) → IsSymbolsFault symbols fault
-        → AreRead is_text old new (ill {S = T} fault)
-    read_to_symbols symbols fault is =
-        read_then is_text old new value (ill fault) read (symbols_no_read symbols fault is)
-        (symbols_no_end symbols fault is)
+-- memory was refused to fold what was read
+pub read_to_fold : {S T : Type 0} (is_text : Bool) (old new : List SourceState) (result : Result S RunFault) → AreRead is_text old new result
+    → AreReadToFold is_text old new (ill {S = T} faults.Memory)
+read_to_fold is_text old new (Ok value) read = inl (read_late is_text old new value (ill faults.Memory) read tt)
+read_to_fold is_text old new (Err fault) read = inr (refl, fault, ends_too is_text old new fault read)
 
 -- ---- at the beginning
 

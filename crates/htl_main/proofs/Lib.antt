@@ -3,6 +3,7 @@ pub mod EndLaws
 pub mod CutLaws
 pub mod SourceLaws
 pub mod ReadingLaws
+pub mod LateFaults
 pub mod DumpLaws
 pub mod EncodeLaws
 pub mod Collections

@@ -15,12 +15,11 @@ ghost use Rattle.htl_main.specs.Origins.{IsBetween};
 ghost use Rattle.htl_main.specs.Spans.{AreSpans};
 ghost use Rattle.htl_main.specs.Runs.{AddsAs};
 
-use crate::cases::case_of;
 use crate::coverage::Coverage;
 use crate::cut_inputs::CutInputs;
 use crate::decoded::Decoded;
 use crate::fault::RunFault;
-use crate::loading::{Loaded, with_symbols};
+use crate::loading::{Loaded, load_decoded};
 use crate::printing::check_workers;
 use crate::refused::Refused;
 use crate::sources::read_all;
@@ -134,7 +133,6 @@ fn load_with(
 {
     let earlier = copies(alloc, before.segments())?;
     decoded.add_segments(place, earlier)?;
-    let (case, cuts) = case_of(alloc, decoded)?;
-    let loaded = with_symbols(alloc, complete, None, case, &cuts, None)?;
+    let loaded = load_decoded(alloc, complete, None, decoded, None)?;
     Ok(loaded)
 }

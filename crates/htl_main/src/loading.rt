@@ -4,17 +4,22 @@ ghost use Rattle.std.specs.Prelude.{◌≡◌, ℕ, Bool, List, map, IfErr, IfOk
 ghost use Rattle.std.specs.Option.{option_copied};
 ghost use Rattle.htl_segment.specs.Content.{Content};
 ghost use Rattle.htl_case.specs.Cases.{IsCase, IsCaseOf};
+ghost use Rattle.htl_command.specs.declared.question.InputForm.{InputForm};
 ghost use Rattle.htl_command.specs.declared.question.Job.{Job};
 ghost use Rattle.htl_device.specs.States.{AreOpen};
 ghost use Rattle.htl_main.specs.Runs.{LoadsAs};
 ghost use Rattle.htl_main.specs.Causes.{IsCauseAfter};
 ghost use Rattle.htl_main.specs.Coverages.{IsCoverage};
 ghost use Rattle.htl_main.specs.CutInputs.{AreCut, AreCutEnds, decoding};
+ghost use Rattle.htl_main.specs.Inputs.{DecodeAll};
 ghost use Rattle.htl_main.specs.Loading.{AreLoaded};
+ghost use Rattle.htl_main.specs.Origins.{IsBetween};
+ghost use Rattle.htl_main.specs.Spans.{AreSpans};
 
 use crate::cases::case_of;
 use crate::coverage::{Coverage, Missed};
 use crate::cut_inputs::{CutEnd, CutInputs, cut_inputs};
+use crate::decoded::Decoded;
 use crate::fault::RunFault;
 use crate::printing::{check_gaps, check_workers, read_symbols};
 use crate::refused::Refused;
@@ -66,14 +71,42 @@ pub fn load<Rt: Threads + Sync, R: Parted>(
 {
     check_workers(setting.workers)?;
     let decoded = read_all(rt, alloc, setting.form, setting.workers, inputs)?;
+    let loaded = load_decoded(alloc, setting.complete, until, decoded, symbols)?;
+    Ok(loaded)
+}
+
+/// The case of decoded segments, with the symbols. A case that isn't complete up to the moment is
+/// refused where a complete one is asked for.
+pub(crate) fn load_decoded(
+    alloc: Global,
+    complete: bool,
+    until: Option<Moment>,
+    decoded: Decoded,
+    symbols: Option<&[u8]>,
+) -> Result<Loaded, Refused>
+    ensures ok { IfOk result (λ loaded.
+        AreLoaded (decoding decoded.segments.items decoded.cuts.items)
+        (option_copied symbols.entry) complete until loaded.case loaded.symbols) }
+    ensures case { IfOk result (λ loaded. IsCase loaded.case) }
+    ensures coverage { IfOk result (λ loaded. IsCoverage loaded.case loaded.coverage) }
+    ensures cut { IfOk result (λ loaded. (hex : Bool) (inputs : List (List ℕ))
+        → AreCutEnds hex inputs decoded.cuts.items → AreCut hex inputs loaded.cut) }
+    ensures err { IfErr result (λ refused. (job : Job) → job.setting.complete ≡ complete
+        → job.until ≡ until → IsCauseAfter (decoding decoded.segments.items decoded.cuts.items)
+        (option_copied symbols.entry) job refused.fault) }
+    ensures between { IfErr result (λ refused. (form : InputForm) (inputs : List (List ℕ))
+        → DecodeAll form inputs decoded.segments.items
+        → AreSpans form inputs decoded.segments.items decoded.spans.items
+        → IsBetween form inputs refused.fault refused.between) }
+{
     let (case, cuts) = case_of(alloc, decoded)?;
-    let loaded = with_symbols(alloc, setting.complete, until, case, &cuts, symbols)?;
+    let loaded = with_symbols(alloc, complete, until, case, &cuts, symbols)?;
     Ok(loaded)
 }
 
 /// The case with the symbols. A case that isn't complete up to the moment is refused where a complete
 /// one is asked for.
-pub(crate) fn with_symbols(
+fn with_symbols(
     alloc: Global,
     complete: bool,
     until: Option<Moment>,

@@ -18,13 +18,12 @@ ghost use Rattle.htl_main.specs.Picking.{EndsAnswer, NamesMissing};
 ghost use Rattle.htl_main.specs.Printing.{PrintsAnswer};
 ghost use Rattle.htl_main.specs.Remarks.{RemarksOver};
 
-use crate::cases::case_of;
 use crate::completed::{Absence, Completed, absence_of};
 use crate::coverage::{Missed, is_above};
 use crate::cut_inputs::CutEnd;
 use crate::fault::RunFault;
 use crate::inputs::decode_all;
-use crate::loading::{Loaded, with_symbols};
+use crate::loading::{Loaded, load_decoded};
 use crate::refused::Refused;
 use crate::remarks::{Remarks, remarks_on};
 use htl_case::Case;
@@ -64,8 +63,7 @@ pub fn run<Rt: Threads + Sync, W: Sink>(
 {
     check_workers(job.setting.workers)?;
     let decoded = decode_all(alloc, job.setting.form, inputs)?;
-    let (case, cuts) = case_of(alloc, decoded)?;
-    let loaded = with_symbols(alloc, job.setting.complete, job.until, case, &cuts, symbols)?;
+    let loaded = load_decoded(alloc, job.setting.complete, job.until, decoded, symbols)?;
     let completed = print_answer(rt, alloc, job, &loaded, out)?;
     Ok(completed)
 }

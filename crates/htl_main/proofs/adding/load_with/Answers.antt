@@ -1,5 +1,5 @@
 -- The segments of the case stand behind the decoded ones, as those of one more input.
-use Rattle.std.proofs.Common.{◌≡◌, ◌++◌, ◌∷◌, ◌∙◌, ℕ, [], inr, List, None, refl, Some, subst, sym}
+use Rattle.std.proofs.Common.{◌≡◌, ◌++◌, ◌∷◌, ◌∙◌, ℕ, [], inr, List, None, Some, subst, sym}
 use Rattle.std.specs.Prelude.{slice_get}
 use Rattle.std.proofs.lemmas.Result.{err_from_is_err_and}
 use Rattle.htl_segment.specs.Content.{Content}
@@ -9,27 +9,25 @@ use Rattle.htl_main.specs.CutInputs.{decoding}
 use Rattle.htl_main.specs.Inputs.{DecodeAll, Decodes}
 use Rattle.htl_main.specs.Loading.{AreLoaded}
 use Rattle.htl_main.proofs.AddingLaws.{behind, spans_too}
-use Rattle.htl_main.proofs.AfterDecoding.{some_job}
-use Rattle.htl_main.proofs.CaseRefused.{none_after}
 use Rattle.htl_main.proofs.InputLaws.{decode_more}
 use Rattle.htl_main.proofs.adding.load_with.Goals as goal
 
-pub returns-in_err-case-clause-err : goal.returns-in_err-case-clause-err
-returns-in_err-case-clause-err c =
-    let p = err_from_is_err_and c.from_residual-in_err-case.result c.from_residual-in_err-case.ensures.1 in
+pub returns-in_err-loaded-clause-err : goal.returns-in_err-loaded-clause-err
+returns-in_err-loaded-clause-err c =
+    let p = err_from_is_err_and c.from_residual-in_err-loaded.result c.from_residual-in_err-loaded.ensures.1 in
     let all = behind c.add_segments.new.self.segments.items c.args.decoded.segments.items c.in_ok-earlier.earlier.items c.segments.result.now
     c.args.before.now.segments c.in_ok-add_segments.ensures.segments c.in_ok-earlier.ensures c.segments.ensures.value in
     rw (p.1, p.2) (inr (λ job whole as_of. subst (λ (ss : List Content). IsCauseAfter
-    (decoding ss c.args.decoded.cuts.items) None job c.in_err-case.field-0.0.fault) all
-    (rw (← c.add_segments.ensures.kept) (c.in_err-case.ensures.err None job))))
+    (decoding ss c.args.decoded.cuts.items) None job c.in_err-loaded.field-0.0.fault) all
+    (rw (← c.add_segments.ensures.kept) (c.in_err-loaded.ensures.err job whole as_of))))
 
-pub returns-in_err-case-clause-between : goal.returns-in_err-case-clause-between
-returns-in_err-case-clause-between c =
-    let p = err_from_is_err_and c.from_residual-in_err-case.result c.from_residual-in_err-case.ensures.1 in
+pub returns-in_err-loaded-clause-between : goal.returns-in_err-loaded-clause-between
+returns-in_err-loaded-clause-between c =
+    let p = err_from_is_err_and c.from_residual-in_err-loaded.result c.from_residual-in_err-loaded.ensures.1 in
     let all = behind c.add_segments.new.self.segments.items c.args.decoded.segments.items c.in_ok-earlier.earlier.items c.segments.result.now
     c.args.before.now.segments c.in_ok-add_segments.ensures.segments c.in_ok-earlier.ensures c.segments.ensures.value in
     let same = c.in_ok-earlier.ensures ∙ c.segments.ensures.value in
-    rw (p.1, p.2) (λ form inputs earlier long decoded are before. c.in_err-case.ensures.between form (inputs ++ earlier ∷ [])
+    rw (p.1, p.2) (λ form inputs earlier long decoded are before. c.in_err-loaded.ensures.between form (inputs ++ earlier ∷ [])
     (subst (DecodeAll form (inputs ++ earlier ∷ [])) (sym all)
     (decode_more form inputs earlier c.args.decoded.segments.items c.args.before.now.segments decoded before))
     (c.in_ok-add_segments.ensures.spans form (inputs ++ earlier ∷ []) earlier
@@ -37,34 +35,13 @@ returns-in_err-case-clause-between c =
     (subst (Decodes form earlier) (sym same) before)
     (spans_too form inputs earlier c.args.decoded.segments.items c.args.decoded.spans.items are)))
 
-pub returns-in_err-loaded-clause-err : goal.returns-in_err-loaded-clause-err
-returns-in_err-loaded-clause-err c =
-    let p = err_from_is_err_and c.from_residual-in_err-loaded.result c.from_residual-in_err-loaded.ensures.1 in
-    let all = behind c.add_segments.new.self.segments.items c.args.decoded.segments.items c.in_ok-earlier.earlier.items c.segments.result.now
-    c.args.before.now.segments c.in_ok-add_segments.ensures.segments c.in_ok-earlier.ensures c.segments.ensures.value in
-    rw (p.1, p.2.0) (inr (λ job whole as_of. subst (λ (ss : List Content). IsCauseAfter
-    (decoding ss c.args.decoded.cuts.items) None job c.in_err-loaded.field-0.0) all
-    (rw (← c.add_segments.ensures.kept, ← c.in_ok-case.ensures.cuts, ← c.deref.ensures.value)
-    (c.in_err-loaded.ensures.err c.add_segments.new.self.segments.items job c.in_ok-case.ensures.ok whole as_of))))
-
-pub returns-in_err-loaded-clause-between : goal.returns-in_err-loaded-clause-between
-returns-in_err-loaded-clause-between c =
-    let p = err_from_is_err_and c.from_residual-in_err-loaded.result c.from_residual-in_err-loaded.ensures.1 in
-    let segments = c.add_segments.new.self.segments.items in
-    let job = record some_job { setting = record (some_job.setting) { complete = c.args.complete }; until = None } in
-    rw (p.1, p.2.0, p.2.1) (λ form inputs earlier long decoded are before. none_after form (inputs ++ earlier ∷ []) (decoding segments c.deref.result.now)
-    c.in_ok-case.case None job c.in_err-loaded.field-0.0 c.in_ok-case.ensures.ok
-    (c.in_err-loaded.ensures.err segments job c.in_ok-case.ensures.ok refl refl))
-
 pub returns-clause-ok : goal.returns-clause-ok
 returns-clause-ok c =
     let all = behind c.add_segments.new.self.segments.items c.args.decoded.segments.items c.in_ok-earlier.earlier.items c.segments.result.now
     c.args.before.now.segments c.in_ok-add_segments.ensures.segments c.in_ok-earlier.ensures c.segments.ensures.value in
     let loaded = c.in_ok-loaded.loaded in
     subst (λ (ss : List Content). AreLoaded (decoding ss c.args.decoded.cuts.items) None c.args.complete None loaded.case loaded.symbols) all
-    (rw (← c.add_segments.ensures.kept, ← c.in_ok-case.ensures.cuts, ← c.deref.ensures.value)
-    (c.in_ok-loaded.ensures.ok c.add_segments.new.self.segments.items c.in_ok-case.ensures.ok))
+    (rw (← c.add_segments.ensures.kept) (c.in_ok-loaded.ensures.ok))
 
 pub returns-clause-cut : goal.returns-clause-cut
-returns-clause-cut c = λ hex inputs are.
-    c.in_ok-loaded.ensures.cut hex inputs (rw (c.deref.ensures.value, c.in_ok-case.ensures.cuts, c.add_segments.ensures.kept) are)
+returns-clause-cut c = λ hex inputs are. c.in_ok-loaded.ensures.cut hex inputs (rw (c.add_segments.ensures.kept) are)

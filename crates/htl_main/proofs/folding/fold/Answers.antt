@@ -4,8 +4,9 @@ use Rattle.std.proofs.lemmas.Result.{err_from_is_err_and}
 use Rattle.htl_main.specs.Folding.{folding}
 use Rattle.htl_main.specs.Origins.{by_fault}
 use Rattle.htl_main.proofs.AfterDecoding.{refused_is}
-use Rattle.htl_main.proofs.FoldInputs.{gap_about_none, gap_no_write, is_folded, no_workers, not_added, read_to_fold, read_to_gap}
-use Rattle.htl_main.proofs.ReadingLaws.{ends_too, read_then, unread, well}
+use Rattle.htl_main.proofs.FoldInputs.{gap_about_none, gap_late, gap_no_write, is_folded, no_workers, not_added, read_to_fold}
+use Rattle.htl_main.proofs.LateFaults.{read_late}
+use Rattle.htl_main.proofs.ReadingLaws.{ends_too, ill, read_then, unread, well}
 use Rattle.htl_main.proofs.folding.fold.Goals as goal
 
 pub returns-in_err-check_workers : goal.returns-in_err-check_workers
@@ -63,8 +64,8 @@ returns-in_err-added g c =
           (rw (c.in_ok-far.was, c.in_ok-taken.was) at is.ok before was texts all) fault told;
       between = gap_about_none c.args.setting.complete taken.cuts.items after fault told;
       symbols = is.symbols;
-      reading = inl (read_to_gap c.args.setting.form.hex (map g.R.Source.state c.args.inputs.now) now taken
-          (rw c.in_ok-taken.was at is.reading) c.args.setting.complete taken.cuts.items after fault told);
+      reading = inl (read_late c.args.setting.form.hex (map g.R.Source.state c.args.inputs.now) now taken (ill fault)
+          (rw c.in_ok-taken.was at is.reading) (gap_late c.args.setting.complete taken.cuts.items after fault told));
       no_write = gap_no_write c.args.setting.complete taken.cuts.items after fault told;
     })
 

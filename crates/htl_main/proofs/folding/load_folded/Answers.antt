@@ -5,8 +5,9 @@ use Rattle.std.specs.Option.{option_copied}
 use Rattle.htl_main.specs.Folding.{AreFolded, folding}
 use Rattle.htl_main.specs.declared.fault.RunFault.TheVariants.{Workers}
 use Rattle.htl_main.proofs.AfterDecoding.{refused_is}
-use Rattle.htl_main.proofs.FoldInputs.{begins_refused, gap_about_none, gap_no_write, is_folded, no_workers, not_added, nothing_folded}
-use Rattle.htl_main.proofs.FoldInputs.{read_to_gap, read_to_symbols, symbols_about_none, symbols_no_write, symbols_refused}
+use Rattle.htl_main.proofs.FoldInputs.{begins_refused, gap_about_none, gap_late, gap_no_write, is_folded, no_workers, not_added, nothing_folded}
+use Rattle.htl_main.proofs.FoldInputs.{symbols_about_none, symbols_late, symbols_no_write, symbols_refused}
+use Rattle.htl_main.proofs.LateFaults.{read_late}
 use Rattle.htl_main.proofs.ReadingLaws.{ends_too, ill, read_then, unread, well}
 use Rattle.htl_main.proofs.folding.load_folded.Goals as goal
 
@@ -67,8 +68,8 @@ returns-in_err-added g c =
           (rw (c.in_ok-far.was, c.in_ok-taken.was) at is.ok [] nothing_folded texts all) fault told);
       symbols = tt;
       between = gap_about_none c.args.setting.complete taken.cuts.items after fault told;
-      reading = read_to_gap c.args.setting.form.hex (map g.R.Source.state c.args.inputs.now) now taken
-          (rw c.in_ok-taken.was at is.reading) c.args.setting.complete taken.cuts.items after fault told;
+      reading = read_late c.args.setting.form.hex (map g.R.Source.state c.args.inputs.now) now taken (ill fault)
+          (rw c.in_ok-taken.was at is.reading) (gap_late c.args.setting.complete taken.cuts.items after fault told);
       no_write = gap_no_write c.args.setting.complete taken.cuts.items after fault told;
     })
 
@@ -89,8 +90,8 @@ returns-in_err-folded g c =
           c.in_ok-added.added nothing_folded c.in_ok-added.ensures.ok) told;
       symbols = tt;
       between = symbols_about_none table fault told;
-      reading = read_to_symbols c.args.setting.form.hex (map g.R.Source.state c.args.inputs.now) now taken
-          (rw c.in_ok-taken.was at is.reading) table fault told;
+      reading = read_late c.args.setting.form.hex (map g.R.Source.state c.args.inputs.now) now taken (ill fault)
+          (rw c.in_ok-taken.was at is.reading) (symbols_late table fault told);
       no_write = symbols_no_write table fault told;
     })
 

@@ -6,8 +6,6 @@ use Rattle.htl_device.specs.States.{ends, lefts}
 use Rattle.htl_main.specs.CutInputs.{decoding}
 use Rattle.htl_main.specs.Loading.{in_setting}
 use Rattle.htl_main.proofs.AfterDecoding.{refused_is, not_write, reads_then, some_job, sources_cause_of, sources_stop, stop_about_none}
-use Rattle.htl_main.proofs.AfterLoading.{decoded_as}
-use Rattle.htl_main.proofs.CaseRefused.{none_after}
 use Rattle.htl_main.proofs.ReadingLaws.{ends_too, read_then, unread, well}
 use Rattle.htl_main.proofs.loading.load.Goals as goal
 
@@ -42,76 +40,49 @@ returns-in_err-decoded g c =
       no_write = is.no_write;
     })
 
-pub returns-in_err-case : goal.returns-in_err-case
-returns-in_err-case g c =
-    let p = err_from_is_err_and c.from_residual-in_err-case.result c.from_residual-in_err-case.ensures.1 in
-    let symbols = option_copied c.args.symbols in
-    let fault = c.in_err-case.field-0.0.fault in
-    let now = map g.R.Source.state c.read_all.new.sources in
-    let given = decoding c.in_ok-decoded.decoded.segments.items c.in_ok-decoded.decoded.cuts.items in
-    let decoded = c.in_ok-decoded.ensures.reads in
-    let why = c.in_err-case.ensures.err symbols in
-    rw (p.1, p.2) (record {
-      outcome = λ texts all. (
-        λ job as_of. sources_cause_of (in_setting c.args.setting job) texts (lefts now) (ends now) symbols given fault
-            c.in_ok-check_workers.ensures.ok (decoded.outcome texts all).given (why (in_setting c.args.setting job)),
-        c.in_err-case.ensures.between c.args.setting.form texts (decoded.outcome texts all).given.segments (decoded.outcome texts all).spans,
-      );
-      case = tt;
-      coverage = tt;
-      reading = reads_then c.args.setting.form.hex (map g.R.Source.state c.args.inputs.now) now c.in_ok-decoded.decoded given symbols some_job
-          fault decoded.reading (why some_job);
-      no_write = not_write given symbols some_job fault (why some_job);
-    })
-
 pub returns-in_err-loaded : goal.returns-in_err-loaded
 returns-in_err-loaded g c =
     let p = err_from_is_err_and c.from_residual-in_err-loaded.result c.from_residual-in_err-loaded.ensures.1 in
     let symbols = option_copied c.args.symbols in
-    let fault = c.in_err-loaded.field-0.0 in
+    let fault = c.in_err-loaded.field-0.0.fault in
     let now = map g.R.Source.state c.read_all.new.sources in
-    let segments = c.in_ok-decoded.decoded.segments.items in
-    let given = decoding segments c.deref.result.now in
     let setting = c.args.setting in
+    let given = decoding c.in_ok-decoded.decoded.segments.items c.in_ok-decoded.decoded.cuts.items in
+    let decoded = c.in_ok-decoded.ensures.reads in
+    let why = c.in_err-loaded.ensures.err in
     let some = in_setting setting (record some_job { until = c.args.until }) in
-    let why = c.in_err-loaded.ensures.err segments in
-    let case = c.in_ok-case.ensures.ok in
-    rw (p.1, refused_is p.0 p.2.0 p.2.1) (record {
+    rw (p.1, p.2) (record {
       outcome = λ texts all. (
         λ job as_of. sources_cause_of (in_setting setting job) texts (lefts now) (ends now) symbols given fault
-            c.in_ok-check_workers.ensures.ok
-            (decoded_as setting.form texts segments _ _ _ (c.in_ok-decoded.ensures.reads.outcome texts all).given c.in_ok-case.ensures.cuts
-            c.deref.ensures.value)
-            (why (in_setting setting job) case refl as_of),
-        none_after setting.form texts given c.in_ok-case.case symbols some fault case (why some case refl refl),
+            c.in_ok-check_workers.ensures.ok (decoded.outcome texts all).given (why (in_setting setting job) refl as_of),
+        c.in_err-loaded.ensures.between setting.form texts (decoded.outcome texts all).given.segments (decoded.outcome texts all).spans,
       );
       case = tt;
       coverage = tt;
       reading = reads_then setting.form.hex (map g.R.Source.state c.args.inputs.now) now c.in_ok-decoded.decoded given symbols some fault
-          c.in_ok-decoded.ensures.reads.reading (why some case refl refl);
-      no_write = not_write given symbols some fault (why some case refl refl);
+          decoded.reading (why some refl refl);
+      no_write = not_write given symbols some fault (why some refl refl);
     })
 
 pub returns : goal.returns
 returns g c =
     let is = c.in_ok-loaded.ensures in
-    let segments = c.in_ok-decoded.decoded.segments.items in
     let form = c.args.setting.form in
+    let read = c.in_ok-decoded.ensures.reads in
     record {
       outcome = λ texts all.
-          let decoded = decoded_as form texts segments _ _ _ (c.in_ok-decoded.ensures.reads.outcome texts all).given c.in_ok-case.ensures.cuts
-          c.deref.ensures.value in (
+          let decoded = (read.outcome texts all).given in (
             record {
               workers = c.in_ok-check_workers.ensures.ok;
-              given = decoding segments c.deref.result.now;
+              given = decoding c.in_ok-decoded.decoded.segments.items c.in_ok-decoded.decoded.cuts.items;
               decoded = decoded;
-              loaded = is.ok segments c.in_ok-case.ensures.ok;
+              loaded = is.ok;
             },
             is.cut form.hex texts decoded.cuts,
           );
       case = is.case;
       coverage = is.coverage;
       reading = read_then form.hex (map g.R.Source.state c.args.inputs.now) (map g.R.Source.state c.read_all.new.sources)
-          c.in_ok-decoded.decoded (well c.in_ok-loaded.loaded) c.in_ok-decoded.ensures.reads.reading (λ at told. cc told) tt;
+          c.in_ok-decoded.decoded (well c.in_ok-loaded.loaded) read.reading (λ at told. cc told) tt;
       no_write = tt;
     }

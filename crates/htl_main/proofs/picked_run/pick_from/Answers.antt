@@ -1,12 +1,13 @@
 -- What `pick_from` makes of picks comes of the segments of all inputs, and where it ends before the first read no source is read.
 use Rattle.std.proofs.Common.{map, false, refl}
 use Rattle.std.specs.Option.{option_copied}
-use Rattle.std.proofs.lemmas.Result.{err_from_is_err_and}
+use Rattle.std.proofs.lemmas.Result.{IfErr-weaker, err_from_is_err_and}
 use Rattle.htl_device.specs.States.{ends, lefts}
 use Rattle.htl_main.specs.CutInputs.{decoding}
 use Rattle.htl_main.proofs.AfterDecoding.{sources_stop}
-use Rattle.htl_main.proofs.AfterPicking.{ends_picking, ends_without_case, ends_without_input, ends_without_read, given_is, picked_run}
-use Rattle.htl_main.proofs.ReadingLaws.{ends_too, read_then, unread}
+use Rattle.htl_main.proofs.AfterPicking.{ends_picking, ends_without_case, given_is, picked_run}
+use Rattle.htl_main.proofs.LateFaults.{printing_late, read_late}
+use Rattle.htl_main.proofs.ReadingLaws.{ends_too, unread}
 use Rattle.htl_main.proofs.picked_run.pick_from.Goals as goal
 
 pub returns-in_err-check_workers : goal.returns-in_err-check_workers
@@ -54,8 +55,8 @@ returns g c =
           ends_picking job c.args.interest texts (lefts now) (ends now) (option_copied c.args.symbols) (g.W.Sink.state c.args.out.now).contents
           (g.W.Sink.state c.print_picks.new.out).contents (decoding run.segments cuts) result c.in_ok-check_workers.ensures.ok
           (given_is job c.args.interest texts picks run cuts all_picked.cuts) (is.outcome run.segments run.picked);
-      reading = read_then false (map g.R.Source.state c.args.inputs.now) now c.in_ok-all.all result c.in_ok-all.ensures.reads.reading
-          (ends_without_read result is.ends) (ends_without_input result is.ends);
+      reading = read_late false (map g.R.Source.state c.args.inputs.now) now c.in_ok-all.all result c.in_ok-all.ensures.reads.reading
+          (IfErr-weaker result _ _ printing_late is.ends);
       sink = is.sink;
       unwritten = is.unwritten;
       no_case = ends_without_case result is.ends;

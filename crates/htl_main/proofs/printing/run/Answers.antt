@@ -6,8 +6,7 @@ use Rattle.std.proofs.lemmas.Result.{err_from_is_err_and}
 use Rattle.htl_main.specs.Causes.{IsCause}
 use Rattle.htl_main.specs.CutInputs.{decoding}
 use Rattle.htl_main.proofs.AfterDecoding.{refused_is, cause_of, input_about_none, inputs_stop, not_write, stop_no_write}
-use Rattle.htl_main.proofs.AfterLoading.{decoded_as, ends, loaded_of, prints, refused_over, reports_of}
-use Rattle.htl_main.proofs.CaseRefused.{none_after}
+use Rattle.htl_main.proofs.AfterLoading.{ends, loaded_of, prints, refused_over, reports_of}
 use Rattle.htl_main.proofs.printing.run.Goals as goal
 
 pub returns-in_err-check_workers : goal.returns-in_err-check_workers
@@ -35,42 +34,20 @@ returns-in_err-decoded g c =
       sink = record { untouched = λ other. refl; failed = λ told. absurd (stop_no_write form inputs fault stops (cc told)); fine = tt };
     })
 
-pub returns-in_err-case : goal.returns-in_err-case
-returns-in_err-case g c =
-    let p = err_from_is_err_and c.from_residual-in_err-case.result c.from_residual-in_err-case.ensures.1 in
-    let job = c.args.job.now in
-    let inputs = map (λ (input : Vec ℕ Global). input.items) c.args.inputs.now in
-    let symbols = option_copied c.args.symbols in
-    let decoded = c.in_ok-decoded.ensures in
-    let given = decoding c.in_ok-decoded.decoded.segments.items c.in_ok-decoded.decoded.cuts.items in
-    let fault = c.in_err-case.field-0.0.fault in
-    let why = c.in_err-case.ensures.err symbols job in
-    rw (p.1, p.2) (record {
-      outcome = record {
-        cause = cause_of job inputs symbols given fault c.in_ok-check_workers.ensures.ok
-            decoded.ok.given why;
-        between = c.in_err-case.ensures.between job.setting.form inputs decoded.ok.given.segments decoded.ok.spans;
-        written = λ told. absurd (not_write given symbols job fault why told);
-      };
-      sink = record { untouched = λ other. refl; failed = λ told. absurd (not_write given symbols job fault why (cc told)); fine = tt };
-    })
-
 pub returns-in_err-loaded : goal.returns-in_err-loaded
 returns-in_err-loaded g c =
     let p = err_from_is_err_and c.from_residual-in_err-loaded.result c.from_residual-in_err-loaded.ensures.1 in
     let job = c.args.job.now in
     let inputs = map (λ (input : Vec ℕ Global). input.items) c.args.inputs.now in
     let symbols = option_copied c.args.symbols in
-    let segments = c.in_ok-decoded.decoded.segments.items in
-    let given = decoding segments c.deref.result.now in
-    let decoded = decoded_as job.setting.form inputs segments _ _ _ c.in_ok-decoded.ensures.ok.given c.in_ok-case.ensures.cuts
-    c.deref.ensures.value in
-    let fault = c.in_err-loaded.field-0.0 in
-    let why = c.in_err-loaded.ensures.err segments job c.in_ok-case.ensures.ok refl refl in
-    rw (p.1, refused_is p.0 p.2.0 p.2.1) (record {
+    let decoded = c.in_ok-decoded.ensures.ok in
+    let given = decoding c.in_ok-decoded.decoded.segments.items c.in_ok-decoded.decoded.cuts.items in
+    let fault = c.in_err-loaded.field-0.0.fault in
+    let why = c.in_err-loaded.ensures.err job refl refl in
+    rw (p.1, p.2) (record {
       outcome = record {
-        cause = cause_of job inputs symbols given fault c.in_ok-check_workers.ensures.ok decoded why;
-        between = none_after job.setting.form inputs given c.in_ok-case.case symbols job fault c.in_ok-case.ensures.ok why;
+        cause = cause_of job inputs symbols given fault c.in_ok-check_workers.ensures.ok decoded.given why;
+        between = c.in_err-loaded.ensures.between job.setting.form inputs decoded.given.segments decoded.spans;
         written = λ told. absurd (not_write given symbols job fault why told);
       };
       sink = record { untouched = λ other. refl; failed = λ told. absurd (not_write given symbols job fault why (cc told)); fine = tt };
@@ -82,12 +59,10 @@ returns-in_err-completed g c =
     let job = c.args.job.now in
     let inputs = map (λ (input : Vec ℕ Global). input.items) c.args.inputs.now in
     let symbols = option_copied c.args.symbols in
-    let segments = c.in_ok-decoded.decoded.segments.items in
-    let decoded = decoded_as job.setting.form inputs segments _ _ _ c.in_ok-decoded.ensures.ok.given c.in_ok-case.ensures.cuts
-    c.deref.ensures.value in
+    let decoded = c.in_ok-decoded.ensures.ok.given in
+    let given = decoding c.in_ok-decoded.decoded.segments.items c.in_ok-decoded.decoded.cuts.items in
     let loaded = c.in_ok-loaded.loaded in
-    let of = loaded_of job inputs symbols (decoding segments c.deref.result.now) loaded.case loaded.symbols c.in_ok-check_workers.ensures.ok
-    decoded (c.in_ok-loaded.ensures.ok segments c.in_ok-case.ensures.ok) in
+    let of = loaded_of job inputs symbols given loaded.case loaded.symbols c.in_ok-check_workers.ensures.ok decoded c.in_ok-loaded.ensures.ok in
     let fault = c.in_err-completed.field-0.0 in
     let is = c.in_err-completed.ensures in
     rw (p.1, refused_is p.0 p.2.0 p.2.1) (record {
@@ -102,12 +77,10 @@ returns g c =
     let job = c.args.job.now in
     let inputs = map (λ (input : Vec ℕ Global). input.items) c.args.inputs.now in
     let symbols = option_copied c.args.symbols in
-    let segments = c.in_ok-decoded.decoded.segments.items in
-    let decoded = decoded_as job.setting.form inputs segments _ _ _ c.in_ok-decoded.ensures.ok.given c.in_ok-case.ensures.cuts
-    c.deref.ensures.value in
+    let decoded = c.in_ok-decoded.ensures.ok.given in
+    let given = decoding c.in_ok-decoded.decoded.segments.items c.in_ok-decoded.decoded.cuts.items in
     let loaded = c.in_ok-loaded.loaded in
-    let of = loaded_of job inputs symbols (decoding segments c.deref.result.now) loaded.case loaded.symbols c.in_ok-check_workers.ensures.ok
-    decoded (c.in_ok-loaded.ensures.ok segments c.in_ok-case.ensures.ok) in
+    let of = loaded_of job inputs symbols given loaded.case loaded.symbols c.in_ok-check_workers.ensures.ok decoded c.in_ok-loaded.ensures.ok in
     let is = c.in_ok-completed.ensures in
     record {
       outcome = (

@@ -6,7 +6,8 @@ use Rattle.std.specs.Option.{option_copied}
 use Rattle.htl_device.specs.States.{ends, lefts}
 use Rattle.htl_main.specs.Sources.{IsSourcesCause}
 use Rattle.htl_main.proofs.AfterDecoding.{refused_is}
-use Rattle.htl_main.proofs.AfterLoading.{over_no_input, over_no_read, prints, refused_over, reports_of, sources_end}
+use Rattle.htl_main.proofs.AfterLoading.{over_late, prints, refused_over, reports_of, sources_end}
+use Rattle.htl_main.proofs.LateFaults.{read_late}
 use Rattle.htl_main.proofs.ReadingLaws.{ends_too, ill, read_then, well}
 use Rattle.htl_main.proofs.streaming.run_from.Goals as goal
 
@@ -43,9 +44,8 @@ returns-in_err-completed g c =
           (g.W.Sink.state c.args.out.now).contents (g.W.Sink.state c.print_answer.new.out).contents fault
           (sources_end job.setting texts symbols loaded.case loaded.symbols job of (lefts now) (ends now) fault is.outcome.0) is.outcome.0
           is.outcome.1;
-      reading = read_then job.setting.form.hex (map g.R.Source.state c.args.inputs.now) now loaded (ill fault) c.in_ok-loaded.ensures.reading
-          (λ at told. over_no_read loaded.case job fault at is.outcome.0 (cc told))
-          (λ place before. over_no_input loaded.case job fault place is.outcome.0 before);
+      reading = read_late job.setting.form.hex (map g.R.Source.state c.args.inputs.now) now loaded (ill fault) c.in_ok-loaded.ensures.reading
+          (over_late loaded.case job fault is.outcome.0);
       sink = record { untouched = is.sink.untouched; failed = λ told. is.sink.failed (cc told); fine = tt };
     })
 

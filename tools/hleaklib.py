@@ -1,13 +1,10 @@
-"""What the tools beside this file share: names of frames, of opens and of objects, texts and their faults, and dialogues with the program."""
-import contextlib
+"""What the tools beside this file share: names of frames, of opens and of objects, texts and their faults, and how a tool ends."""
 import csv
 import os
 import re
-import subprocess
 import sys
 
 BAD_INPUT, UNREADABLE = 3, 5  # the statuses of hleak for them
-PIPE_BYTES = 1 << 16  # that a pipe holds
 MOST_DIGITS = 20  # of a sequence
 OBJECT = re.compile(r"0x[0-9a-f]{1,16}$", re.I)
 # What a table of names can be by, and what is said of a row that isn't one.
@@ -90,30 +87,3 @@ def ended(tool, act):
 
 class Ended(Exception):
     """The program ended in the middle of a dialogue, with this status. It has said why."""
-
-
-class Dialogue:
-    """`hleak ask` over files, which it reads once."""
-
-    def __init__(self, program, words):
-        self.hleak = subprocess.Popen([program, "ask", *words], stdin=subprocess.PIPE, stdout=subprocess.PIPE, bufsize=PIPE_BYTES)
-
-    def __enter__(self):
-        return self
-
-    def __exit__(self, *_):
-        with contextlib.suppress(BrokenPipeError):
-            self.hleak.stdin.close()
-        self.hleak.stdout.close()  # (it would wait for the rest of an answer to be read)
-        self.hleak.wait()
-
-    def lines(self, question):
-        """The lines of an answer in JSON, one by one, as bytes. All have to be taken before the next question."""
-        with contextlib.suppress(BrokenPipeError):
-            self.hleak.stdin.write(f"{question} --json\n".encode())
-            self.hleak.stdin.flush()
-        for line in self.hleak.stdout:
-            if line == b"\n":  # ends the answer
-                return
-            yield line
-        raise Ended(self.hleak.wait())

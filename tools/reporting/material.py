@@ -1,20 +1,8 @@
-"""What is known before a page is made: the files of its options, and the answers that several of its sections need."""
+"""What is known before a page is made: the answers that several of its sections need."""
 import collections
 
-from hleaklib import names_of
-from stacklists import known_of, leaks_of
-
 from .rows import Lines
-from .sites import tester_of
-
-
-class Files:
-    """What stands in the files of the options."""
-
-    def __init__(self, given):
-        self.known = known_of(given.known, False) if given.known else set()
-        self.before = leaks_of(given.before, False) if given.before else None
-        self.names = names_of(given.names) if given.names else {}
+from .telling import System
 
 
 class Material:
@@ -23,24 +11,19 @@ class Material:
 
     def __init__(self, trace, given, files):
         self.trace, self.given, self.files = trace, given, files
-        self.is_system = tester_of(given.system)
+        self.system = System(given.system)
         self.sites = trace.sites()
         self.leaking = self.sites.greatest(files.known)
-        self.lines = Lines([site.names for site in self.leaking], self.is_system)
+        self.lines = Lines([site.names for site in self.leaking], self.system)
         self.whole = sum(site.count for site in self.leaking)
-        self.found = trace.found
-        shown = self.found[: given.top]
-        self.growth = {row["process"]: trace.growth(row) for row in shown}
-        self.handles = {row["process"]: trace.handles(row) for row in shown}
-        points = next(iter(self.growth.values()), [(0, 0)])
-        self.first, self.last = points[0][0], points[-1][0]
-        moments = trace.moments(self.first, self.last) if self.leaking else []
+        self.handles = {row["process"]: trace.handles(row) for row in trace.shown()}
+        moments = trace.moments() if self.leaking else []
         self.moments = [(moment, trace.counts_at(moment)) for moment in moments]
         self.findings = []
 
     def points_of(self, site):
         """How many handles a site had as of each moment, and has now."""
-        return [*((moment, counts[site.names]) for moment, counts in self.moments), (self.last, site.count)]
+        return [*((moment, counts[site.names]) for moment, counts in self.moments), (self.trace.last, site.count)]
 
     def middle(self):
         """The moment in the middle, and how many handles the stacks had as of it."""

@@ -10,14 +10,13 @@ def objects_of(material):
     """The objects, those with most unbalanced tags first, and how many others there are."""
     trace, room, parts = material.trace, Room(BYTES), []
     rows = trace.objects
-    most = max(1, material.given.top // max(len(rows), 1))  # so that about `top` tags are asked for their stacks
     for row in rows:
         tags = trace.tags(row["object"])
         unbalanced = [tag for tag in tags if tag["over"] or tag["under"]]
         if row is rows[0]:
             material.findings.append(finding_of(name_of(material, row), unbalanced[0]))
         for head in room.first([head_of(row, name_of(material, row), tags, material.given.top)], 1):
-            stacks = [stacks_of(material, row["object"], tag, room) for tag in unbalanced[:most]]
+            stacks = [stacks_of(material, row["object"], tag, room) for tag in trace.tags_shown(row["object"])]
             more = left_out(len(unbalanced), stacks, "unbalanced tag")
             parts.append(opened(row is rows[0], head, *stacks, more, class_="object"))
     others = counted(trace.head["objects"] - trace.head["unbalanced"], "object has", "objects have")
@@ -59,7 +58,7 @@ def finding_of(name, tag):
 def stacks_of(material, number, tag, room):
     """The stacks that used a tag, those first whose references and dereferences differ most."""
     sites = sorted(material.trace.uses(number, tag).greatest(), key=lambda site: -abs(net_of(site)))
-    lines = Lines([site.names for site in sites], material.is_system)
+    lines = Lines([site.names for site in sites], material.system)
 
     def stack(site):
         sides = [counted(site.keys[side], side[:-1]) for side in SIDES if site.keys[side]]

@@ -1,4 +1,5 @@
 """Pieces of a page in HTML: elements in which every text is escaped, and the room that a page has."""
+import functools
 import html
 import itertools
 
@@ -17,13 +18,18 @@ def html_of(part):
     return part if isinstance(part, Html) else html.escape(shown(part))
 
 
+@functools.lru_cache(None)
+def attribute_of(name):
+    return name.strip("_").replace("_", "-")
+
+
 def joined(*parts):
-    return Html("".join(map(html_of, parts)))
+    return Html("".join([part if type(part) is Html else html_of(part) for part in parts]))
 
 
 def element(name, *parts, **attributes):
     """An element with these parts. An attribute is named as Python allows it: `class_`, `aria_label`."""
-    words = "".join(f' {key.strip("_").replace("_", "-")}="{html_of(value)}"' for key, value in attributes.items())
+    words = "".join([f' {attribute_of(key)}="{html_of(value)}"' for key, value in attributes.items()])
     return Html(f"<{name}{words}>{joined(*parts)}</{name}>")
 
 

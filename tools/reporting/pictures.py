@@ -1,9 +1,12 @@
 """Pictures of a page, which are SVG and need no script: curves of open handles, and flame graphs. What is written in them keeps the size
 of its letters whatever the width, since only the lines are stretched."""
+import collections
 import heapq
+import itertools
 import zlib
 
 from .pages import Html, counted, element, joined, share_of
+from .telling import common_of
 
 MOST_BOXES, LEAST_SHARE = 800, 1 / 2000  # of a flame graph: how many calls at most, and the least share of its handles that is drawn
 ROW, COLOURS, MOST_LETTERS = 20, 6, 120  # how high a call is, in how many colours modules are, and how long its label may be
@@ -54,51 +57,57 @@ def small_curve_of(points):
     return element("svg", element("title", told_of(points)), picture, class_="small", role="img")
 
 
-class Box:
-    """A call in a flame graph: the handles of the stacks that have it here, and its place among them."""
-
-    def __init__(self, name, depth):
-        self.name, self.depth, self.count, self.at, self.calls = name, depth, 0, 0, {}
-
-    def add(self, stack, count):
-        """Adds the handles of a stack, which is given from the outermost call inwards."""
-        box = self
-        box.count += count
-        for name in stack:
-            box = box.calls.setdefault(name, Box(name, box.depth + 1))
-            box.count += count
-
-    def placed(self):
-        """This box and those within it. Beside one another they are by name, so that a graph of a later trace is like it."""
-        boxes, waiting = [], [self]
-        while waiting:
-            box, at = waiting.pop(), 0
-            boxes.append(box)
-            for name in sorted(box.calls):
-                call = box.calls[name]
-                call.at, at = box.at + at, at + call.count
-                waiting.append(call)
-        return boxes
+# A call in a flame graph: how deep it is, the handles of the stacks that have it here, its place among them, and these stacks.
+Box = collections.namedtuple("Box", "name depth count at stacks")
 
 
-def flame_of(stacks, is_system, room):
+def calls_in(box):
+    """The calls within a call. Beside one another they are by name, so that a graph of a later trace is like it."""
+    stacks, at = collections.defaultdict(list), box.at
+    for stack in box.stacks:
+        if len(stack[0]) > box.depth:
+            stacks[stack[0][box.depth]].append(stack)
+    for name in sorted(stacks):
+        count = sum(count for _, count in stacks[name])
+        yield Box(name, box.depth + 1, count, at, stacks[name])
+        at += count
+
+
+def widest(whole):
+    """The calls that are drawn: the widest ones, of equal ones the outermost first. A call is never wider than its caller."""
+    numbers = itertools.count()
+    waiting, drawn = [(-whole.count, 0, next(numbers), whole)], []
+    while waiting and len(drawn) < MOST_BOXES:
+        box = heapq.heappop(waiting)[-1]
+        drawn.append(box)
+        for call in calls_in(box):
+            if call.count >= LEAST_SHARE * whole.count:
+                heapq.heappush(waiting, (-call.count, call.depth, next(numbers), call))
+    return drawn
+
+
+def number_of_calls(paths):
+    """How many calls a whole graph has: of neighbours in their order the later one's are new where they differ."""
+    ordered = sorted(paths)
+    return 1 + sum(len(path) - common_of(path, before) for before, path in zip([(), *ordered], ordered))
+
+
+def flame_of(stacks, system, room):
     """A flame graph of stacks, each with its handles, and how many calls are too small for it. The outermost calls are at its top, and a
     call is as wide as its share of the handles."""
-    whole = Box("all", 0)
-    for names, count in stacks:
-        whole.add(reversed(names), count)
-    boxes = whole.placed()
-    wide = [box for box in boxes if box.count >= LEAST_SHARE * whole.count]
-    widest = heapq.nlargest(MOST_BOXES, wide, key=lambda box: (box.count, -box.depth))
-    parts = list(room.first((box_of(box, whole.count, is_system) for box in widest), len(widest)))
-    height = ROW * (1 + max((box.depth for box in widest[: len(parts)]), default=0))
+    stacks = [(names[::-1], count) for names, count in stacks]
+    whole = Box("all", 0, sum(count for _, count in stacks), 0, stacks)
+    boxes = widest(whole)
+    parts = list(room.first((box_of(box, whole.count, system) for box in boxes), len(boxes)))
+    height = ROW * (1 + max((box.depth for box in boxes[: len(parts)]), default=0))
     told = f"The calls of stacks that leave {counted(whole.count, 'handle')} open, the outermost at the top"
-    return element("svg", *parts, class_="flame", role="img", aria_label=told, width="100%", height=height), len(boxes) - len(parts)
+    picture = element("svg", *parts, class_="flame", role="img", aria_label=told, width="100%", height=height)
+    return picture, number_of_calls(path for path, _ in stacks) - len(parts)
 
 
-def box_of(box, whole, is_system):
+def box_of(box, whole, system):
     module = box.name.partition("!")[0]
-    colour = "s" if is_system(box.name) or not box.depth else f"c{zlib.crc32(module.encode()) % COLOURS}"
+    colour = "s" if system.has(box.name) or not box.depth else f"c{zlib.crc32(module.encode()) % COLOURS}"
     label = box.name if len(box.name) <= MOST_LETTERS else box.name[:MOST_LETTERS] + "…"
     title = element("title", f"{box.name}: {box.count:,}, {share_of(box.count, whole)}")
     parts = title, element("rect", width="100%", height="100%"), element("text", label, x=4, y=14)

@@ -12,9 +12,9 @@ BYTES = 900_000
 
 def processes_of(material):
     """The processes, those with most open handles first, and how many others there are."""
-    trace, found, room = material.trace, material.found, Room(BYTES)
+    trace, found, room = material.trace, material.trace.found, Room(BYTES)
     most, parts, bad = max((row["outstanding"] for row in found), default=0), [], []
-    for row in found[: material.given.top]:
+    for row in trace.shown():
         for head in room.first([head_of(material, row, most)], 1):
             stacks = stacks_of(material, row, room), bad_of(material, row, room, bad)
             parts.append(opened(row is found[0], head, *stacks, class_="process"))
@@ -40,13 +40,13 @@ def head_of(material, row, most):
     moments = [("sequence of the last snapshot", row["mark"]), ("sequence of the last exit", row["exit"])]
     told = facts(*((name, f"{number:,}") for name, number in numbers + [moment for moment in moments if moment[1]]))
     title = element("h4", "Open handles, by the sequence of the events")
-    return joined(head, told, title, curve_of(material.growth[row["process"]]))
+    return joined(head, told, title, curve_of(material.trace.growth(row)))
 
 
 def stacks_of(material, row, room):
     """The stacks that opened what is open."""
-    sites = material.trace.sites_of(row).greatest(material.files.known)
-    whole, lines = sum(site.count for site in sites), Lines([site.names for site in sites], material.is_system)
+    sites = material.trace.sites_of(row).first_greatest(material.given.top, material.files.known)
+    whole, lines = sum(site.count for site in sites), Lines([site.names for site in sites], material.system)
     handles, names = material.handles[row["process"]], material.files.names
 
     def stack(site):
@@ -63,8 +63,8 @@ def bad_of(material, row, room, bad):
     """The stacks that used handles that weren't open. The first is added to a list."""
     if not row["bad"]:
         return ""
-    sites = material.trace.bad(row).greatest()
-    lines = Lines([site.names for site in sites], material.is_system)
+    sites = material.trace.bad(row).first_greatest(material.given.top)
+    lines = Lines([site.names for site in sites], material.system)
     bad.append((sites[0].count, row["process"], lines.call(sites[0].names)))
 
     def stack(site):

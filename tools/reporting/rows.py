@@ -1,11 +1,12 @@
 """Stacks as a page shows them: a line that opens by a click, and within it the calls, the handles and what these are of."""
 import collections
-import json
+import functools
 
 from hleaklib import name_of
 
 from .pages import Html, counted, element, html_of, joined, left_out, note
-from .sites import shared_by, told_apart
+from .sites import frame_of, frames_of
+from .telling import Apart
 
 MOST_LETTERS = 200  # of a call in a line; within the stack it is whole
 MOST_STACKS, MOST_NAMES, MOST_HANDLES = 5, 10, 50  # that differ in their addresses alone, and of what is within a stack
@@ -18,30 +19,30 @@ def short(name):
 class Lines:
     """The lines of a list of stacks, which are told apart within it."""
 
-    def __init__(self, stacks, is_system):
-        self.lines = told_apart(stacks, is_system)
-        self.shared = shared_by(stacks)
+    def __init__(self, stacks, system):
+        self.apart = Apart(stacks, system)
 
     def call(self, names):
         """The call that tells a stack from the others."""
-        return element("code", short("".join(self.lines[names].telling) or "no stack"))
+        return element("code", short("".join(self.apart.line(names).telling) or "no stack"))
 
     def call_within(self, names):
         """The same behind a call that it makes, where a line has one."""
-        before = [element("span", element("code", short(name)), " ← ", class_="by") for name in self.lines[names].before]
+        before = [element("span", element("code", short(name)), " ← ", class_="by") for name in self.apart.line(names).before]
         return joined(*before, element("strong", self.call(names)))
 
     def of(self, names):
         """The same, or with its caller."""
-        after = [element("span", " ← ", element("code", short(name)), class_="by") for name in self.lines[names].caller]
+        after = [element("span", " ← ", element("code", short(name)), class_="by") for name in self.apart.line(names).caller]
         return element("span", self.call_within(names), *after, class_="calls")
 
     def note(self):
         """Which calls are in all stacks, so that no line shows them."""
-        if not self.shared:
+        shared = self.apart.shared
+        if not shared:
             return Html()
-        calls = [part for name in self.shared[:MOST_NAMES] for part in (", ", element("code", short(name)))][1:]
-        more = f" and {len(self.shared) - MOST_NAMES:,} more" if len(self.shared) > MOST_NAMES else ""
+        calls = [part for name in shared[:MOST_NAMES] for part in (", ", element("code", short(name)))][1:]
+        more = f" and {len(shared) - MOST_NAMES:,} more" if len(shared) > MOST_NAMES else ""
         return note("All of these stacks have ", *calls, more, ".")
 
 
@@ -52,8 +53,10 @@ def stack_of(numbers, line, *inside, **attributes):
     return element("details", element("summary", *parts, line), *inside, class_="stack", **attributes)
 
 
-def frame_of(frame):
-    """A call with how far within its function it is, and its address. (Of all elements a page has most of these.)"""
+@functools.lru_cache(None)
+def call_of(text):
+    """A call with how far within its function it is, and its address, by its JSON. (Of all elements a page has most of these.)"""
+    frame = frame_of(text)
     address = f' <code class="at">{html_of(frame["address"])}</code>' if "name" in frame else ""
     return Html(f"<li><code>{html_of(name_of(frame))}</code>{address}</li>")
 
@@ -66,8 +69,8 @@ def calls_of_site(site):
     """The calls of a site. Where its stacks differ in how far within their functions the calls are, each stands within."""
     if not site.names:
         return calls_of(())
-    stacks = site.texts().most_common()
-    lists = [element("ol", *map(frame_of, json.loads(text))) for text, _ in stacks[:MOST_STACKS]]
+    stacks = site.texts()
+    lists = [element("ol", *map(call_of, frames_of(text))) for text, _ in stacks[:MOST_STACKS]]
     if len(stacks) == 1:
         return lists[0]
     head = element("summary", f"{counted(len(stacks), 'stack')} with these names, by their addresses")

@@ -1,9 +1,6 @@
-"""Stacks by the names of their calls: those of many rows of answers, added up, and the call that tells each from the others."""
-import collections
-import functools
-import itertools
+"""Stacks by the names of their calls: those of many rows of answers, added up."""
+import heapq
 import json
-import re
 import sys
 
 from hleaklib import name_of
@@ -12,20 +9,17 @@ MOST_STACKS, MOST_FRAMES = 20_000, 500_000  # that are kept to be found again
 
 # What stands before a row's stack, how its JSON begins, and what is before each next frame. Within a string the quotes would be escaped.
 STACK, FIRST, NEXT = b',"stack":', b'[{"address":"', b'},{"address":"'
-
-# Modules whose calls say little about who leaks: of Windows, in its kernel and in its programs, and of Linux.
-SYSTEM = (
-    "nt,ntoskrnl,ntkrnlmp,hal,win32k,win32kbase,win32kfull,fltmgr,wdf01000,ntdll,KERNELBASE,kernel32,user32,win32u,wow64,wow64cpu,wow64win,"
-    "ucrtbase,msvcrt,vcruntime140,verifier,vrfcore,vfbasics,libc.so.6,libc,libpthread.so.0,libpthread,ld-linux-x86-64.so.2,ld,"
-    "ld-musl-x86_64.so.1,[vdso]"
-)
+DECODER = json.JSONDecoder()
 
 
-# What a module's name can have at its end: its base, where the debugger has another module of this name too, as the ntdll of 32-bit
-# programs (ntdll_77dc0000); or its version, as files of the C library before glibc 2.34 (libc-2.31.so).
-ENDING = re.compile(r"(?:_[0-9a-f]{8,16}|-2\.\d+\.so)$")
-# What the line of a stack shows of its calls: at most one each.
-Line = collections.namedtuple("Line", "before telling caller")
+def frames_of(text):
+    """The frames of a stack by its JSON: of each the JSON behind its first quotes."""
+    return text[len(FIRST) : -2].split(NEXT) if text != b"[]" else []
+
+
+def frame_of(text):
+    """The fields of such a frame."""
+    return DECODER.raw_decode(f'{{"address":"{text.decode()}}}')[0]  # (in half the time of json.loads)
 
 
 class Stack:
@@ -38,16 +32,11 @@ class Stack:
 
 
 class Names(dict):
-    """The name of each frame by its JSON behind FIRST. Most frames are in many stacks, and each is read once."""
+    """The name of each frame by its JSON. Most frames are in many stacks, and each is read once."""
 
     def __missing__(self, text):
-        name = self[text] = sys.intern(name_of(json.loads(FIRST[1:] + text + b"}"), False))
+        name = self[text] = sys.intern(name_of(frame_of(text), False))
         return name
-
-    def of(self, text):
-        """The names of the calls of a stack."""
-        frames = text[len(FIRST) : -2].split(NEXT) if text != b"[]" else ()
-        return tuple(map(self.__getitem__, frames))
 
 
 class Rows:
@@ -56,51 +45,51 @@ class Rows:
     def __init__(self):
         self.stacks, self.names = {}, Names()
 
-    def __call__(self, line):
-        """The fields of a row."""
-        if STACK not in line:
-            return json.loads(line)
-        head, stack = self.parted(line)
-        row = json.loads(head + b"}")
-        row["stack"] = stack
-        return row
-
-    def parted(self, line):
-        """The JSON of a row before its stack, which is the last field, and the stack."""
-        head, _, text = line.partition(STACK)
-        return head, self.stack(text)
+    def read(self, lines):
+        """The fields of rows."""
+        heads, stacks = [], []
+        for line in lines:
+            head, mark, text = line.partition(STACK)
+            heads.append(head + b"}" if mark else head)
+            stacks.append(self.stack(text) if mark else None)
+        rows = json.loads(b"[" + b",".join(heads) + b"]")
+        for row, stack in zip(rows, stacks):
+            if stack:
+                row["stack"] = stack
+        return rows
 
     def stack(self, text):
         """The stack with this JSON, behind which the rest of its line stands."""
-        return self.stacks.get(text) or self.read(text)
+        return self.stacks.get(text) or self.added(text)
 
-    def read(self, text):
+    def added(self, text):
         if len(self.stacks) >= MOST_STACKS:
             self.stacks.clear()
         if len(self.names) >= MOST_FRAMES:
             self.names.clear()
         own = text.rstrip()[:-1]
-        stack = self.stacks[text] = Stack(own, self.names.of(own))
+        stack = self.stacks[text] = Stack(own, tuple(map(self.names.__getitem__, frames_of(own))))
         return stack
 
 
 class Site:
-    """All stacks whose calls have these names: how often each comes, and for which key, such as a process."""
+    """All stacks whose calls have these names: how many rows or handles they come to, by stack and by key, such as a process."""
+
+    __slots__ = ("names", "count", "stacks", "keys")
 
     def __init__(self, names):
-        self.names = names
-        self.stacks, self.keys = collections.Counter(), collections.Counter()
-
-    @property
-    def count(self):
-        return sum(self.keys.values())
+        self.names, self.count, self.stacks, self.keys = names, 0, {}, {}
 
     def texts(self):
-        """How often each stack comes, by its JSON."""
-        texts = collections.Counter()
+        """The stacks by their JSON, those that come most often first, and how often each comes."""
+        texts = {}
         for stack, count in self.stacks.items():
-            texts[stack.text] += count
-        return texts
+            texts[stack.text] = texts.get(stack.text, 0) + count
+        return sorted(texts.items(), key=lambda it: -it[1])
+
+    def greatest_keys(self, most):
+        """The first keys of those with the greatest counts, each with its count."""
+        return heapq.nsmallest(most, self.keys.items(), key=lambda it: -it[1])
 
 
 class Sites:
@@ -118,85 +107,30 @@ class Sites:
         site = self.site_of.get(stack)
         if site is None:
             site = self.site_of[stack] = self.site(stack.names)
-        stacks, keys = site.stacks, site.keys
-        stacks[stack] = stacks.get(stack, 0) + count  # (a += would ask the counter for what it hasn't, which takes longer)
-        keys[key] = keys.get(key, 0) + count
-
-    def add_keys(self, stack, counts):
-        """Adds a stack that comes so often for each of these keys."""
-        site = self.site(stack.names)
-        site.stacks[stack] += sum(counts.values())
-        site.keys.update(counts)
+        site.count += count
+        site.stacks[stack] = site.stacks.get(stack, 0) + count
+        site.keys[key] = site.keys.get(key, 0) + count
 
     def add_all(self, others):
         """Adds the sites of another list."""
         for other in others.sites.values():
             site = self.site(other.names)
-            site.stacks.update(other.stacks)
-            site.keys.update(other.keys)
+            for of, its in ((site.stacks, other.stacks), (site.keys, other.keys)):
+                for key, count in its.items():
+                    of[key] = of.get(key, 0) + count
+            site.count += other.count
 
     def greatest(self, but=frozenset()):
         """All but those of some names, the greatest counts first, and then by their names."""
-        return sorted((site for site in self.sites.values() if site.names not in but), key=lambda site: (-site.count, site.names))
+        return sorted((site for site in self.sites.values() if site.names not in but), key=order_of)
+
+    def first_greatest(self, most, but=frozenset()):
+        """The same, where only the first ones are in this order."""
+        sites = [site for site in self.sites.values() if site.names not in but]
+        first = heapq.nsmallest(most, sites, key=order_of)
+        before = {site.names for site in first}
+        return first + [site for site in sites if site.names not in before]
 
 
-def tester_of(modules):
-    """Tells whether a call is of one of these modules, of which the letters may be of either case."""
-    system = {module.strip().lower() for module in modules.split(",")}
-
-    @functools.lru_cache(None)
-    def is_system(name):
-        module, mark, _ = name.partition("!")
-        return bool(mark) and (module.lower() in system or ENDING.sub("", module.lower()) in system)
-
-    return is_system
-
-
-def depths_of(paths):
-    """How many names of each path, from its first one on, tell it from all the others; all of them where another begins as it does."""
-    ordered = sorted(paths)  # so that the paths that begin most alike are neighbours
-    common = [0, *map(common_of, ordered, ordered[1:]), 0]
-    return {path: min(1 + max(common[at : at + 2]), len(path)) for at, path in enumerate(ordered)}
-
-
-def common_of(path, other):
-    """How many names two paths have in common, from their first one on."""
-    return next((at for at, (name, its) in enumerate(zip(path, other)) if name != its), min(len(path), len(other)))
-
-
-def told_apart(stacks, is_system):
-    """The line of each stack: the first call in which it differs from all the others, of those that a line shows. Before it stands the
-    innermost of these, or where stacks differ in other calls alone, such a call; else its caller comes behind it."""
-    shared, alike = set(shared_by(stacks)), collections.defaultdict(list)
-    for names in stacks:
-        alike[path_of(names, shared, is_system)].append(names)
-    depths, lines = depths_of(list(alike)), {}
-    for path, group in alike.items():
-        differing = depths_of(group) if len(group) > 1 else {}
-        for names in group:
-            at = differing.get(names, 0)
-            lines[names] = line_of(path, max(depths[path] - 1, 0), names[at - 1 : at])
-    return lines
-
-
-def path_of(names, shared, is_system):
-    """The calls that a line shows: neither the system's nor those that all stacks have, but where there are no others."""
-    own = tuple(itertools.filterfalse(is_system, names)) or names
-    return tuple(itertools.filterfalse(shared.__contains__, own)) or own
-
-
-def line_of(path, at, other):
-    """The line of the stacks of a path, which the call at a place tells from others, and another call from stacks of the same path."""
-    before = [name for name in other + path[: min(at, 1)] if name != path[at]][:1]
-    return Line(before, path[at : at + 1], [] if before else path[at + 1 : at + 2])
-
-
-def shared_by(stacks):
-    """The calls that all stacks have, where there are several stacks, in the order of the first."""
-    first = next(iter(stacks), ())
-    common = set(first) if len(stacks) > 1 else set()
-    for names in stacks:
-        common.intersection_update(names)
-        if not common:
-            break
-    return [name for name in dict.fromkeys(first) if name in common]
+def order_of(site):
+    return -site.count, site.names

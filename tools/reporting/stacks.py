@@ -46,7 +46,7 @@ def note_on_curves(material):
     if not material.moments:
         return ""
     first, middle = material.moments[0][0], material.middle()[0]
-    curves = f"Curves have {len(material.moments) + 1} moments from sequence {first:,} to {material.last:,}"
+    curves = f"Curves have {len(material.moments) + 1} moments from sequence {first:,} to {material.trace.last:,}"
     return note(f"{curves}; a number with a sign is the difference to sequence {middle:,}. Both are of processes with open handles.")
 
 
@@ -55,7 +55,7 @@ def row_of(material, site, with_curve):
     growth, numbers = material.growth_of(site), (f"{site.count:,}", share_of(site.count, material.whole))
     difference = element("span", f"{growth:+,}", class_="growth", title="since the middle") if growth else ""
     curve = small_curve_of(material.points_of(site)) if with_curve and material.moments else ""
-    first = site.keys.most_common(MOST_NAMES)
+    first = site.greatest_keys(MOST_NAMES)
     more = f" and {len(site.keys) - len(first):,} more" if len(site.keys) > len(first) else ""
     where = ", ".join(f"{process} ({count:,})" for process, count in first)
     told = element("p", f"In {'process' if len(site.keys) == 1 else 'processes'} {where}{more}.")
@@ -66,7 +66,7 @@ def row_of(material, site, with_curve):
 
 def graph_of(material):
     stacks = ((site.names, site.count) for site in material.leaking)
-    picture, small = flame_of(stacks, material.is_system, Room(BYTES_OF_GRAPH))
+    picture, small = flame_of(stacks, material.system, Room(BYTES_OF_GRAPH))
     return joined(
         note("A call is as wide as its share of the open handles, and stands below its caller. The system's calls are grey."),
         CLICKS,
@@ -79,7 +79,7 @@ def changes_of(material):
     """Which stacks leak more and which less than in the older answer."""
     before, after = material.before(), collections.Counter({site.names: site.count for site in material.leaking})
     more, less = changes(before, after)
-    lines, room = Lines(sorted({*before, *after}), material.is_system), Room(BYTES_OF_CHANGES)
+    lines, room = Lines(sorted({*before, *after}), material.system), Room(BYTES_OF_CHANGES)
     parts = [note(f"{counted(sum(before.values()), 'handle')} before, in {material.given.before}, and {sum(after.values()):,} now.")]
     for title, sign, changed in (("More than before", "+", more), ("Less than before", "−", less)):
         rows = (change_of(f"{sign}{difference:,}", names, before, after, lines) for difference, names in changed)

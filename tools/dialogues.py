@@ -1,0 +1,82 @@
+"""Dialogues with the program, for tools that ask it many questions."""
+import collections
+import contextlib
+import fcntl
+import itertools
+import os
+import re
+import subprocess
+import sys
+
+from hleaklib import Ended
+
+PIPE_BYTES, MOST_PIPE_BYTES = 1 << 16, 1 << 20  # that a pipe holds, and that it may be made to hold
+MOST_AHEAD = 256  # questions that wait for their answers; their lines have to fit into a pipe
+
+
+class Dialogue:
+    """`hleak ask` over files, which it reads once."""
+
+    def __init__(self, program, words, is_first=True):
+        pipes = {"stdin": subprocess.PIPE, "stdout": subprocess.PIPE, "stderr": None if is_first else subprocess.PIPE}
+        self.hleak = subprocess.Popen([program, "ask", *words], bufsize=PIPE_BYTES, **pipes)
+        with contextlib.suppress(AttributeError, OSError):  # (before Python 3.10, and where the system has no room)
+            fcntl.fcntl(self.hleak.stdout, fcntl.F_SETPIPE_SZ, MOST_PIPE_BYTES)
+
+    def end(self):
+        with contextlib.suppress(BrokenPipeError):
+            self.hleak.stdin.close()
+        for pipe in filter(None, (self.hleak.stdout, self.hleak.stderr)):
+            pipe.close()  # (it would wait for the rest of an answer to be read)
+        self.hleak.wait()
+
+    def ask(self, question):
+        with contextlib.suppress(BrokenPipeError):
+            self.hleak.stdin.write(f"{question} --json\n".encode())
+            self.hleak.stdin.flush()
+
+    def lines(self):
+        """The lines of the next answer in JSON, one by one, as bytes. All have to be taken before those of another one."""
+        for line in self.hleak.stdout:
+            if line == b"\n":  # ends the answer
+                return
+            yield line
+        if self.hleak.stderr:
+            sys.stderr.write(self.hleak.stderr.read().decode(errors="replace"))
+        raise Ended(self.hleak.wait())
+
+
+def side_by_side(files, most):
+    """How many dialogues may read the files side by side: more than one only of files that can be read again, where a processor is there
+    for each, and twice the memory that they take by what was measured."""
+    if not all(map(os.path.isfile, files)):
+        return 1
+    with open("/proc/meminfo", encoding="ascii") as file:
+        there = 1024 * int(re.search(r"MemAvailable: *(\d+)", file.read())[1])
+    return max(1, min(most, os.cpu_count() or 1, there // max(1, 2 * sum(map(os.path.getsize, files)))))
+
+
+class Dialogues:
+    """Dialogues over the same files, which share the questions. What is wrong with the files, the first one says."""
+
+    def __init__(self, program, words, count):
+        self.dialogues = [Dialogue(program, words, not at) for at in range(count)]
+
+    def __enter__(self):
+        return self
+
+    def __exit__(self, *_):
+        for dialogue in self.dialogues:
+            dialogue.end()
+
+    def answers(self, questions):
+        """The lines of the answers to questions, in their order. Questions are asked ahead, so that an answer is made while those before
+        it are read."""
+        waiting = collections.deque()
+        for dialogue, question in zip(itertools.cycle(self.dialogues), questions):
+            if len(waiting) == MOST_AHEAD:
+                yield waiting.popleft().lines()
+            dialogue.ask(question)
+            waiting.append(dialogue)
+        while waiting:
+            yield waiting.popleft().lines()

@@ -1,0 +1,156 @@
+"""A trace that a report is about: what the program answers about it."""
+import collections
+
+from hleaklib import Fault
+
+from .questions import MOST_HANDLES, Questions
+from .sites import Sites
+
+MOST_PROCESSES = 1000  # whose stacks are asked for, those with most open handles
+MOST_QUESTIONS = 48  # on how many handles stacks had at moments, while each process is asked by itself
+
+
+class Trace:
+    """A trace as of the moment that was given, or of its end. What sections tell is asked for before any is made, in two turns, so that the
+    program has always something to answer."""
+
+    def __init__(self, dialogues, given):
+        self.dialogues, self.questions, self.answers, self.own = dialogues, Questions(given), {}, {}
+        self.since, self.top = given.since, given.top
+        self.head, rows = self.summary(max(MOST_PROCESSES, given.top))
+        self.until = self.questions.until = self.head.get("until")
+        before = self.head["gaps"] + self.head["processes"]
+        self.gaps, every = rows[: self.head["gaps"]], rows[self.head["gaps"] : before]
+        self.processes = [row for row in every if given.process is None or row["process"] in given.process]
+        self.found = [row for row in self.processes if row["outstanding"] or row["bad"]]
+        self.objects = [] if given.process else rows[before : before + given.top]
+        self.numbers_shown = {row["process"] for row in self.shown()}
+        for number in given.process or ():
+            if all(row["process"] != number for row in every):
+                raise Fault(f"process {number}", "it has no open, close or bad reference here, or none up to --until")
+        self.ask([*map(self.questions.growth, self.shown()), *(self.questions.tags(row["object"]) for row in self.objects)])
+        points = self.growth(self.found[0]) if self.found else [(0, 0)]
+        self.first, self.last = points[0][0], points[-1][0]
+        self.ask([*self.questions_of_processes(), *self.questions_of_moments(), *self.questions_of_objects()])
+
+    def ask(self, questions):
+        """Asks questions, and keeps what is taken of their answers."""
+        for question, lines in zip(questions, self.dialogues.answers(question.text for question in questions)):
+            head = next(lines, None)
+            if head is None:
+                raise Fault(question.text, "the program has no answer")
+            self.answers[question.text] = question.read(head, lines)
+
+    def told(self, question):
+        """What was taken of the answer to a question."""
+        if question.text not in self.answers:
+            self.ask([question])
+        return self.answers[question.text]
+
+    def summary(self, most):
+        """The summary with all gaps and processes. There may be many objects, so only the first ones are asked for where that is enough."""
+        head, rows = self.told(self.questions.summary(most))
+        return (head, rows) if head["processes"] <= most else self.told(self.questions.summary(None))
+
+    # ---- what is asked ahead
+
+    def questions_of_processes(self):
+        for process in self.shown():
+            if process["outstanding"]:
+                yield self.questions.handles(process)
+            if process["bad"]:
+                yield self.questions.bad(process)
+        for process in self.asked():
+            if not self.is_told_by_handles(process) and self.is_after(process, self.until):
+                yield self.questions.leaks(process, self.until)
+
+    def questions_of_moments(self):
+        for moment in self.moments():
+            for process in self.asked():
+                if self.is_after(process, moment):
+                    yield self.questions.leaks(process, moment)
+
+    def questions_of_objects(self):
+        for row in self.objects:
+            for tag in self.tags_shown(row["object"]):
+                yield self.questions.uses(row["object"], tag)
+
+    # ---- what is told of processes
+
+    def shown(self):
+        """The processes of which all is told."""
+        return self.found[: self.top]
+
+    def asked(self):
+        """The processes that are asked for the stacks of their open handles."""
+        return [process for process in self.processes if process["outstanding"]][:MOST_PROCESSES]
+
+    def is_told_by_handles(self, process):
+        """Whether the open handles of a process are looked at one by one, and are not too many: they tell the stacks too."""
+        return process["outstanding"] <= MOST_HANDLES and process["process"] in self.numbers_shown
+
+    def is_after(self, process, moment):
+        """Whether a moment comes after the one from which on handles of a process count."""
+        since = self.questions.since_of(process)
+        return None in (since, moment) or since < moment
+
+    def leaks(self, process, moment):
+        """The stacks of a process with open handles as of a moment, and how many handles each has."""
+        return self.told(self.questions.leaks(process, moment)) if self.is_after(process, moment) else []
+
+    def sites_of(self, process):
+        """The stacks of a process with open handles."""
+        number = process["process"]
+        if number not in self.own:
+            self.own[number] = sites = Sites()
+            if self.is_told_by_handles(process):
+                leaks = [(row["stack"], 1) for rows in self.handles(process).values() for row in rows]
+            else:
+                leaks = self.leaks(process, self.until) if process["outstanding"] else []
+            for stack, count in leaks:
+                sites.add(stack, number, count)
+        return self.own[number]
+
+    def sites(self):
+        """Every stack that leaves handles open, over all processes. (A question for each of them, as there is none over all.)"""
+        sites = Sites()
+        for process in self.asked():
+            sites.add_all(self.sites_of(process))
+        return sites
+
+    def moments(self):
+        """Moments between the first sequence and the last one: 11, or as few as make the middle alone where many processes are asked."""
+        processes = max(len(self.asked()), 1)
+        between = next((count for count in (11, 7, 5, 3) if count * processes <= MOST_QUESTIONS), 1)
+        moments = {self.first + at * (self.last - self.first) // (between + 1) for at in range(1, between + 1)}
+        return sorted(moments - {self.last})
+
+    def counts_at(self, moment):
+        """How many handles the stacks with each names had as of a moment, in the processes that have open handles in the end."""
+        counts = collections.Counter()
+        for process in self.asked():
+            for stack, handles in self.leaks(process, moment):
+                counts[stack.names] = counts.get(stack.names, 0) + handles
+        return counts
+
+    def growth(self, process):
+        return self.told(self.questions.growth(process))
+
+    def handles(self, process):
+        return self.told(self.questions.handles(process)) if process["outstanding"] else {}
+
+    def bad(self, process):
+        return self.told(self.questions.bad(process))
+
+    # ---- what is told of objects
+
+    def tags(self, number):
+        return self.told(self.questions.tags(number))
+
+    def tags_shown(self, number):
+        """The first of an object's tags that don't balance: their stacks are shown, of some as many tags as the lists have rows."""
+        unbalanced = [tag for tag in self.tags(number) if tag["over"] or tag["under"]]
+        return unbalanced[: max(1, self.top // len(self.objects))]
+
+    def uses(self, number, tag):
+        return self.told(self.questions.uses(number, tag))

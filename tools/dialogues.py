@@ -5,19 +5,23 @@ import fcntl
 import itertools
 import os
 import re
+import stat
 import subprocess
 import sys
+import time
 
 from hleaklib import Ended
 
 PIPE_BYTES, MOST_PIPE_BYTES = 1 << 16, 1 << 20  # that a pipe holds, and that it may be made to hold
+MOST_DIALOGUES, MOST_WORKERS = 2, 4
+SECONDS_AT_REST = 5  # since a file was written to: a trace that goes on has an event each second
 MOST_AHEAD = 256  # questions that wait for their answers; their lines have to fit into a pipe
 
 
 class Dialogue:
     """`hleak ask` over files, which it reads once."""
 
-    def __init__(self, program, words, is_first=True):
+    def __init__(self, program, words, is_first):
         pipes = {"stdin": subprocess.PIPE, "stdout": subprocess.PIPE, "stderr": None if is_first else subprocess.PIPE}
         self.hleak = subprocess.Popen([program, "ask", *words], bufsize=PIPE_BYTES, **pipes)
         with contextlib.suppress(AttributeError, OSError):  # (before Python 3.10, and where the system has no room)
@@ -41,26 +45,39 @@ class Dialogue:
             if line == b"\n":  # ends the answer
                 return
             yield line
-        if self.hleak.stderr:
+        if self.hleak.stderr:  # what the first one says too, but for this
             sys.stderr.write(self.hleak.stderr.read().decode(errors="replace"))
         raise Ended(self.hleak.wait())
 
 
-def side_by_side(files, most):
-    """How many dialogues may read the files side by side: more than one only of files that can be read again, where a processor is there
-    for each, and twice the memory that they take by what was measured."""
-    if not all(map(os.path.isfile, files)):
+def is_at_rest(path):
+    """Whether a file can be read again, and is the same then: nobody seems to be writing to it."""
+    told = os.stat(path)
+    return stat.S_ISREG(told.st_mode) and time.time() - told.st_mtime > SECONDS_AT_REST
+
+
+def number_of(files):
+    """How many dialogues may read the files: several where a processor is there for each, and twice the memory that they take by what was
+    measured."""
+    if not all(map(is_at_rest, files)):
         return 1
     with open("/proc/meminfo", encoding="ascii") as file:
         there = 1024 * int(re.search(r"MemAvailable: *(\d+)", file.read())[1])
-    return max(1, min(most, os.cpu_count() or 1, there // max(1, 2 * sum(map(os.path.getsize, files)))))
+    return max(1, min(MOST_DIALOGUES, os.cpu_count() or 1, there // max(1, 2 * sum(map(os.path.getsize, files)))))
 
 
 class Dialogues:
-    """Dialogues over the same files, which share the questions. What is wrong with the files, the first one says."""
+    """Dialogues over the same files, which share the questions. First there is one."""
 
-    def __init__(self, program, words, count):
-        self.dialogues = [Dialogue(program, words, not at) for at in range(count)]
+    def __init__(self, program, options, files):
+        workers = f"--workers={min(os.cpu_count() or 1, MOST_WORKERS)}"
+        self.command, self.files = (program, [workers, *options, "--", *files]), files
+        self.dialogues = [Dialogue(*self.command, is_first=True)]
+
+    def add(self):
+        """Begins others, once the first one has answered: then nothing is wrong with the files, and the program is built."""
+        more = number_of(self.files) - len(self.dialogues)
+        self.dialogues += [Dialogue(*self.command, is_first=False) for _ in range(more)]
 
     def __enter__(self):
         return self

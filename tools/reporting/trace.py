@@ -19,6 +19,7 @@ class Trace:
         self.since, self.top = given.since, given.top
         self.head, rows = self.summary(max(MOST_PROCESSES, given.top))
         self.until = self.questions.until = self.head.get("until")
+        dialogues.add()
         before = self.head["gaps"] + self.head["processes"]
         self.gaps, every = rows[: self.head["gaps"]], rows[self.head["gaps"] : before]
         self.processes = [row for row in every if given.process is None or row["process"] in given.process]

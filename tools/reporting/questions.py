@@ -33,9 +33,6 @@ class Questions:
         """The sequence after which handles of a process count, or None."""
         return process["mark"] if self.since == "snapshot" else self.since
 
-    def read_rows(self, _, lines):
-        return self.rows.read(lines)
-
     def summary(self, most):
         """The summary with all gaps, and at most so many processes and objects."""
         return self.about("summary" + ("" if most is None else f" --top {most}"), self.read_summary)

@@ -1,6 +1,7 @@
 //! Why a call gives no answer.
 
 ghost use Rattle.std.specs.Prelude.{◌≡◌, ◌↔◌, ◌⊎◌, IsTrue};
+ghost use Rattle.htl_inputs.specs.declared.fault.RunFault.TheVariants as runs;
 ghost use Rattle.allocation_trials.specs.Refusals.{IsOutOfMemory};
 ghost use Rattle.htl_analyst.specs.declared.fault.AnalystFault.TheVariants as analysts;
 ghost use Rattle.htl_analyst.specs.declared.fault.MergeFault.TheVariants as merges;
@@ -9,7 +10,6 @@ ghost use Rattle.htl_case.specs.declared.fault.CaseFault.TheVariants as cases;
 ghost use Rattle.htl_case.specs.declared.fault.PlayFault.TheVariants as plays;
 ghost use Rattle.htl_exchange.specs.declared.fault.StartFault.TheVariants as starts;
 ghost use Rattle.htl_exchange.specs.declared.fault.SurveyFault.TheVariants as surveys;
-ghost use Rattle.htl_main.specs.declared.fault.RunFault.TheVariants as runs;
 ghost use Rattle.htl_samples.specs.declared.fault.SampleFault.TheVariants as samples;
 ghost use Rattle.htl_segment.specs.declared.fault.Fault.TheVariants as segments;
 ghost use Rattle.htl_segment.specs.declared.hexadecimal.HexFault.TheVariants as digits;

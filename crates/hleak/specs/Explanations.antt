@@ -1,11 +1,11 @@
 -- What a person reads after the line of a fault (this project's own).
 use Rattle.std.specs.Prelude.{◌++◌, ℕ, List, Option, None, Some, codes}
 use Rattle.std.specs.Fmt.{decimal}
+use Rattle.htl_inputs.specs.declared.fault.RunFault.{RunFault}
+use Rattle.htl_inputs.specs.declared.fault.RunFault.TheVariants.{Workers, Segment, Hex, Text, Case, Incomplete, NoSubject, Symbols, Read}
+use Rattle.htl_inputs.specs.declared.fault.RunFault.TheVariants.{SymbolsRead, Write, Memory, NoThread, UnknownCut}
 use Rattle.htl_dialogue.specs.declared.dialogue.DialogueFault.{DialogueFault}
 use Rattle.htl_dialogue.specs.declared.dialogue.DialogueFault.TheVariants as stops
-use Rattle.htl_main.specs.declared.fault.RunFault.{RunFault}
-use Rattle.htl_main.specs.declared.fault.RunFault.TheVariants.{Workers, Segment, Hex, Text, Case, Incomplete, NoSubject, Symbols, Read}
-use Rattle.htl_main.specs.declared.fault.RunFault.TheVariants.{SymbolsRead, Write, Memory, NoThread, UnknownCut}
 use Rattle.htl_main.specs.declared.origin.Between.{Between}
 use Rattle.htl_main.specs.declared.origin.Between.TheVariants.{Two}
 use Rattle.htl_program.specs.Words.{free_memory}

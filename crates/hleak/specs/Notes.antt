@@ -1,8 +1,8 @@
 -- The notes that a person reads beside an answer (this project's own).
 use Rattle.std.specs.Fmt.{decimal}
 use Rattle.std.specs.Prelude.{◌==◌, ◌++◌, [], ℕ, Bool, List, Option, None, Some, codes, if◌then◌else◌}
+use Rattle.htl_inputs.specs.declared.cuts.CutInputs.{CutInputs}
 use Rattle.htl_main.specs.declared.coverage.Coverage.{Coverage}
-use Rattle.htl_main.specs.declared.cut_inputs.CutInputs.{CutInputs}
 use Rattle.htl_program.specs.AskedAbout.{subject_text}
 use Rattle.htl_program.specs.declared.lack.Lack.{Lack}
 use Rattle.htl_program.specs.declared.lack.Lack.TheVariants as lacks

@@ -4,10 +4,10 @@ use Rattle.std.specs.Option.{option_map_or}
 use Rattle.htl_case.specs.declared.fault.CaseFault.TheVariants.{Empty}
 use Rattle.htl_command.specs.declared.command.Command.{Command}
 use Rattle.htl_command.specs.declared.command.Command.TheVariants as wish
+use Rattle.htl_inputs.specs.declared.fault.RunFault.{RunFault}
+use Rattle.htl_inputs.specs.declared.fault.RunFault.TheVariants.{Segment, Hex, Text, Case, Symbols, Read}
+use Rattle.htl_inputs.specs.declared.fault.RunFault.TheVariants.{SymbolsRead, UnknownCut, Write}
 use Rattle.htl_main.specs.Subjects.{since_of}
-use Rattle.htl_main.specs.declared.fault.RunFault.{RunFault}
-use Rattle.htl_main.specs.declared.fault.RunFault.TheVariants.{Segment, Hex, Text, Case, Symbols, Read}
-use Rattle.htl_main.specs.declared.fault.RunFault.TheVariants.{SymbolsRead, UnknownCut, Write}
 use Rattle.htl_question.specs.Questions.{subject_of as asks_about}
 use Rattle.htl_question.specs.declared.subject.Subject.{Subject}
 use Rattle.hleak.specs.declared.explaining.task.Task.{Task}

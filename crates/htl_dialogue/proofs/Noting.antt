@@ -3,10 +3,10 @@ use Rattle.std.proofs.Common.{◌≡◌, ◌∙◌, Bool, true, false, List, [],
 use Rattle.std.specs.Option.{option_or}
 use Rattle.std.specs.Prelude.{Option, Result}
 use Rattle.htl_command.specs.declared.question.Job.{Job}
+use Rattle.htl_inputs.specs.declared.fault.RunFault.{RunFault}
 use Rattle.htl_dialogue.specs.Notes.{AreTold, AreToldOf, Note, after_notes, answered, awaits, begins, declines, first_fault, reads, refuses}
 use Rattle.htl_dialogue.specs.Notes.{told_after}
 use Rattle.htl_main.specs.declared.completed.Absence.{Absence}
-use Rattle.htl_main.specs.declared.fault.RunFault.{RunFault}
 use Rattle.htl_main.specs.declared.printing.AnswerText.{AnswerText}
 use Rattle.htl_dialogue.specs.Sayings.{Saying, asks, nothing, quits, reads as says_reads, wrong}
 

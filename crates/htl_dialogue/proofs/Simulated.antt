@@ -3,6 +3,7 @@ use Rattle.std.proofs.Common.{◌≡◌, ℕ, Bool, true, false, List, [], ◌�
 use Rattle.std.specs.Prelude.{Option, Result}
 use Rattle.htl_command.specs.declared.fault.ParseFault.{ParseFault}
 use Rattle.htl_command.specs.declared.question.Job.{Job}
+use Rattle.htl_inputs.specs.declared.fault.RunFault.{RunFault}
 use Rattle.htl_dialogue.specs.Dialogues.{Answers, AreExchanges, Converses, GotAt, IsReplied, DialogueStops, asked_lines}
 use Rattle.htl_dialogue.specs.Notes.{AreTold, AreToldOf, IsFaultOf, Note}
 use Rattle.htl_dialogue.specs.Sayings.{Saying, asks, nothing, quits, reads, saying_in, wrong}
@@ -11,7 +12,6 @@ use Rattle.htl_dialogue.specs.declared.dialogue.DialogueFault.{DialogueFault}
 use Rattle.htl_dialogue.specs.declared.dialogue.DialogueFault.TheVariants.{Questions, Write, NoMemory}
 use Rattle.htl_main.specs.declared.adding.Added.{Added}
 use Rattle.htl_main.specs.declared.completed.Absence.{Absence}
-use Rattle.htl_main.specs.declared.fault.RunFault.{RunFault}
 use Rattle.htl_main.specs.declared.printing.AnswerText.{AnswerText}
 use Rattle.htl_main.specs.declared.refused.Refused.{Refused}
 

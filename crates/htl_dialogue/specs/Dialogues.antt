@@ -6,6 +6,7 @@ use Rattle.std.specs.List.{list_any}
 use Rattle.std.specs.Io.KnownBytes.{Appends, Consumes}
 use Rattle.htl_command.specs.declared.fault.ParseFault.{ParseFault}
 use Rattle.htl_command.specs.declared.question.Job.{Job}
+use Rattle.htl_inputs.specs.declared.fault.RunFault.{RunFault}
 use Rattle.htl_dialogue.specs.Lines.{lines_of_dialogue}
 use Rattle.htl_dialogue.specs.Notes.{AreTold, IsFaultOf, Note, after_notes, awaits, declined, first_fault, refuses}
 use Rattle.htl_dialogue.specs.Notes.{reads as notes_reading}
@@ -16,7 +17,6 @@ use Rattle.htl_dialogue.specs.declared.dialogue.DialogueFault.TheVariants.{Quest
 use Rattle.htl_main.specs.Adding.{added_text}
 use Rattle.htl_main.specs.declared.adding.Added.{Added}
 use Rattle.htl_main.specs.declared.completed.Absence.{Absence}
-use Rattle.htl_main.specs.declared.fault.RunFault.{RunFault}
 use Rattle.htl_main.specs.declared.printing.AnswerText.{AnswerText}
 use Rattle.htl_main.specs.declared.refused.Refused.{Refused}
 

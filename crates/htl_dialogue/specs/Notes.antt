@@ -4,12 +4,12 @@ use Rattle.htl_command.specs.Refusals.{IsUsageWith, RefusesQuestion}
 use Rattle.htl_command.specs.declared.fault.ParseFault.{ParseFault}
 use Rattle.htl_command.specs.declared.fault.ParseFault.TheVariants.{Memory}
 use Rattle.htl_command.specs.declared.question.Job.{Job}
+use Rattle.htl_inputs.specs.declared.fault.RunFault.{RunFault}
 use Rattle.htl_dialogue.specs.Lines.{arguments_of}
 use Rattle.htl_dialogue.specs.Sayings.{Saying, asks_forgotten, is_read, is_readable, meant, saying_of}
 use Rattle.htl_dialogue.specs.Sayings.{nothing, quits, asks, reads as says_reads, wrong}
 use Rattle.htl_main.specs.declared.adding.Added.{Added}
 use Rattle.htl_main.specs.declared.completed.Absence.{Absence}
-use Rattle.htl_main.specs.declared.fault.RunFault.{RunFault}
 use Rattle.htl_main.specs.declared.printing.AnswerText.{AnswerText}
 use Rattle.htl_main.specs.declared.refused.Refused.{Refused}
 use Rattle.htl_main.specs.declared.remarks.Remarks.{Remarks}

@@ -7,6 +7,7 @@ use Rattle.htl_device.specs.declared.whole.ReadFault.TheVariants as reads
 use Rattle.htl_command.specs.declared.fault.ParseFault.{ParseFault}
 use Rattle.htl_command.specs.declared.fault.ParseFault.TheVariants.{Memory}
 use Rattle.htl_command.specs.declared.question.Job.{Job}
+use Rattle.htl_inputs.specs.declared.fault.RunFault.{RunFault}
 use Rattle.htl_dialogue.specs.Dialogues.{Answers, IsReplied, is_wrong}
 use Rattle.htl_dialogue.specs.Notes.{AreTold, AreToldOf, IsFaultOf, Note, after_notes, first_fault}
 use Rattle.htl_dialogue.specs.Sayings.{saying}
@@ -16,7 +17,6 @@ use Rattle.htl_dialogue.specs.declared.dialogue.DialogueFault.TheVariants.{Quest
 use Rattle.htl_dialogue.specs.declared.saying.Said.{Said}
 use Rattle.htl_main.specs.declared.adding.Added.{Added}
 use Rattle.htl_main.specs.declared.completed.Absence.{Absence}
-use Rattle.htl_main.specs.declared.fault.RunFault.{RunFault}
 use Rattle.htl_main.specs.declared.printing.AnswerText.{AnswerText}
 use Rattle.htl_main.specs.declared.refused.Refused.{Refused}
 use Rattle.htl_main.specs.declared.remarks.Remarks.{Remarks}

@@ -18,25 +18,25 @@ use Rattle.htl_case.proofs.KeyOrder.{before_before, not_itself}
 use Rattle.htl_command.specs.declared.question.InputForm.{InputForm}
 use Rattle.htl_command.specs.declared.question.Job.{Job}
 use Rattle.htl_command.specs.declared.question.Setting.{Setting}
-use Rattle.htl_main.specs.Causes.{IsCauseAfter}
-use Rattle.htl_main.specs.CutInputs.{AreCutEnds, Decoding, decoding}
-use Rattle.htl_main.specs.Inputs.{DecodeAll, Decodes, IsReportedOfInput, StopsAtInput}
-use Rattle.htl_main.specs.declared.cut_inputs.CutEnd.{CutEnd}
-use Rattle.htl_main.proofs.CutLaws.{ends_whole}
-use Rattle.htl_main.proofs.EndLaws.{nothing_left}
+use Rattle.htl_inputs.specs.CutInputs.{AreCutEnds, Decoding, decoding}
+use Rattle.htl_inputs.specs.Inputs.{DecodeAll, Decodes, IsReportedOfInput, StopsAtInput, HasSegment}
+use Rattle.htl_inputs.specs.declared.cuts.CutEnd.{CutEnd}
+use Rattle.htl_inputs.proofs.CutLaws.{ends_whole}
+use Rattle.htl_inputs.proofs.EndLaws.{nothing_left}
+use Rattle.htl_inputs.specs.Spans.{AreSpans}
+use Rattle.htl_inputs.specs.Readings.{AreRead}
+use Rattle.htl_inputs.specs.Sources.{IsReportedAt}
+use Rattle.htl_inputs.specs.declared.decoded.InputSpan.{InputSpan}
+use Rattle.htl_inputs.specs.declared.fault.RunFault.{RunFault}
+use Rattle.htl_inputs.specs.declared.fault.RunFault.TheVariants.{Case, Hex, Memory, Read, Segment, Write}
+use Rattle.htl_inputs.proofs.InputLaws.{asked_for, decode_more}
+use Rattle.htl_inputs.proofs.ReadingLaws.{ill, read_then, well}
+use Rattle.htl_main.specs.Causes.{IsCauseAfter, IsSourcesCause}
 use Rattle.htl_main.specs.Loading.{in_setting}
-use Rattle.htl_main.specs.Origins.{HasSegment, IsBetween}
-use Rattle.htl_main.specs.Spans.{AreSpans}
+use Rattle.htl_main.specs.Origins.{IsBetween}
 use Rattle.htl_main.specs.Printed.{WorkersFit}
-use Rattle.htl_main.specs.Readings.{AreRead}
-use Rattle.htl_main.specs.Sources.{IsReportedAt, IsSourcesCause}
-use Rattle.htl_main.specs.declared.decoded.InputSpan.{InputSpan}
-use Rattle.htl_main.specs.declared.fault.RunFault.{RunFault}
-use Rattle.htl_main.specs.declared.fault.RunFault.TheVariants.{Case, Hex, Memory, Read, Segment, Write}
 use Rattle.htl_main.specs.declared.origin.Between.TheVariants.{Nothing}
 use Rattle.htl_main.proofs.AfterDecoding.{not_write, reads_then, some_job, sources_cause_of}
-use Rattle.htl_main.proofs.InputLaws.{asked_for, decode_more}
-use Rattle.htl_main.proofs.ReadingLaws.{ill, read_then, well}
 
 -- ---- how many segments there are
 

@@ -5,21 +5,21 @@ use Rattle.htl_command.specs.declared.question.Format.TheVariants.{Plain}
 use Rattle.htl_command.specs.declared.question.InputForm.{InputForm}
 use Rattle.htl_command.specs.declared.question.Job.{Job}
 use Rattle.htl_question.specs.declared.question.Question.TheVariants.{Summary}
-use Rattle.htl_main.specs.CutInputs.{Decoding, IsDecoding}
-use Rattle.htl_main.specs.Inputs.{IsReportedOfInput, StopsAtInput}
+use Rattle.htl_inputs.specs.CutInputs.{Decoding, IsDecoding}
+use Rattle.htl_inputs.specs.Inputs.{IsReportedOfInput, StopsAtInput}
+use Rattle.htl_inputs.specs.Readings.{AreRead}
+use Rattle.htl_inputs.specs.Sources.{IsReportedAt}
+use Rattle.htl_inputs.specs.declared.fault.RunFault.{RunFault}
+use Rattle.htl_inputs.specs.declared.fault.RunFault.TheVariants.{Case, Hex, Incomplete, NoSubject, Segment, Symbols, Read, Write, Memory}
+use Rattle.htl_inputs.specs.declared.fault.RunFault.TheVariants.{UnknownCut}
+use Rattle.htl_inputs.proofs.ReadingLaws.{ill, well}
 use Rattle.htl_main.specs.Origins.{IsBetween}
 use Rattle.htl_main.specs.declared.origin.Between.{Between}
 use Rattle.htl_main.specs.declared.origin.Between.TheVariants.{Nothing}
 use Rattle.htl_main.specs.declared.refused.Refused.{Refused}
 use Rattle.htl_main.specs.Printed.{WorkersFit}
-use Rattle.htl_main.specs.Causes.{IsCause, IsCauseAfter}
-use Rattle.htl_main.specs.Readings.{AreRead}
-use Rattle.htl_main.specs.Sources.{IsReportedAt, IsSourcesCause}
-use Rattle.htl_main.specs.declared.fault.RunFault.{RunFault}
-use Rattle.htl_main.specs.declared.fault.RunFault.TheVariants.{Case, Hex, Incomplete, NoSubject, Segment, Symbols, Read, Write, Memory}
-use Rattle.htl_main.specs.declared.fault.RunFault.TheVariants.{UnknownCut}
+use Rattle.htl_main.specs.Causes.{IsCause, IsCauseAfter, IsSourcesCause}
 use Rattle.htl_main.proofs.LateFaults.{IsLate, read_late}
-use Rattle.htl_main.proofs.ReadingLaws.{ill, well}
 
 -- the causes of a refusal don't look at what the job asks, so this one stands for any
 pub some_job : Job

@@ -7,24 +7,23 @@ use Rattle.htl_symbols.specs.Ranges.{Range}
 use Rattle.htl_command.specs.declared.question.InputForm.{InputForm}
 use Rattle.htl_command.specs.declared.question.Job.{Job}
 use Rattle.htl_command.specs.declared.question.Setting.{Setting}
-use Rattle.htl_main.specs.Causes.{IsCause}
+use Rattle.htl_inputs.specs.CutInputs.{AreCut, Decoding, IsDecoding}
+use Rattle.htl_inputs.specs.declared.fault.RunFault.{RunFault}
+use Rattle.htl_inputs.specs.declared.fault.RunFault.TheVariants.{Memory, NoSubject, Write}
+use Rattle.htl_main.specs.Causes.{IsCause, IsSourcesCause}
 use Rattle.htl_main.specs.Coverages.{Covers, IsCoverage}
-use Rattle.htl_main.specs.CutInputs.{AreCut, Decoding, IsDecoding}
 use Rattle.htl_main.specs.Loading.{AreLoaded, AreLoadedOf, in_setting}
 use Rattle.htl_main.specs.Origins.{IsBetween}
 use Rattle.htl_main.specs.Printed.{IsText, Printed, WorkersFit}
 use Rattle.htl_main.specs.Picked.{Reports}
 use Rattle.htl_main.specs.Printing.{EndsOver, PrintsOver, ReportsOver}
 use Rattle.htl_main.specs.Runs.{IsRefusedRun}
-use Rattle.htl_main.specs.Sources.{IsSourcesCause}
 use Rattle.htl_main.specs.Remarks.{RemarksOver, ReportsRemarks}
 use Rattle.htl_main.specs.Subjects.{HasAbsence, ReportsAbsence}
 use Rattle.htl_main.specs.declared.completed.Absence.{Absence}
 use Rattle.htl_main.specs.declared.completed.Completed.{Completed}
 use Rattle.htl_main.specs.declared.coverage.Coverage.{Coverage}
 use Rattle.htl_main.specs.declared.origin.Between.TheVariants.{Nothing}
-use Rattle.htl_main.specs.declared.fault.RunFault.{RunFault}
-use Rattle.htl_main.specs.declared.fault.RunFault.TheVariants.{Memory, NoSubject, Write}
 use Rattle.htl_main.specs.declared.loading.Loaded.{Loaded}
 use Rattle.htl_main.specs.declared.remarks.Remarks.{Remarks}
 use Rattle.htl_main.proofs.LateFaults.{IsLate}

@@ -13,19 +13,18 @@ use Rattle.htl_case.specs.Cases.{IsCaseOf}
 use Rattle.htl_case.specs.Picked.{Picked, IsPickedOf}
 use Rattle.htl_command.specs.declared.question.InputForm.{InputForm}
 use Rattle.htl_command.specs.declared.question.Job.{Job}
-use Rattle.htl_main.specs.Causes.{IsCauseAfter, Prints, PrintsPart}
-use Rattle.htl_main.specs.CutInputs.{AreCutEnds, Decoding, IsDecoding, decoding}
-use Rattle.htl_main.specs.Inputs.{DecodeAll}
+use Rattle.htl_inputs.specs.CutInputs.{AreCutEnds, Decoding, IsDecoding, decoding}
+use Rattle.htl_inputs.specs.Inputs.{DecodeAll}
+use Rattle.htl_inputs.specs.declared.cuts.CutEnd.{CutEnd}
+use Rattle.htl_inputs.specs.declared.fault.RunFault.{RunFault}
+use Rattle.htl_inputs.specs.declared.fault.RunFault.TheVariants.{Case, Incomplete, NoSubject, Symbols, Memory, UnknownCut, Write}
+use Rattle.htl_main.specs.Causes.{IsCauseAfter, Prints, PrintsPart, IsSourcesCause}
 use Rattle.htl_main.specs.Picked.{NeverCase, Reports}
 use Rattle.htl_main.specs.Picking.{ArePickedFor, ArePicksOfAll, EndsAnswer, EndsOfPicks, EndsPrinting, IsPickedFor, PrintsOf, ReportsOf}
 use Rattle.htl_main.specs.Printed.{WorkersFit}
 use Rattle.htl_main.specs.Runs.{EndsPicking}
-use Rattle.htl_main.specs.Sources.{IsSourcesCause}
 use Rattle.htl_main.specs.declared.completed.Completed.{Completed}
-use Rattle.htl_main.specs.declared.cut_inputs.CutEnd.{CutEnd}
 use Rattle.htl_main.specs.declared.picked_run.Lacking.{Lacking}
-use Rattle.htl_main.specs.declared.fault.RunFault.{RunFault}
-use Rattle.htl_main.specs.declared.fault.RunFault.TheVariants.{Case, Incomplete, NoSubject, Symbols, Memory, UnknownCut, Write}
 use Rattle.htl_main.proofs.AfterDecoding.{sources_cause_of}
 
 -- ---- what was picked

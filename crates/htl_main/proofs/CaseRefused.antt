@@ -10,14 +10,14 @@ use Rattle.htl_case.specs.declared.fault.CaseFault.{CaseFault}
 use Rattle.htl_case.specs.declared.fault.CaseFault.TheVariants.{NoMemory}
 use Rattle.htl_case.proofs.Outcomes.{exact_case}
 use Rattle.htl_command.specs.declared.question.Job.{Job}
-use Rattle.htl_main.specs.Faults.{of_case}
+use Rattle.htl_inputs.specs.Faults.{of_case}
+use Rattle.htl_inputs.specs.CutInputs.{Decoding, decoding}
+use Rattle.htl_inputs.specs.Inputs.{DecodeAll}
+use Rattle.htl_inputs.specs.declared.cuts.CutEnd.{CutEnd}
+use Rattle.htl_inputs.specs.declared.fault.RunFault.{RunFault}
+use Rattle.htl_inputs.specs.declared.fault.RunFault.TheVariants.{Case}
 use Rattle.htl_main.specs.Causes.{IsCauseAfter}
-use Rattle.htl_main.specs.CutInputs.{Decoding, decoding}
-use Rattle.htl_main.specs.Inputs.{DecodeAll}
-use Rattle.htl_main.specs.declared.cut_inputs.CutEnd.{CutEnd}
 use Rattle.htl_main.specs.Origins.{IsBetween, IsBetweenOf}
-use Rattle.htl_main.specs.declared.fault.RunFault.{RunFault}
-use Rattle.htl_main.specs.declared.fault.RunFault.TheVariants.{Case}
 use Rattle.htl_main.specs.declared.origin.Between.{Between}
 use Rattle.htl_main.specs.declared.origin.Between.TheVariants.{Nothing, Two, Unknown}
 

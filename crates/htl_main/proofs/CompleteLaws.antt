@@ -7,9 +7,9 @@ use Rattle.htl_reading.specs.declared.outcome.SegmentName.{SegmentName}
 use Rattle.htl_segment.specs.Content.{Content}
 use Rattle.htl_segment.specs.Traces.{HasKey, Trace}
 use Rattle.htl_case.specs.Cases.{IsCase, IsCaseOf}
+use Rattle.htl_inputs.specs.declared.cuts.CutEnd.{CutEnd}
+use Rattle.htl_inputs.proofs.CutLaws.{HaveNames, name_at}
 use Rattle.htl_main.specs.Completeness.{IsComplete, IsKnown, MissesUpTo, name_of}
-use Rattle.htl_main.specs.declared.cut_inputs.CutEnd.{CutEnd}
-use Rattle.htl_main.proofs.CutLaws.{HaveNames, name_at}
 
 -- the case of a case's segments and others is of its trace
 one_id : (T after : Trace) (more : List Content) (first : Content) → Contains T.segments first → IsCaseOf (more ++ T.segments) after

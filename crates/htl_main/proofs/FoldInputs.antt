@@ -25,31 +25,31 @@ use Rattle.htl_segment.specs.Keepers.{Took, TookUpTo}
 use Rattle.htl_segment.specs.Traces.{Trace}
 use Rattle.htl_segment.specs.declared.fault.Fault.{Fault}
 use Rattle.htl_segment.specs.declared.fault.Fault.TheVariants as segments
+use Rattle.htl_inputs.specs.CutInputs.{AreCutEnds}
+use Rattle.htl_inputs.specs.Ends.{IsEnd, IsEndRefused, IsInput}
+use Rattle.htl_inputs.specs.Faults.{of_case, of_digits, of_segment, of_source}
+use Rattle.htl_inputs.specs.Inputs.{DecodeAll, HasBytes}
+use Rattle.htl_inputs.specs.Readings.{AreRead}
+use Rattle.htl_inputs.specs.Reads.{IsOfDigits}
+use Rattle.htl_inputs.specs.Sources.{IsReportedOfSource}
+use Rattle.htl_inputs.specs.declared.cuts.CutEnd.{CutEnd}
+use Rattle.htl_inputs.specs.declared.fault.RunFault.{RunFault}
+use Rattle.htl_inputs.specs.declared.fault.RunFault.TheVariants as faults
+use Rattle.htl_inputs.proofs.EndLaws.{input_of, source_of, source_refused}
+use Rattle.htl_inputs.proofs.ReadingLaws.{ends_too, ill}
 use Rattle.htl_main.specs.Completeness.{ReportsMissing}
-use Rattle.htl_main.specs.CutInputs.{AreCutEnds}
-use Rattle.htl_main.specs.Ends.{IsEnd, IsEndRefused, IsInput}
-use Rattle.htl_main.specs.Faults.{of_case, of_digits, of_segment, of_source}
 use Rattle.htl_main.specs.Folders.{AreAllTaken, Folds, GaveOwn, IsAddedToFolded, IsMissingOf, IsNotAdded, IsOfInput, IsSymbolsFault, KeepsAll}
 use Rattle.htl_main.specs.Folders.{IsBegun, TookInputs, TookToFault, folds_of, number_of}
 use Rattle.htl_main.specs.Folding.{AreAccepted, AreFolded, AreGiven, AreReadToFold, AreRising, AreTaken, AsksFoldsMemory, Folding}
 use Rattle.htl_main.specs.Folding.{IsBeginningRefused}
 use Rattle.htl_main.specs.Folding.{IsCollectionOf, IsFolded, IsFoldedFar, IsFoldedUpTo, IsFoldingRefused, IsFoldsFault, IsHalfKnown, IsMissingOfFirsts}
 use Rattle.htl_main.specs.Folding.{StopsFolding, TakesUpTo, counted, folding}
-use Rattle.htl_main.specs.Inputs.{DecodeAll, HasBytes}
 use Rattle.htl_main.specs.Printed.{WorkersFit}
-use Rattle.htl_main.specs.Readings.{AreRead}
-use Rattle.htl_main.specs.Reads.{IsOfDigits}
-use Rattle.htl_main.specs.Sources.{IsReportedOfSource}
 use Rattle.htl_main.specs.declared.adding.Added.{Added}
-use Rattle.htl_main.specs.declared.cut_inputs.CutEnd.{CutEnd}
-use Rattle.htl_main.specs.declared.fault.RunFault.{RunFault}
-use Rattle.htl_main.specs.declared.fault.RunFault.TheVariants as faults
 use Rattle.htl_main.specs.declared.folder.Folder.{Folder}
 use Rattle.htl_main.specs.declared.origin.Between.TheVariants.{Nothing}
-use Rattle.htl_main.proofs.EndLaws.{input_of, source_of, source_refused}
 use Rattle.htl_main.proofs.FoldLaws.{all_counted}
 use Rattle.htl_main.proofs.LateFaults.{IsLate, read_late}
-use Rattle.htl_main.proofs.ReadingLaws.{ends_too, ill}
 use Rattle.htl_main.proofs.RisingLaws.{accepted_rise}
 
 -- ---- what a keeper took

@@ -2,12 +2,12 @@
 use Rattle.std.proofs.Common.{◌≢◌, ℕ, Bool, List, Result, Ok, Err, IfErr}
 use Rattle.std.specs.Prelude.{⊤}
 use Rattle.htl_device.specs.States.{SourceState}
+use Rattle.htl_inputs.specs.Readings.{AreRead}
+use Rattle.htl_inputs.specs.Sources.{EndsBefore}
+use Rattle.htl_inputs.specs.declared.fault.RunFault.{RunFault}
+use Rattle.htl_inputs.specs.declared.fault.RunFault.TheVariants.{Case, Hex, Read, Segment, Text, Workers}
+use Rattle.htl_inputs.proofs.ReadingLaws.{read_then, well}
 use Rattle.htl_main.specs.Picking.{EndsPrinting}
-use Rattle.htl_main.specs.Readings.{AreRead}
-use Rattle.htl_main.specs.Sources.{EndsBefore}
-use Rattle.htl_main.specs.declared.fault.RunFault.{RunFault}
-use Rattle.htl_main.specs.declared.fault.RunFault.TheVariants.{Case, Hex, Read, Segment, Text, Workers}
-use Rattle.htl_main.proofs.ReadingLaws.{read_then, well}
 
 -- a fault of the case of all segments, or of an answer over it
 abbrev pub IsLate : RunFault → Type 0

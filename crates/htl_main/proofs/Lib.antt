@@ -1,11 +1,4 @@
-pub mod InputLaws
-pub mod EndLaws
-pub mod CutLaws
-pub mod SourceLaws
-pub mod ReadingLaws
 pub mod LateFaults
-pub mod DumpLaws
-pub mod EncodeLaws
 pub mod Collections
 pub mod FallingLaws
 pub mod RisingLaws
@@ -19,9 +12,6 @@ pub mod OneOutcome
 pub mod OneCoverage
 pub mod Touched
 pub mod Absences
-pub mod OneSource
-pub mod DigitsLaws
-pub mod SpanLaws
 pub mod PairLaws
 pub mod CompleteLaws
 pub mod CaseRefused

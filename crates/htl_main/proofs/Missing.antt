@@ -22,16 +22,16 @@ use Rattle.std.specs.List.{AllByRecursion}
 use Rattle.htl_segment.specs.Outlines.{outline_of}
 use Rattle.htl_segment.specs.declared.outline.Outline.{Outline}
 use Rattle.htl_evidence.specs.Outlines.{AreOutlinesOf}
+use Rattle.htl_inputs.specs.CutInputs.{Decoding}
+use Rattle.htl_inputs.specs.declared.cuts.CutEnd.{CutEnd}
+use Rattle.htl_inputs.specs.declared.fault.RunFault.{RunFault}
+use Rattle.htl_inputs.specs.declared.fault.RunFault.TheVariants.{Incomplete, Memory, UnknownCut}
+use Rattle.htl_inputs.specs.Faults.{of_symbols}
 use Rattle.htl_main.specs.CaseOutlines.{IsFirstShort, IsMissed, IsShortUpTo, lesser}
 use Rattle.htl_main.specs.Causes.{IsCauseAfter}
 use Rattle.htl_main.specs.Completeness.{IsFirstUnknown, IsKnown, IsLeastMissing, IsOfKey, Misses, MissesUpTo, ReportsMissing}
-use Rattle.htl_main.specs.CutInputs.{Decoding}
-use Rattle.htl_main.specs.declared.cut_inputs.CutEnd.{CutEnd}
 use Rattle.htl_case.specs.Complete.{IsFirstMissing}
 use Rattle.htl_main.specs.declared.coverage.Missed.{Missed}
-use Rattle.htl_main.specs.declared.fault.RunFault.{RunFault}
-use Rattle.htl_main.specs.declared.fault.RunFault.TheVariants.{Incomplete, Memory, UnknownCut}
-use Rattle.htl_main.specs.Faults.{of_symbols}
 use Rattle.htl_main.specs.Moments.{IsCompleteUntil}
 use Rattle.htl_main.specs.Printed.{HasSymbolFault}
 use Rattle.htl_symbols.specs.declared.fault.SymbolFault.{SymbolFault}

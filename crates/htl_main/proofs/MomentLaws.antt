@@ -5,12 +5,12 @@ use Rattle.std.proofs.lemmas.Bool.{ltb-true, ltb-false}
 use Rattle.htl_segment.specs.Traces.{Trace}
 use Rattle.htl_command.specs.declared.question.Moment.{Moment}
 use Rattle.htl_command.specs.declared.question.Moment.TheVariants.{Sequence, Complete}
+use Rattle.htl_inputs.specs.declared.cuts.CutEnd.{CutEnd}
+use Rattle.htl_inputs.specs.declared.fault.RunFault.{RunFault}
+use Rattle.htl_inputs.specs.declared.fault.RunFault.TheVariants.{Incomplete, UnknownCut}
 use Rattle.htl_main.specs.CaseOutlines.{IsMissed}
 use Rattle.htl_main.specs.Completeness.{IsComplete, IsKnown, ReportsMissing}
 use Rattle.htl_main.specs.Picking.{EndsAnswer, NamesMissing}
-use Rattle.htl_main.specs.declared.cut_inputs.CutEnd.{CutEnd}
-use Rattle.htl_main.specs.declared.fault.RunFault.{RunFault}
-use Rattle.htl_main.specs.declared.fault.RunFault.TheVariants.{Incomplete, UnknownCut}
 use Rattle.htl_main.specs.Moments.{IsCompleteUntil, IsNamedMoment, is_above}
 use Rattle.htl_main.specs.declared.coverage.Missed.{Missed}
 use Rattle.htl_evidence.proofs.OneAnswer.{one_complete}

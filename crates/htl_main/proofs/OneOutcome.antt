@@ -25,11 +25,13 @@ use Rattle.htl_command.specs.declared.question.Job.{Job}
 use Rattle.htl_reading.specs.Sources.{name_in}
 use Rattle.htl_reading.specs.declared.outcome.EarlyEnd.{EarlyEnd}
 use Rattle.htl_reading.specs.declared.outcome.SegmentName.{SegmentName}
-use Rattle.htl_main.specs.CutInputs.{AreCutEndsFrom, Decoding, EndsAs, HasEnd, IsDecoding, cut_ends_at, decoding}
-use Rattle.htl_main.specs.Inputs.{HasBytes, Decodes, DecodeAll, HasBundleFault, HasHexFault, IsReportedOfInput, MayBeLeft, StopsAtInput}
-use Rattle.htl_main.specs.Inputs.{reported_of}
-use Rattle.htl_main.specs.declared.cut_inputs.CutEnd.{CutEnd}
 use Rattle.htl_evidence.specs.Bases.{IsAnswer}
+use Rattle.htl_inputs.specs.CutInputs.{AreCutEndsFrom, Decoding, EndsAs, HasEnd, IsDecoding, cut_ends_at, decoding}
+use Rattle.htl_inputs.specs.Inputs.{HasBytes, Decodes, DecodeAll, HasBundleFault, HasHexFault, IsReportedOfInput, MayBeLeft, StopsAtInput, reported_of}
+use Rattle.htl_inputs.specs.declared.cuts.CutEnd.{CutEnd}
+use Rattle.htl_inputs.specs.declared.fault.RunFault.{RunFault}
+use Rattle.htl_inputs.specs.declared.fault.RunFault.TheVariants.{Workers, Segment, Hex, Case, Incomplete, NoSubject, Symbols, Memory, UnknownCut}
+use Rattle.htl_inputs.proofs.EndLaws.{cut_off_early, left_fault}
 use Rattle.htl_main.specs.Completeness.{IsFirstUnknown, IsKnown, IsLeastMissing, ReportsMissing}
 use Rattle.htl_main.specs.Moments.{IsCompleteUntil}
 use Rattle.htl_main.specs.Remarks.{RemarksIn, RemarksOver, ReportsRemarks, remarks_on}
@@ -39,10 +41,7 @@ use Rattle.htl_main.specs.declared.remarks.Remarks.{Remarks}
 use Rattle.htl_main.specs.Printed.{lines_of_answer, IsText, IsAcceptedCase, HasSymbols, HasSymbolFault, AreAnswerLines, IsMissing, IsPrinted}
 use Rattle.htl_main.specs.Printed.{WorkersFit, Printed, by_workers}
 use Rattle.htl_case.specs.Complete.{IsFirstMissing}
-use Rattle.htl_main.specs.declared.fault.RunFault.{RunFault}
-use Rattle.htl_main.specs.declared.fault.RunFault.TheVariants.{Workers, Segment, Hex, Case, Incomplete, NoSubject, Symbols, Memory, UnknownCut}
 use Rattle.htl_evidence.proofs.Covered.{one_first}
-use Rattle.htl_main.proofs.EndLaws.{cut_off_early, left_fault}
 use Rattle.htl_main.proofs.MomentLaws.{one_moment}
 use Rattle.htl_evidence.proofs.OneAnswer.{one_answer}
 use Rattle.htl_symbols.proofs.OneTable.{one_table, one_symbol_fault, table_has_no_fault}

@@ -13,16 +13,16 @@ use Rattle.htl_reading.specs.Sources.{IsLeft}
 use Rattle.htl_reading.specs.declared.outcome.Bundle.{Bundle}
 use Rattle.htl_reading.specs.declared.fault.SourceFault.{SourceFault}
 use Rattle.htl_reading.specs.declared.fault.SourceFault.TheVariants.{Segment, Read, NoMemory}
-use Rattle.htl_main.specs.Ends.{IsEnd, IsEndRefused}
-use Rattle.htl_main.specs.Faults.{of_source}
+use Rattle.htl_inputs.specs.Ends.{IsEnd, IsEndRefused}
+use Rattle.htl_inputs.specs.Faults.{of_source}
+use Rattle.htl_inputs.specs.Sources.{IsReportedOfSource}
+use Rattle.htl_inputs.specs.declared.cuts.Accepted.{Accepted}
+use Rattle.htl_inputs.specs.declared.fault.RunFault.{RunFault}
+use Rattle.htl_inputs.specs.declared.fault.RunFault.TheVariants.{Case}
+use Rattle.htl_inputs.proofs.EndLaws.{input_of, source_refused}
+use Rattle.htl_inputs.proofs.InputLaws.{decode_next}
 use Rattle.htl_main.specs.Picking.{ArePicksMore, ArePicksOfAll}
-use Rattle.htl_main.specs.Sources.{IsReportedOfSource}
-use Rattle.htl_main.specs.declared.cut_inputs.Accepted.{Accepted}
 use Rattle.htl_reading.specs.declared.outcome.EarlyEnd.{EarlyEnd}
-use Rattle.htl_main.specs.declared.fault.RunFault.{RunFault}
-use Rattle.htl_main.specs.declared.fault.RunFault.TheVariants.{Case}
-use Rattle.htl_main.proofs.EndLaws.{input_of, source_refused}
-use Rattle.htl_main.proofs.InputLaws.{decode_next}
 
 abbrev gathers : Picks → Picks → List Content → Type 0
 gathers start now segments = ArePicksOf start.interest now segments

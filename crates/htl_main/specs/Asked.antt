@@ -3,10 +3,10 @@ use Rattle.std.specs.Prelude.{◌≡◌, [], ⊤, Bool, true, List, Option}
 use Rattle.htl_analyst.specs.States.{State}
 use Rattle.htl_segment.specs.Content.{Content}
 use Rattle.htl_segment.specs.Traces.{Trace}
+use Rattle.htl_inputs.specs.declared.fault.RunFault.{RunFault}
+use Rattle.htl_inputs.specs.declared.fault.RunFault.TheVariants.{Incomplete, Memory}
 use Rattle.htl_main.specs.Completeness.{IsLeastMissing}
 use Rattle.htl_main.specs.Folding.{AreFolded, IsCollectionOf}
-use Rattle.htl_main.specs.declared.fault.RunFault.{RunFault}
-use Rattle.htl_main.specs.declared.fault.RunFault.TheVariants.{Incomplete, Memory}
 
 -- A complete trace is asked for, and of that which was taken this is the least key that is missing; or memory was refused.
 abbrev pub IsUnasked : Bool → Option State → RunFault → Type 0

@@ -2,8 +2,8 @@
 use Rattle.std.specs.Prelude.{◌≡◌, ◌≤◌, ℕ, List, nat_lt, if◌then◌else◌, Option, None, Some}
 use Rattle.htl_segment.specs.Traces.{Trace}
 use Rattle.htl_evidence.specs.Outlines.{HasExtent}
+use Rattle.htl_inputs.specs.declared.cuts.CutEnd.{CutEnd}
 use Rattle.htl_main.specs.Completeness.{Misses, MissesUpTo}
-use Rattle.htl_main.specs.declared.cut_inputs.CutEnd.{CutEnd}
 use Rattle.htl_main.specs.declared.coverage.Missed.{Missed}
 
 -- what is missing of a trace, as its extent says

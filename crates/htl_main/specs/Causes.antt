@@ -1,16 +1,17 @@
 -- Why a run ends without its lines, also where that is no fault of what was given (this project's own).
-use Rattle.std.specs.Prelude.{◌⊎◌, ℕ, List, Option, Ok, Err}
+use Rattle.std.specs.Prelude.{◌⊎◌, ℕ, Bool, List, Option, Ok, Err}
 use Rattle.std.specs.Io.KnownBytes.{Appends}
 use Rattle.htl_device.specs.Devices.{AppendsPrefix}
 use Rattle.htl_segment.specs.Traces.{Trace}
 use Rattle.htl_case.specs.Faults.{IsRefusal}
 use Rattle.htl_case.specs.declared.fault.CaseFault.TheVariants as case_faults
 use Rattle.htl_command.specs.declared.question.Job.{Job}
-use Rattle.htl_main.specs.CutInputs.{Decoding, IsDecoding}
-use Rattle.htl_main.specs.Inputs.{IsReportedOfInput, StopsAtInput}
+use Rattle.htl_inputs.specs.CutInputs.{Decoding, IsDecoding}
+use Rattle.htl_inputs.specs.Inputs.{IsReportedOfInput, StopsAtInput}
+use Rattle.htl_inputs.specs.Sources.{IsReportedAt}
+use Rattle.htl_inputs.specs.declared.fault.RunFault.{RunFault}
+use Rattle.htl_inputs.specs.declared.fault.RunFault.TheVariants.{Read, Write, Memory}
 use Rattle.htl_main.specs.Printed.{IsPrinted, IsAcceptedCase, WorkersFit, Printed}
-use Rattle.htl_main.specs.declared.fault.RunFault.{RunFault}
-use Rattle.htl_main.specs.declared.fault.RunFault.TheVariants.{Write, Memory}
 
 -- the known bytes of a sink got the printed lines
 abbrev pub Prints : Job → List (List ℕ) → Option (List ℕ) → Option (List ℕ) → Option (List ℕ) → Type 0
@@ -35,3 +36,14 @@ IsCause job inputs symbols Memory =
     ⊎ ((given : Decoding) × IsDecoding job.setting.form inputs given × IsCauseAfter given symbols job Memory))
 IsCause job inputs symbols Write = (lines : List ℕ) × Printed job inputs symbols (Ok lines)
 IsCause job inputs symbols fault = Printed job inputs symbols (Err fault)
+
+-- Why a run over sources of these bytes ends: as one over the bytes does, or at a source that could not be read, or
+-- for which memory was refused.
+abbrev pub IsSourcesCause : Job → List (List ℕ) → List (Option (List ℕ)) → List Bool → Option (List ℕ) → RunFault → Type 0
+IsSourcesCause job inputs lefts ends symbols (Read at) =
+    WorkersFit job.setting.workers × StopsAtInput job.setting.form (IsReportedAt job.setting.form lefts ends) inputs (Read at)
+IsSourcesCause job inputs lefts ends symbols Memory =
+    WorkersFit job.setting.workers
+    × (StopsAtInput job.setting.form (IsReportedAt job.setting.form lefts ends) inputs Memory
+    ⊎ ((given : Decoding) × IsDecoding job.setting.form inputs given × IsCauseAfter given symbols job Memory))
+IsSourcesCause job inputs lefts ends symbols fault = IsCause job inputs symbols fault

@@ -5,9 +5,9 @@ use Rattle.htl_case.specs.Complete.{IsFirstMissing}
 use Rattle.htl_taken.specs.Gaps.{IsGap, processor_of}
 use Rattle.htl_taken.specs.declared.gap.Gap.{Gap}
 use Rattle.htl_reading.specs.declared.outcome.SegmentName.{SegmentName}
-use Rattle.htl_main.specs.declared.cut_inputs.CutEnd.{CutEnd}
-use Rattle.htl_main.specs.declared.fault.RunFault.{RunFault}
-use Rattle.htl_main.specs.declared.fault.RunFault.TheVariants.{Incomplete, UnknownCut}
+use Rattle.htl_inputs.specs.declared.cuts.CutEnd.{CutEnd}
+use Rattle.htl_inputs.specs.declared.fault.RunFault.{RunFault}
+use Rattle.htl_inputs.specs.declared.fault.RunFault.TheVariants.{Incomplete, UnknownCut}
 
 -- the trace's keys have this gap
 abbrev pub HasGap : Trace → Gap → Type 0

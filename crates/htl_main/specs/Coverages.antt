@@ -8,7 +8,7 @@ use Rattle.htl_case.specs.Complete.{IsCompleteTo}
 use Rattle.htl_taken.specs.Gaps.{IsGaps}
 use Rattle.htl_taken.specs.declared.gap.Gap.{Gap}
 use Rattle.htl_case.specs.Cases.{IsCaseOf}
-use Rattle.htl_main.specs.Inputs.{DecodeAll}
+use Rattle.htl_inputs.specs.Inputs.{DecodeAll}
 use Rattle.htl_main.specs.declared.coverage.Coverage.{Coverage}
 
 -- Coverage: the number of the gaps of a trace's keys, and what the trace is complete to.

@@ -13,22 +13,22 @@ use Rattle.htl_device.specs.States.{SourceState, lefts}
 use Rattle.htl_segment.specs.Content.{Content, Fits}
 use Rattle.htl_segment.specs.Keepers.{Took}
 use Rattle.htl_segment.specs.Traces.{Trace}
+use Rattle.htl_inputs.specs.CutInputs.{AreCut, AreCutEnds}
+use Rattle.htl_inputs.specs.Inputs.{DecodeAll}
+use Rattle.htl_inputs.specs.Reads.{StopsIn}
+use Rattle.htl_inputs.specs.declared.cuts.CutEnd.{CutEnd}
+use Rattle.htl_inputs.specs.declared.fault.RunFault.{RunFault}
+use Rattle.htl_inputs.specs.declared.fault.RunFault.TheVariants.{Segment, Hex, Read, Case, Memory, Symbols}
 use Rattle.htl_main.specs.Completeness.{IsComplete, ReportsMissing}
 use Rattle.htl_main.specs.Coverages.{IsCoverage}
 use Rattle.htl_main.specs.Printed.{HasSymbolFault}
 use Rattle.htl_taken.specs.Numbers.{front_at}
 use Rattle.htl_command.specs.declared.question.InputForm.{InputForm}
-use Rattle.htl_main.specs.CutInputs.{AreCut, AreCutEnds}
 use Rattle.htl_main.specs.Picking.{NamesMissing}
 use Rattle.htl_main.specs.Folding.{AreAccepted, AreFolded, AreGiven, AreTaken, Fall, GaveBefore, IsCollectionOf, IsOfPlace, IsUnfit}
 use Rattle.htl_main.specs.Folding.{StandBefore, TakesUpTo, counted}
-use Rattle.htl_main.specs.Inputs.{DecodeAll}
-use Rattle.htl_main.specs.Reads.{StopsIn}
 use Rattle.htl_main.specs.declared.adding.Added.{Added}
-use Rattle.htl_main.specs.declared.cut_inputs.CutEnd.{CutEnd}
 use Rattle.htl_main.specs.declared.folder.Folder.{Folder}
-use Rattle.htl_main.specs.declared.fault.RunFault.{RunFault}
-use Rattle.htl_main.specs.declared.fault.RunFault.TheVariants.{Segment, Hex, Read, Case, Memory, Symbols}
 
 -- No front falls and no key is lost from the one state to the other.
 pub record Keeps (old new : State) : Type 0 where

@@ -25,18 +25,18 @@ use Rattle.htl_segment.specs.Bundles.{IsRest, Splits, bundle}
 use Rattle.htl_segment.specs.Content.{Content}
 use Rattle.htl_segment.specs.Traces.{Trace}
 use Rattle.htl_taken.specs.Numbers.{front_at}
+use Rattle.htl_inputs.specs.CutInputs.{AreCut, AreCutEnds}
+use Rattle.htl_inputs.specs.declared.cuts.CutEnd.{CutEnd}
+use Rattle.htl_inputs.specs.Inputs.{DecodeAll, HasBytes, StopsAtInput}
+use Rattle.htl_inputs.specs.Readings.{AreRead}
+use Rattle.htl_inputs.specs.Sources.{IsReportedAt}
+use Rattle.htl_inputs.specs.declared.fault.RunFault.{RunFault}
+use Rattle.htl_inputs.specs.declared.fault.RunFault.TheVariants as faults
 use Rattle.htl_main.specs.Completeness.{IsComplete, ReportsMissing}
 use Rattle.htl_main.specs.Coverages.{IsCoverage}
-use Rattle.htl_main.specs.CutInputs.{AreCut, AreCutEnds}
-use Rattle.htl_main.specs.declared.cut_inputs.CutEnd.{CutEnd}
-use Rattle.htl_main.specs.Inputs.{DecodeAll, HasBytes, StopsAtInput}
 use Rattle.htl_main.specs.Origins.{is_about_two}
 use Rattle.htl_main.specs.Printed.{HasSymbolFault, WorkersFit}
-use Rattle.htl_main.specs.Readings.{AreRead}
-use Rattle.htl_main.specs.Sources.{IsReportedAt}
 use Rattle.htl_main.specs.declared.adding.Added.{Added}
-use Rattle.htl_main.specs.declared.fault.RunFault.{RunFault}
-use Rattle.htl_main.specs.declared.fault.RunFault.TheVariants as faults
 use Rattle.htl_main.specs.declared.origin.Between.{Between}
 use Rattle.htl_main.specs.declared.origin.Between.TheVariants.{Nothing, Unknown}
 

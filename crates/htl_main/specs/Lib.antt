@@ -1,6 +1,4 @@
 -- What public contracts cite.
-pub mod Inputs
-pub mod CutInputs
 pub mod Completeness
 pub mod Moments
 pub mod Coverages
@@ -8,10 +6,6 @@ pub mod Subjects
 pub mod Printed
 pub mod Remarks
 pub mod Causes
-pub mod Sources
-pub mod Readings
-pub mod Dumps
-pub mod Encodings
 pub mod Origins
 pub mod Loading
 pub mod Adding
@@ -19,17 +13,11 @@ pub mod Folding
 pub mod Asked
 pub mod Picked
 pub mod Runs
-pub mod Statuses
 pub mod Analysts
 pub mod Histories
 -- What only private contracts cite.
-pub mod Ends
 pub mod Folders
-pub mod Faults
-pub mod Reads
-pub mod Dumping
 pub mod CaseOutlines
-pub mod Spans
 pub mod Pairs
 pub mod Picking
 pub mod Printing

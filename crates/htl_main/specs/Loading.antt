@@ -6,7 +6,7 @@ use Rattle.htl_symbols.specs.Ranges.{Range}
 use Rattle.htl_command.specs.declared.question.Job.{Job}
 use Rattle.htl_command.specs.declared.question.Moment.{Moment}
 use Rattle.htl_command.specs.declared.question.Setting.{Setting}
-use Rattle.htl_main.specs.CutInputs.{Decoding, IsDecoding}
+use Rattle.htl_inputs.specs.CutInputs.{Decoding, IsDecoding}
 use Rattle.htl_main.specs.Moments.{IsCompleteUntil}
 use Rattle.htl_main.specs.Printed.{HasSymbols, WorkersFit}
 

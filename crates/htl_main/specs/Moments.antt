@@ -4,9 +4,9 @@ use Rattle.htl_segment.specs.Traces.{Trace}
 use Rattle.htl_case.specs.Complete.{IsCompleteTo}
 use Rattle.htl_command.specs.declared.question.Moment.{Moment}
 use Rattle.htl_command.specs.declared.question.Moment.TheVariants.{Sequence, Complete}
+use Rattle.htl_inputs.specs.declared.cuts.CutEnd.{CutEnd}
 use Rattle.htl_main.specs.Completeness.{IsComplete}
 use Rattle.htl_main.specs.declared.coverage.Coverage.{Coverage}
-use Rattle.htl_main.specs.declared.cut_inputs.CutEnd.{CutEnd}
 
 -- The moment that is named: a sequence, or what the trace is complete to. Where none is named, all events count.
 abbrev pub IsNamedMoment : Trace → Option Moment → Option ℕ → Type 0

@@ -6,9 +6,9 @@ use Rattle.htl_segment.specs.Content.{Content}
 use Rattle.htl_case.specs.Faults.{key_of}
 use Rattle.htl_case.specs.declared.fault.CaseFault.{CaseFault}
 use Rattle.htl_case.specs.declared.fault.CaseFault.TheVariants as cases
-use Rattle.htl_main.specs.Inputs.{Decodes, DecodeAll}
-use Rattle.htl_main.specs.declared.fault.RunFault.{RunFault}
-use Rattle.htl_main.specs.declared.fault.RunFault.TheVariants.{Case}
+use Rattle.htl_inputs.specs.Inputs.{Decodes, DecodeAll}
+use Rattle.htl_inputs.specs.declared.fault.RunFault.{RunFault}
+use Rattle.htl_inputs.specs.declared.fault.RunFault.TheVariants.{Case}
 use Rattle.htl_main.specs.declared.origin.Origin.{Origin}
 use Rattle.htl_main.specs.declared.origin.Between.{Between}
 use Rattle.htl_main.specs.declared.origin.Between.TheVariants.{Nothing, Two, Unknown}
@@ -55,14 +55,6 @@ pub record IsHeaderOf (s : Content) (origin : Origin) : Type 0 where
   pub processors : origin.processors ≡ s.processors
   pub processor : origin.processor ≡ s.processor
   pub number : origin.number ≡ s.number
-
--- the input at a place has the segment
-pub record HasSegment (form : InputForm) (inputs : List (List ℕ)) (place : ℕ) (s : Content) : Type 0 where
-  pub input : List ℕ
-  pub here : slice_get inputs place ≡ Some input
-  pub own : List Content
-  pub decoded : Decodes form input own
-  pub has : Contains own s
 
 -- the origin of a segment of the inputs
 abbrev pub IsOriginOf : InputForm → List (List ℕ) → Content → Origin → Type 0

@@ -13,21 +13,21 @@ use Rattle.htl_case.specs.Cases.{IsCaseOf}
 use Rattle.htl_case.specs.Picked.{Picked, IsPickedOf, IsPickedUntil}
 use Rattle.htl_command.specs.declared.question.InputForm.{InputForm}
 use Rattle.htl_command.specs.declared.question.Job.{Job}
+use Rattle.htl_inputs.specs.Ends.{IsInput}
+use Rattle.htl_inputs.specs.Inputs.{DecodeAll}
+use Rattle.htl_inputs.specs.declared.cuts.CutEnd.{CutEnd}
+use Rattle.htl_inputs.specs.CutInputs.{AreCut, AreCutEnds, Decoding, decoding}
+use Rattle.htl_inputs.specs.declared.fault.RunFault.{RunFault}
+use Rattle.htl_inputs.specs.declared.fault.RunFault.TheVariants.{Incomplete, NoSubject, Symbols, Memory, UnknownCut, Write}
 use Rattle.htl_main.specs.Causes.{IsCauseAfter}
 use Rattle.htl_main.specs.Coverages.{CoversSegments}
-use Rattle.htl_main.specs.Ends.{IsInput}
-use Rattle.htl_main.specs.Inputs.{DecodeAll}
 use Rattle.htl_main.specs.Picked.{IsLackOf}
 use Rattle.htl_main.specs.Printed.{AreAnswerLines}
 use Rattle.htl_main.specs.Remarks.{RemarksIn}
 use Rattle.htl_main.specs.Runs.{LeavesSink}
 use Rattle.htl_main.specs.Subjects.{HasAbsenceIn}
 use Rattle.htl_main.specs.declared.completed.Completed.{Completed}
-use Rattle.htl_main.specs.declared.cut_inputs.CutEnd.{CutEnd}
 use Rattle.htl_reading.specs.declared.outcome.EarlyEnd.{EarlyEnd}
-use Rattle.htl_main.specs.CutInputs.{AreCut, AreCutEnds, Decoding, decoding}
-use Rattle.htl_main.specs.declared.fault.RunFault.{RunFault}
-use Rattle.htl_main.specs.declared.fault.RunFault.TheVariants.{Incomplete, NoSubject, Symbols, Memory, UnknownCut, Write}
 use Rattle.htl_main.specs.declared.picked_run.Lacking.{Lacking}
 use Rattle.htl_main.specs.declared.picking.AllPicks.{AllPicks}
 

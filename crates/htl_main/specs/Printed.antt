@@ -15,14 +15,14 @@ use Rattle.htl_command.specs.declared.question.Format.TheVariants.{Plain, Json, 
 use Rattle.htl_command.specs.declared.question.Job.{Job}
 use Rattle.htl_question.specs.Rows.{Found, Listed, leaks}
 use Rattle.htl_evidence.specs.Bases.{IsAnswer}
+use Rattle.htl_inputs.specs.CutInputs.{Decoding, IsDecoding}
+use Rattle.htl_inputs.specs.Inputs.{IsReportedOfInput, StopsAtInput}
+use Rattle.htl_inputs.specs.declared.fault.RunFault.{RunFault}
+use Rattle.htl_inputs.specs.declared.fault.RunFault.TheVariants.{Workers, Segment, Hex, Case, Incomplete, NoSubject, Symbols, UnknownCut}
 use Rattle.htl_main.specs.Completeness.{ReportsMissing}
-use Rattle.htl_main.specs.CutInputs.{Decoding, IsDecoding}
-use Rattle.htl_main.specs.Inputs.{IsReportedOfInput, StopsAtInput}
 use Rattle.htl_main.specs.Moments.{IsCompleteUntil, IsNamedMoment}
 use Rattle.htl_main.specs.Subjects.{HasAbsence}
 use Rattle.htl_main.specs.declared.completed.Absence.{Absence}
-use Rattle.htl_main.specs.declared.fault.RunFault.{RunFault}
-use Rattle.htl_main.specs.declared.fault.RunFault.TheVariants.{Workers, Segment, Hex, Case, Incomplete, NoSubject, Symbols, UnknownCut}
 
 -- only leaking stacks are folded
 abbrev pub folded_lines : List Range → Option ℕ → Option ℕ → Found → Listed → List ℕ

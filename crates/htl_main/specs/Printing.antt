@@ -6,14 +6,14 @@ use Rattle.htl_device.specs.States.{SinkState}
 use Rattle.htl_segment.specs.Traces.{Trace}
 use Rattle.htl_symbols.specs.Ranges.{Range}
 use Rattle.htl_command.specs.declared.question.Job.{Job}
+use Rattle.htl_inputs.specs.declared.fault.RunFault.{RunFault}
+use Rattle.htl_inputs.specs.declared.fault.RunFault.TheVariants.{NoSubject, Memory, Write}
 use Rattle.htl_main.specs.Printed.{IsText}
 use Rattle.htl_main.specs.Remarks.{RemarksOver}
 use Rattle.htl_main.specs.Runs.{LeavesSink}
 use Rattle.htl_main.specs.Subjects.{HasAbsence}
 use Rattle.htl_main.specs.declared.completed.Absence.{Absence}
 use Rattle.htl_main.specs.declared.completed.Completed.{Completed}
-use Rattle.htl_main.specs.declared.fault.RunFault.{RunFault}
-use Rattle.htl_main.specs.declared.fault.RunFault.TheVariants.{NoSubject, Memory, Write}
 use Rattle.htl_main.specs.declared.loading.Loaded.{Loaded}
 
 -- The lines of the answer over a trace were written, or a first part of them.

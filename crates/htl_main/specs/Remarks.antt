@@ -8,7 +8,7 @@ use Rattle.htl_report.specs.Names.{none_named, shown_addresses}
 use Rattle.htl_command.specs.declared.question.Job.{Job}
 use Rattle.htl_question.specs.Rows.{Found, has_finding, is_unmarked}
 use Rattle.htl_evidence.specs.Bases.{IsAnswer}
-use Rattle.htl_main.specs.Inputs.{DecodeAll}
+use Rattle.htl_inputs.specs.Inputs.{DecodeAll}
 use Rattle.htl_main.specs.Moments.{IsNamedMoment}
 use Rattle.htl_main.specs.Printed.{HasSymbols}
 use Rattle.htl_main.specs.declared.remarks.Remarks.{Remarks}

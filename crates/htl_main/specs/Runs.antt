@@ -10,25 +10,22 @@ use Rattle.htl_device.specs.States.{IfKnown, SinkState, SourceState, ends, lefts
 use Rattle.htl_event.specs.declared.interest.Interest.{Interest}
 use Rattle.htl_segment.specs.Content.{Content}
 use Rattle.htl_segment.specs.Traces.{Trace}
+use Rattle.htl_inputs.specs.CutInputs.{AreCut}
+use Rattle.htl_inputs.specs.Reads.{NeverWrite}
+use Rattle.htl_inputs.specs.Readings.{AreRead}
+use Rattle.htl_inputs.specs.declared.cuts.CutInputs.{CutInputs}
+use Rattle.htl_inputs.specs.declared.fault.RunFault.{RunFault}
+use Rattle.htl_inputs.specs.declared.fault.RunFault.TheVariants.{Write}
 use Rattle.htl_main.specs.Adding.{IsAdded, IsAddingRefused}
-use Rattle.htl_main.specs.Causes.{IsCause, Prints, PrintsPart}
+use Rattle.htl_main.specs.Causes.{IsCause, IsSourcesCause, Prints, PrintsPart}
 use Rattle.htl_main.specs.Coverages.{IsCoverage}
-use Rattle.htl_main.specs.CutInputs.{AreCut}
-use Rattle.htl_main.specs.Dumps.{Dumps, DumpStops, is_failed_write}
-use Rattle.htl_main.specs.Encodings.{EncodesInto, EncodesPart, EncodingStops}
 use Rattle.htl_main.specs.Folding.{AreFolded, AreReadToFold, Folding, IsBeginningRefused, IsFolded, IsFoldingRefused, IsHalfKnown, folding}
 use Rattle.htl_main.specs.Loading.{AreLoadedOf, in_setting}
 use Rattle.htl_main.specs.Origins.{IsBetween, by_fault}
 use Rattle.htl_main.specs.Picked.{Lacks, NeverCase, Reports}
 use Rattle.htl_main.specs.Printed.{HasSymbols, WorkersFit}
-use Rattle.htl_main.specs.Reads.{NeverWrite}
-use Rattle.htl_main.specs.Readings.{AreRead}
-use Rattle.htl_main.specs.Sources.{IsSourcesCause}
 use Rattle.htl_main.specs.declared.adding.Added.{Added}
 use Rattle.htl_main.specs.declared.completed.Completed.{Completed}
-use Rattle.htl_main.specs.declared.cut_inputs.CutInputs.{CutInputs}
-use Rattle.htl_main.specs.declared.fault.RunFault.{RunFault}
-use Rattle.htl_main.specs.declared.fault.RunFault.TheVariants.{Write}
 use Rattle.htl_main.specs.declared.folding.Folded.{Folded}
 use Rattle.htl_main.specs.declared.loading.Loaded.{Loaded}
 use Rattle.htl_main.specs.declared.picked_run.Lacking.{Lacking}
@@ -146,32 +143,3 @@ pub record BeginsAs (setting : Setting) (table : Option (List ℕ)) (old new : L
   pub between : IfErr result (λ refused. IsHalfKnown refused.fault refused.between)
   pub reading : AreRead setting.form.hex old new (by_fault result)
   pub no_write : NeverWrite (by_fault result)
-
--- ---- runs that convert
-
--- The texts of all segments of the inputs were written; or those of the segments before what is reported.
-abbrev pub EndsDumping : InputForm → List (List ℕ) → List SourceState → Option (List ℕ) → Option (List ℕ)
-    → Result (Option CutInputs) RunFault → Type 0
-EndsDumping form texts new before after (Ok cut) = Dumps form texts before after × AreCut form.hex texts cut
-EndsDumping form texts new before after (Err fault) = DumpStops form texts (lefts new) (ends new) before after fault
-
-pub record IsDumpedFrom (form : InputForm) (old new : List SourceState) (before after : SinkState)
-    (result : Result (Option CutInputs) RunFault) : Type 0 where
-  pub outcome : IfKnown old (λ texts. EndsDumping form texts new before.contents after.contents result)
-  pub failed : after.failed ≡ is_failed_write result
-  pub reading : AreRead form.hex old new result
-
--- The bytes that the texts encode were written, or some first part of them where a write failed; or one of the texts is refused.
-abbrev pub EndsEncoding : {S : Type 0} → Bool → List (List ℕ) → List SourceState → Option (List ℕ) → Option (List ℕ) → Result S RunFault
-    → Type 0
-EndsEncoding hex texts new before after (Ok done) = EncodesInto hex texts before after
-EndsEncoding hex texts new before after (Err Write) = EncodesPart hex texts before after
-EndsEncoding hex texts new before after (Err fault) = EncodingStops texts (lefts new) (ends new) fault
-
-pub record IsEncodedFrom {S : Type 0} (hex : Bool) (old new : List SourceState) (before after : SinkState) (result : Result S RunFault)
-    : Type 0 where
-  pub outcome : IfKnown old (λ texts. EndsEncoding hex texts new before.contents after.contents result)
-  pub failed : after.failed ≡ is_failed_write result
-  pub reading : AreRead true old new result
-  -- Nothing was written, unless a write failed.
-  pub untouched : IfErr result (λ fault. fault ≢ Write → after ≡ before)

@@ -13,7 +13,7 @@ use Rattle.htl_question.specs.declared.question.Question.{Question}
 use Rattle.htl_question.specs.declared.question.Question.TheVariants.{Growth}
 use Rattle.htl_question.specs.declared.question.Since.{Since}
 use Rattle.htl_question.specs.declared.question.Since.TheVariants.{Sequence}
-use Rattle.htl_main.specs.Inputs.{DecodeAll}
+use Rattle.htl_inputs.specs.Inputs.{DecodeAll}
 use Rattle.htl_main.specs.Moments.{IsNamedMoment}
 use Rattle.htl_main.specs.declared.completed.Absence.{Absence}
 use Rattle.htl_main.specs.declared.completed.Absence.TheVariants.{Subject, Later}

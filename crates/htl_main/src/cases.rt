@@ -7,21 +7,19 @@ ghost use Rattle.htl_case.specs.Cases.{IsCaseOf};
 ghost use Rattle.htl_case.specs.Faults.{IsRefusal};
 ghost use Rattle.htl_command.specs.declared.question.InputForm.{InputForm};
 ghost use Rattle.htl_command.specs.declared.question.Job.{Job};
+ghost use Rattle.htl_inputs.specs.CutInputs.{decoding};
+ghost use Rattle.htl_inputs.specs.Faults.{of_case};
+ghost use Rattle.htl_inputs.specs.Inputs.{DecodeAll};
+ghost use Rattle.htl_inputs.specs.Spans.{AreSpans};
 ghost use Rattle.htl_main.specs.Causes.{IsCauseAfter};
-ghost use Rattle.htl_main.specs.CutInputs.{decoding};
-ghost use Rattle.htl_main.specs.Faults.{of_case};
 ghost use Rattle.htl_main.specs.Folding.{IsHalfKnown};
-ghost use Rattle.htl_main.specs.Inputs.{DecodeAll};
 ghost use Rattle.htl_main.specs.Origins.{IsBetween, IsBetweenOf, IsOriginOf};
-ghost use Rattle.htl_main.specs.Spans.{AreSpans};
 
-use crate::cut_inputs::CutEnd;
-use crate::decoded::{Decoded, InputSpan, span_at};
-use crate::fault::RunFault;
 use crate::origin::{Between, Origin};
 use crate::pairing::pair;
 use crate::refused::Refused;
 use htl_case::{Case, CaseFault};
+use htl_inputs::{CutEnd, Decoded, InputSpan, RunFault, span_at};
 use htl_segment::{Segment, copies};
 use std::alloc::Global;
 

@@ -11,11 +11,11 @@ ghost use Rattle.htl_main.specs.Subjects.{HasAbsence, absence_by, is_before, is_
 ghost use Rattle.htl_main.specs.Subjects.{since_of};
 
 use crate::coverage::Coverage;
-use crate::cut_inputs::CutInputs;
 use crate::loading::Loaded;
 use crate::remarks::Remarks;
 use htl_command::Job;
 use htl_event::{EventList, SharedEvent, Span, Until};
+use htl_inputs::CutInputs;
 use htl_question::{Question, Since, Subject};
 use htl_segment::Segment;
 

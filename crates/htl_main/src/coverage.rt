@@ -6,13 +6,12 @@ ghost use Rattle.htl_evidence.specs.Outlines.{AreOutlinesOf};
 ghost use Rattle.htl_main.specs.CaseOutlines.{lesser};
 ghost use Rattle.htl_main.specs.Moments.{is_above};
 
-use crate::cut_inputs::CutEnd;
-use crate::fault::RunFault;
 use htl_analyst::Analyst;
 use htl_case::{Case, PickedCase};
 use htl_command::Moment;
 use htl_event::NoMemory;
 use htl_evidence::Extent;
+use htl_inputs::{CutEnd, RunFault};
 use htl_reading::SegmentName;
 use htl_segment::Outline;
 use std::alloc::Global;

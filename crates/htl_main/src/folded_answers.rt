@@ -13,7 +13,6 @@ ghost use Rattle.htl_main.specs.Printed.{IsText};
 ghost use Rattle.htl_main.specs.Remarks.{RemarksOver};
 
 use crate::coverage::Missed;
-use crate::fault::RunFault;
 use crate::folding::Folded;
 use crate::printing::{AnswerText, lines};
 use crate::remarks::remarks_on;
@@ -21,6 +20,7 @@ use htl_analyst::Analyst;
 use htl_command::{Job, Setting};
 use htl_event::NoMemory;
 use htl_evidence::{Folds, answer};
+use htl_inputs::RunFault;
 use htl_question::{Answer, Question};
 use std::alloc::Global;
 use std::thread::Threads;

@@ -15,8 +15,6 @@ ghost use Rattle.htl_main.specs.Runs.{BeginsAs, FoldsAs};
 
 use crate::adding::Added;
 use crate::coverage::{Coverage, Missed};
-use crate::cut_inputs::{CutEnd, cut_inputs};
-use crate::fault::RunFault;
 use crate::printing::{check_gaps, check_workers, read_symbols};
 use crate::refused::Refused;
 use crate::taking::{Taken, take_all};
@@ -24,6 +22,7 @@ use htl_analyst::Analyst;
 use htl_case::CaseFault;
 use htl_command::Setting;
 use htl_device::Parted;
+use htl_inputs::{CutEnd, RunFault, cut_inputs};
 use htl_symbols::Symbols;
 use std::alloc::Global;
 use std::thread::Threads;

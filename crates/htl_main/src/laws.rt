@@ -32,6 +32,7 @@ ghost use Rattle.htl_question.specs.declared.answer.Totals.{Totals};
 ghost use Rattle.htl_question.specs.declared.question.Question.{Question};
 ghost use Rattle.htl_question.specs.declared.question.Question.TheVariants as questions;
 ghost use Rattle.htl_question.specs.declared.question.Since.TheVariants.{Sequence};
+ghost use Rattle.htl_inputs.specs.declared.fault.RunFault.{RunFault};
 ghost use Rattle.htl_main.specs.Analysts.{AreAnswers};
 ghost use Rattle.htl_evidence.specs.Bases.{IsAnswer};
 ghost use Rattle.htl_main.specs.Coverages.{Covers, IsCoverage};
@@ -43,7 +44,6 @@ ghost use Rattle.htl_main.specs.Remarks.{ReportsRemarks};
 ghost use Rattle.htl_main.specs.Subjects.{HasAbsence, is_growth};
 ghost use Rattle.htl_main.specs.declared.completed.Absence.{Absence};
 ghost use Rattle.htl_main.specs.declared.coverage.Coverage.{Coverage};
-ghost use Rattle.htl_main.specs.declared.fault.RunFault.{RunFault};
 ghost use Rattle.htl_main.specs.declared.remarks.Remarks.{Remarks};
 
 /// Inputs and a symbol table have at most one outcome: a printed text or a fault. It is the same

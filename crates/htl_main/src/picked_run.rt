@@ -8,14 +8,14 @@ ghost use Rattle.htl_main.specs.Picking.{PrintsPicks};
 ghost use Rattle.htl_main.specs.Runs.{IsPicked};
 
 use crate::completed::Completed;
-use crate::fault::RunFault;
 use crate::picked::answered_of_picks;
 use crate::picking::{AllPicks, pick_all};
-use crate::printing::{check_workers, write_lines};
+use crate::printing::check_workers;
 use htl_case::PickedCase;
 use htl_command::Job;
 use htl_device::{Parted, Sink};
 use htl_event::Interest;
+use htl_inputs::{RunFault, write_lines};
 use std::alloc::Global;
 use std::thread::Threads;
 

@@ -2,16 +2,15 @@
 
 ghost use Rattle.std.specs.Prelude.{◌≡◌, false, map, IfErr, IfOk, IfSome};
 ghost use Rattle.htl_device.specs.States.{AreOpen, IsOpen};
+ghost use Rattle.htl_inputs.specs.Reads.{IsRead, NeverWrite, ReadsAll, StopsIn};
+ghost use Rattle.htl_inputs.specs.Sources.{IsReportedOfSource};
 ghost use Rattle.htl_main.specs.Picked.{NeverCase};
 ghost use Rattle.htl_main.specs.Picking.{AreAllPicked, ArePicksMore};
-ghost use Rattle.htl_main.specs.Reads.{IsRead, NeverWrite, ReadsAll, StopsIn};
-ghost use Rattle.htl_main.specs.Sources.{IsReportedOfSource};
 
-use crate::cut_inputs::{Accepted, CutEnd, accept, add_end};
-use crate::fault::RunFault;
 use htl_command::InputForm;
 use htl_device::{MAX_READS, Parted};
 use htl_event::Interest;
+use htl_inputs::{Accepted, CutEnd, RunFault, accept, add_end};
 use htl_reading::gather_bundle;
 use htl_segment::Picks;
 use std::alloc::Global;

@@ -20,17 +20,15 @@ ghost use Rattle.htl_main.specs.Remarks.{RemarksOver};
 
 use crate::completed::{Absence, Completed, absence_of};
 use crate::coverage::{Missed, is_above};
-use crate::cut_inputs::CutEnd;
-use crate::fault::RunFault;
-use crate::inputs::decode_all;
 use crate::loading::{Loaded, load_decoded};
 use crate::refused::Refused;
 use crate::remarks::{Remarks, remarks_on};
 use htl_case::Case;
 use htl_command::{Format, Job, Moment};
-use htl_device::{Sink, write_whole};
+use htl_device::Sink;
 use htl_event::NoMemory;
 use htl_evidence::{AsOf, answer};
+use htl_inputs::{CutEnd, RunFault, decode_all, write_lines};
 use htl_json::json_lines;
 use htl_question::{Answer, Question, Rows};
 use htl_report::{folded, text};
@@ -237,17 +235,4 @@ pub(crate) fn read_symbols(alloc: Global, symbols: Option<&[u8]>) -> Result<Symb
         Some(bytes) => Symbols::read(alloc, bytes),
         None => Ok(Symbols::none(alloc)),
     }
-}
-
-/// Writes the whole text, or some first part of it where the sink fails.
-pub(crate) fn write_lines<W: Sink>(out: &mut W, lines: &[u8]) -> Result<(), RunFault>
-    requires { (W.state out.old).failed ≡ false }
-    ensures ok { OnOk result
-        (Appends (W.state out.old).contents (W.state out.new).contents lines.now) }
-    ensures fine { OnOk result ((W.state out.new).failed ≡ false) }
-    ensures err { IfErr result (λ fault. (fault ≡ RunFault.Write)
-        × ((W.state out.new).failed ≡ true)
-        × AppendsPrefix (W.state out.old).contents (W.state out.new).contents lines.now) }
-{
-    write_whole(out, lines).map_err(|_| RunFault::Write)
 }

@@ -1,8 +1,8 @@
 //! Why a run ended, and which two segments its fault is about.
 
-use crate::fault::RunFault;
 use crate::origin::Between;
 use htl_event::NoMemory;
+use htl_inputs::RunFault;
 use thiserror::Error;
 
 /// Why a run ended, and which two segments its fault is about. Its text is the fault's line.
@@ -32,7 +32,7 @@ impl From<RunFault> for Refused {
 /// Memory was refused, which is about no two segments.
 impl From<NoMemory> for Refused {
     ghost use Rattle.std.specs.Prelude.{◌≡◌};
-    ghost use Rattle.htl_main.specs.declared.fault.RunFault.TheVariants.{Memory};
+    ghost use Rattle.htl_inputs.specs.declared.fault.RunFault.TheVariants.{Memory};
     ghost use Rattle.htl_main.specs.declared.origin.Between.TheVariants.{Nothing};
 
     ghost from_gives = { λ _ refused.

@@ -3,7 +3,7 @@ use Rattle.std.proofs.Common.{◌≡◌, ◌≢◌, ◌++◌, ◌∷◌, ◌∙�
 use Rattle.std.proofs.Common.{ap, append_assoc, append-nil, inl, inr, map, refl, subst, sym, take}
 use Rattle.std.proofs.lemmas.List.{take-map}
 use Rattle.std.proofs.lemmas.List.Elements.{All-append, All-cons, All-nil}
-use Rattle.htl_main.specs.declared.fault.RunFault.{RunFault}
+use Rattle.htl_inputs.specs.declared.fault.RunFault.{RunFault}
 use Rattle.htl_program.specs.Openings.{AsksFor, AsksForAll, AsksForTable, table_asked}
 use Rattle.htl_program.specs.Rounds.{Asks, EndsEarly, IsOfName, OpensAgain, OpensInputs, OpensOnce, Rounds, Tabled, all_opened, inputs_opened}
 use Rattle.htl_program.specs.Worlds.{Ask, IsAsked, Known, Logs, WorldState, change, to_open, to_read}

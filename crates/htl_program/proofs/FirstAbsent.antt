@@ -3,8 +3,8 @@ use Rattle.std.proofs.Common.{◌≡◌, ◌⊎◌, ◌∙◌, ◌∷◌, [], �
 use Rattle.std.specs.Prelude.{None, Option, Some, String, slice_get, Result, Err}
 use Rattle.std.proofs.lemmas.Option.{get_or_from_slice_get, none-some, same_Some, slice_get_within}
 use mathlib.Core.Bool.{true≢false}
-use Rattle.htl_main.specs.declared.fault.RunFault.{RunFault}
-use Rattle.htl_main.specs.declared.fault.RunFault.TheVariants.{Memory, Read}
+use Rattle.htl_inputs.specs.declared.fault.RunFault.{RunFault}
+use Rattle.htl_inputs.specs.declared.fault.RunFault.TheVariants.{Memory, Read}
 use Rattle.htl_program.specs.Asking.{Found, all_hold, found, found_with, one_is_absent, unknown}
 use Rattle.htl_program.specs.Readings.{IsUnopenedFor}
 use Rattle.htl_program.specs.Worlds.{IsFirstAbsent, Known, of_each, of_inputs}

@@ -4,13 +4,13 @@ use Rattle.std.specs.Prelude.{IfErr, Result, Ok, Err, Vec}
 use Rattle.htl_segment.specs.Content.{Content}
 use Rattle.htl_command.specs.declared.question.Setting.{Setting}
 use Rattle.htl_device.specs.States.{SourceState}
+use Rattle.htl_inputs.specs.Readings.{AreRead}
+use Rattle.htl_inputs.specs.declared.fault.RunFault.{RunFault}
+use Rattle.htl_inputs.specs.declared.fault.RunFault.TheVariants as faults
 use Rattle.htl_main.specs.Folding.{AreFolded, AreReadToFold, Folding, IsFolded, IsFoldedUpTo, IsFoldingRefused, IsHalfKnown, folding}
 use Rattle.htl_main.specs.Origins.{by_fault}
-use Rattle.htl_main.specs.Readings.{AreRead}
 use Rattle.htl_main.specs.Runs.{EndsFolding, FoldsAs}
 use Rattle.htl_main.specs.declared.adding.Added.{Added}
-use Rattle.htl_main.specs.declared.fault.RunFault.{RunFault}
-use Rattle.htl_main.specs.declared.fault.RunFault.TheVariants as faults
 use Rattle.htl_main.specs.declared.folding.Folded.{Folded}
 use Rattle.htl_main.specs.declared.refused.Refused.{Refused}
 use Rattle.htl_program.specs.Asking.{GoesOn, IsFolding}

@@ -11,9 +11,10 @@ use Rattle.htl_command.specs.declared.question.InputForm.{InputForm}
 use Rattle.htl_command.specs.declared.question.Job.{Job}
 use Rattle.htl_command.specs.declared.question.Setting.{Setting}
 use Rattle.htl_device.specs.States.{SourceState}
+use Rattle.htl_inputs.specs.CutInputs.{decoding}
+use Rattle.htl_inputs.specs.Inputs.{DecodeAll}
+use Rattle.htl_inputs.proofs.CutLaws.{ends_both, ends_moved}
 use Rattle.htl_main.specs.Coverages.{IsCoverage}
-use Rattle.htl_main.specs.CutInputs.{decoding}
-use Rattle.htl_main.specs.Inputs.{DecodeAll}
 use Rattle.htl_main.specs.Loading.{AreLoadedOf}
 use Rattle.htl_main.specs.Origins.{by_fault}
 use Rattle.htl_main.specs.Printed.{HasSymbols, IsText}
@@ -27,7 +28,6 @@ use Rattle.htl_main.specs.declared.origin.Between.TheVariants.{Nothing}
 use Rattle.htl_main.specs.declared.refused.Refused.{Refused}
 use Rattle.htl_main.proofs.AfterLoading.{as_of, runs_absence, runs_remarks, runs_text}
 use Rattle.htl_main.proofs.CompleteLaws.{complete_both}
-use Rattle.htl_main.proofs.CutLaws.{ends_both, ends_moved}
 use Rattle.htl_program.specs.Asking.{AddsTo, AreRunsRemarks, IsAnswerText, IsRunsAbsence, IsRunsText, own_run}
 use Rattle.htl_program.specs.Endings.{RunsOut}
 use Rattle.htl_program.specs.Loads.{AddsFiles}

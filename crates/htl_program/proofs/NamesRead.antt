@@ -4,12 +4,12 @@ use Rattle.std.specs.Prelude.{IfErr, None, OnOk, Option, Some, Result, Ok, Err, 
 use Rattle.std.proofs.lemmas.Option.{none-some}
 use Rattle.htl_command.specs.declared.command.Run.{Run}
 use Rattle.htl_device.specs.States.{AreOpen, SinkState, SourceState, lefts}
+use Rattle.htl_inputs.specs.Readings.{AreRead}
+use Rattle.htl_inputs.specs.declared.fault.RunFault.{RunFault}
+use Rattle.htl_inputs.specs.declared.fault.RunFault.TheVariants.{Memory, Read, SymbolsRead}
 use Rattle.htl_main.specs.Origins.{by_fault}
-use Rattle.htl_main.specs.Readings.{AreRead}
 use Rattle.htl_main.specs.Runs.{IsRun}
 use Rattle.htl_main.specs.declared.completed.Completed.{Completed}
-use Rattle.htl_main.specs.declared.fault.RunFault.{RunFault}
-use Rattle.htl_main.specs.declared.fault.RunFault.TheVariants.{Memory, Read, SymbolsRead}
 use Rattle.htl_main.specs.declared.refused.Refused.{Refused}
 use Rattle.htl_program.specs.Asking.{ReadsNames}
 use Rattle.htl_program.specs.Endings.{IsUntabled}

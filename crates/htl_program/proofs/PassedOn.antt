@@ -2,7 +2,7 @@
 use Rattle.std.proofs.Common.{◌≡◌, ◌⊎◌, ◌∙◌, Bool, false, inl, inr, true, ap, refl, sym}
 use Rattle.std.specs.Prelude.{Result, Ok, Err}
 use mathlib.Core.Bool.{true≢false}
-use Rattle.htl_main.specs.declared.fault.RunFault.{RunFault}
+use Rattle.htl_inputs.specs.declared.fault.RunFault.{RunFault}
 
 fault_or : {S E : Type 0} → E → Result S E → E
 fault_or other (Ok done) = other

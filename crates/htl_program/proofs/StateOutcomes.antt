@@ -4,13 +4,13 @@ use Rattle.std.specs.Prelude.{IfErr, IfOk, OnOk, Result}
 use Rattle.htl_command.specs.declared.question.Job.{Job}
 use Rattle.htl_segment.specs.Content.{Content}
 use Rattle.htl_segment.specs.Traces.{Trace}
+use Rattle.htl_inputs.specs.declared.fault.RunFault.{RunFault}
+use Rattle.htl_inputs.specs.declared.fault.RunFault.TheVariants.{Incomplete, Memory}
 use Rattle.htl_main.specs.Asked.{IsUnasked}
 use Rattle.htl_main.specs.Completeness.{IsComplete}
 use Rattle.htl_main.specs.Folding.{AreFolded, IsAskedOver, IsCollectionOf}
 use Rattle.htl_main.specs.Printed.{IsText}
 use Rattle.htl_main.specs.Remarks.{RemarksOver}
-use Rattle.htl_main.specs.declared.fault.RunFault.{RunFault}
-use Rattle.htl_main.specs.declared.fault.RunFault.TheVariants.{Incomplete, Memory}
 use Rattle.htl_main.specs.declared.folding.Folded.{Folded}
 use Rattle.htl_main.specs.declared.printing.AnswerText.{AnswerText}
 use Rattle.htl_dialogue.specs.Notes.{AreToldOf}

@@ -8,29 +8,30 @@ use Rattle.htl_command.specs.declared.question.Job.{Job}
 use Rattle.htl_command.specs.declared.question.Setting.{Setting}
 use Rattle.htl_device.specs.States.{SourceState, ends, good_reads, has_failed, lefts}
 use Rattle.htl_device.specs.declared.whole.TheConstants.{MAX_READS}
+use Rattle.htl_inputs.specs.CutInputs.{AreCut}
+use Rattle.htl_inputs.specs.Inputs.{DecodeAll}
+use Rattle.htl_inputs.specs.Sources.{IsEndless, IsTrueAt}
+use Rattle.htl_inputs.specs.declared.cuts.CutInputs.{CutInputs}
+use Rattle.htl_inputs.specs.declared.fault.RunFault.{RunFault}
+use Rattle.htl_inputs.specs.declared.fault.RunFault.TheVariants.{Incomplete, Memory, Read}
 use Rattle.htl_dialogue.specs.Dialogues.{Answers, Gets, answers_by}
 use Rattle.htl_dialogue.specs.Lines.{lines_of_dialogue}
 use Rattle.htl_dialogue.specs.Notes.{Note, begins}
 use Rattle.htl_dialogue.specs.declared.dialogue.DialogueFault.TheVariants.{Questions, Write}
 use Rattle.htl_main.specs.Completeness.{IsComplete, IsLeastMissing}
 use Rattle.htl_main.specs.Coverages.{IsCoverage}
-use Rattle.htl_main.specs.CutInputs.{AreCut}
 use Rattle.htl_main.specs.Folding.{Folding, IsAskedOver, IsBeginningRefused, IsCollectionOf, IsFolded, IsFoldingRefused, IsHalfKnown}
 use Rattle.htl_main.specs.Folding.{folding}
-use Rattle.htl_main.specs.Inputs.{DecodeAll}
 use Rattle.htl_main.specs.Loading.{AreLoadedOf, in_setting}
 use Rattle.htl_main.specs.Origins.{IsBetween, by_fault}
 use Rattle.htl_main.specs.Printed.{HasSymbols, IsText, Printed}
-use Rattle.htl_main.specs.Sources.{IsEndless, IsSourcesCause, IsTrueAt}
+use Rattle.htl_main.specs.Causes.{IsSourcesCause}
 use Rattle.htl_main.specs.Remarks.{RemarksOver, ReportsRemarks}
 use Rattle.htl_main.specs.Runs.{EndsAdding}
 use Rattle.htl_main.specs.Subjects.{ReportsAbsence}
 use Rattle.htl_main.specs.declared.adding.Added.{Added}
 use Rattle.htl_main.specs.declared.completed.Absence.{Absence}
 use Rattle.htl_main.specs.declared.coverage.Coverage.{Coverage}
-use Rattle.htl_main.specs.declared.cut_inputs.CutInputs.{CutInputs}
-use Rattle.htl_main.specs.declared.fault.RunFault.{RunFault}
-use Rattle.htl_main.specs.declared.fault.RunFault.TheVariants.{Incomplete, Memory, Read}
 use Rattle.htl_main.specs.declared.origin.Between.{Between}
 use Rattle.htl_main.specs.declared.printing.AnswerText.{AnswerText}
 use Rattle.htl_main.specs.declared.refused.Refused.{Refused}

@@ -4,6 +4,8 @@ use Rattle.htl_command.specs.Needs.{needs_events}
 use Rattle.htl_command.specs.declared.question.Job.{Job}
 use Rattle.htl_command.specs.declared.question.Setting.{Setting}
 use Rattle.htl_device.specs.States.{SourceState}
+use Rattle.htl_inputs.specs.declared.fault.RunFault.{RunFault}
+use Rattle.htl_inputs.specs.declared.fault.RunFault.TheVariants.{Incomplete, Memory}
 use Rattle.htl_dialogue.specs.Dialogues.{Answers, answers_by}
 use Rattle.htl_dialogue.specs.declared.saying.Said.{Said}
 use Rattle.htl_dialogue.specs.declared.saying.Said.TheVariants as said
@@ -17,8 +19,6 @@ use Rattle.htl_main.specs.Runs.{EndsAdding}
 use Rattle.htl_main.specs.Subjects.{HasAbsence}
 use Rattle.htl_main.specs.declared.adding.Added.{Added}
 use Rattle.htl_main.specs.declared.completed.Absence.{Absence}
-use Rattle.htl_main.specs.declared.fault.RunFault.{RunFault}
-use Rattle.htl_main.specs.declared.fault.RunFault.TheVariants.{Incomplete, Memory}
 use Rattle.htl_main.specs.declared.folding.Folded.{Folded}
 use Rattle.htl_main.specs.declared.loading.Loaded.{Loaded}
 use Rattle.htl_main.specs.declared.printing.AnswerText.{AnswerText}

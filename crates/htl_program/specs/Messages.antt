@@ -7,12 +7,12 @@ use Rattle.htl_command.specs.declared.fault.ParseFault.{ParseFault}
 use Rattle.htl_command.specs.declared.fault.ParseFault.TheVariants.{Help, Usage, Memory}
 use Rattle.htl_command.specs.declared.question.Job.{Job}
 use Rattle.htl_command.specs.declared.question.Moment.{Moment}
+use Rattle.htl_inputs.specs.declared.cuts.CutInputs.{CutInputs}
+use Rattle.htl_inputs.specs.declared.fault.RunFault.{RunFault}
 use Rattle.htl_dialogue.specs.declared.dialogue.DialogueFault.{DialogueFault}
 use Rattle.htl_main.specs.Moments.{is_above}
 use Rattle.htl_main.specs.declared.completed.Completed.{Completed}
 use Rattle.htl_main.specs.declared.coverage.Coverage.{Coverage}
-use Rattle.htl_main.specs.declared.cut_inputs.CutInputs.{CutInputs}
-use Rattle.htl_main.specs.declared.fault.RunFault.{RunFault}
 use Rattle.htl_main.specs.declared.origin.Between.TheVariants.{Nothing}
 use Rattle.htl_main.specs.declared.refused.Refused.{Refused}
 use Rattle.htl_program.specs.AskedAbout.{lack_of}

@@ -2,8 +2,8 @@
 use Rattle.std.specs.Prelude.{◌≡◌, ◌++◌, ◌∷◌, ◌⊎◌, [], ℕ, false, List, All, IfErr, IfOk, OnErr, OnOk, Option, Some, None, Result, Ok, Err}
 use Rattle.std.specs.Prelude.{String, Vec, map, option_map, string_bytes}
 use Rattle.htl_device.specs.States.{AreOpen, SourceState, lefts}
-use Rattle.htl_main.specs.declared.fault.RunFault.{RunFault}
-use Rattle.htl_main.specs.declared.fault.RunFault.TheVariants.{Memory, SymbolsRead}
+use Rattle.htl_inputs.specs.declared.fault.RunFault.{RunFault}
+use Rattle.htl_inputs.specs.declared.fault.RunFault.TheVariants.{Memory, SymbolsRead}
 use Rattle.htl_program.specs.Endings.{IsUnopened, IsUntabled}
 use Rattle.htl_program.specs.Outcomes.{HaveTexts, IsAbsentAt}
 use Rattle.htl_program.specs.Readings.{AreUnread, IsUnopenedFor}

@@ -6,16 +6,17 @@ use Rattle.htl_command.specs.declared.command.Dialogue.{Dialogue}
 use Rattle.htl_command.specs.declared.command.Run.{Run}
 use Rattle.htl_command.specs.declared.question.InputForm.{InputForm}
 use Rattle.htl_device.specs.States.{SinkState, SourceState}
+use Rattle.htl_inputs.specs.declared.cuts.CutInputs.{CutInputs}
+use Rattle.htl_inputs.specs.declared.fault.RunFault.{RunFault}
+use Rattle.htl_inputs.specs.declared.fault.RunFault.TheVariants.{Memory, Write}
+use Rattle.htl_convert.specs.Dumps.{is_failed_write, EndsDumping}
+use Rattle.htl_convert.specs.Encodings.{EndsEncoding}
 use Rattle.htl_dialogue.specs.Dialogues.{Converses, DialogueStops}
 use Rattle.htl_dialogue.specs.Notes.{Note}
 use Rattle.htl_dialogue.specs.declared.dialogue.Conversed.{Conversed}
-use Rattle.htl_main.specs.Dumps.{is_failed_write}
 use Rattle.htl_main.specs.Origins.{by_fault}
-use Rattle.htl_main.specs.Runs.{EndsDumping, EndsEncoding, LeavesSink}
+use Rattle.htl_main.specs.Runs.{LeavesSink}
 use Rattle.htl_main.specs.declared.completed.Completed.{Completed}
-use Rattle.htl_main.specs.declared.cut_inputs.CutInputs.{CutInputs}
-use Rattle.htl_main.specs.declared.fault.RunFault.{RunFault}
-use Rattle.htl_main.specs.declared.fault.RunFault.TheVariants.{Memory, Write}
 use Rattle.htl_main.specs.declared.refused.Refused.{Refused}
 use Rattle.htl_program.specs.Asking.{Begins, BeginsAndGets, IsBeginsBetween, IsBeginsCause, Opening, ReportsDevices, Taken, answers_over}
 use Rattle.htl_program.specs.Asking.{before_dialogue}

@@ -1,10 +1,10 @@
 -- How the inputs of a run were read in a world (this project's own).
 use Rattle.std.specs.Prelude.{◌≡◌, ◌⊎◌, ℕ, Bool, List, [], map, Option, String, Result, Err}
 use Rattle.htl_device.specs.States.{AreOpen, SourceState, good_reads, has_failed, lefts}
-use Rattle.htl_main.specs.Readings.{AreRead}
-use Rattle.htl_main.specs.Sources.{IsEndless, IsTrueAt}
-use Rattle.htl_main.specs.declared.fault.RunFault.{RunFault}
-use Rattle.htl_main.specs.declared.fault.RunFault.TheVariants.{Memory, Read, SymbolsRead}
+use Rattle.htl_inputs.specs.Readings.{AreRead}
+use Rattle.htl_inputs.specs.Sources.{IsEndless, IsTrueAt}
+use Rattle.htl_inputs.specs.declared.fault.RunFault.{RunFault}
+use Rattle.htl_inputs.specs.declared.fault.RunFault.TheVariants.{Memory, Read, SymbolsRead}
 use Rattle.htl_program.specs.Worlds.{IsFirstRefused, Known, of_each, of_inputs}
 
 -- They were opened, have these bytes as far as they are known, and were read as any run reads its sources.

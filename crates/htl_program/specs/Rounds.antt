@@ -1,8 +1,8 @@
 -- What a world is asked for where names are opened (this project's own): each name once a round, in their order.
 use Rattle.std.specs.Prelude.{◌≡◌, ◌≢◌, ◌++◌, ◌∷◌, ◌⊎◌, [], ⊤, ℕ, zero, suc, Bool, true, false, List, All, Option, Some, None}
 use Rattle.std.specs.Prelude.{Result, Ok, Err, map, slice_get, take}
-use Rattle.htl_main.specs.declared.fault.RunFault.{RunFault}
-use Rattle.htl_main.specs.declared.fault.RunFault.TheVariants.{Memory, Read, SymbolsRead}
+use Rattle.htl_inputs.specs.declared.fault.RunFault.{RunFault}
+use Rattle.htl_inputs.specs.declared.fault.RunFault.TheVariants.{Memory, Read, SymbolsRead}
 use Rattle.htl_program.specs.Worlds.{Ask, IsAsked, Known, WorldChange, for_standard, to_open, to_read}
 use Rattle.htl_program.specs.declared.world.OpenFault.{OpenFault}
 use Rattle.htl_program.specs.declared.world.OpenFault.TheVariants.{NoMemory, Refused}

@@ -1,12 +1,12 @@
 -- The statuses with which the program ends (this project's own).
 use Rattle.std.specs.Prelude.{◌&&◌, ℕ, Bool, if◌then◌else◌, Result, Ok, Err}
 use Rattle.std.specs.Option.{option_map_or}
+use Rattle.htl_inputs.specs.Statuses.{status_of}
+use Rattle.htl_inputs.specs.declared.fault.RunFault.{RunFault}
 use Rattle.htl_dialogue.specs.declared.dialogue.Conversed.{Conversed}
 use Rattle.htl_dialogue.specs.declared.dialogue.DialogueFault.{DialogueFault}
 use Rattle.htl_dialogue.specs.declared.dialogue.DialogueFault.TheVariants.{Questions, Write, NoMemory}
-use Rattle.htl_main.specs.Statuses.{status_of}
 use Rattle.htl_main.specs.declared.completed.Completed.{Completed}
-use Rattle.htl_main.specs.declared.fault.RunFault.{RunFault}
 use Rattle.htl_program.specs.declared.ask_fault.AskFault.{AskFault}
 use Rattle.htl_program.specs.declared.ask_fault.AskFault.TheVariants.{Run, Dialogue}
 

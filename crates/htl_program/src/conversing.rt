@@ -2,8 +2,8 @@
 
 ghost use Rattle.std.specs.Prelude.{◌≡◌, IfErr, false, map, option_copied};
 ghost use Rattle.htl_device.specs.States.{AreOpen, IfKnown, IsOpen};
+ghost use Rattle.htl_inputs.specs.Readings.{AreRead};
 ghost use Rattle.htl_main.specs.Origins.{by_fault};
-ghost use Rattle.htl_main.specs.Readings.{AreRead};
 ghost use Rattle.htl_program.specs.Asking.{IsBeginsBetween, ReportsDevices, before_dialogue};
 ghost use Rattle.htl_program.specs.Outcomes.{EndsConversing, IsConversed, talk};
 ghost use Rattle.htl_program.specs.Rounds.{Asks, AsksLater};

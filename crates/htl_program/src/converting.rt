@@ -7,8 +7,9 @@ ghost use Rattle.htl_program.specs.Worlds.{change};
 use crate::opening::open_inputs;
 use crate::world::World;
 use htl_command::InputForm;
+use htl_convert::{dump_from, encode_from};
 use htl_device::Sink;
-use htl_main::{CutInputs, RunFault, dump_from, encode_from};
+use htl_inputs::{CutInputs, RunFault};
 use std::alloc::Global;
 
 /// Prints the segments of the files as text, or those of standard input where no file is named.

@@ -3,8 +3,8 @@
 ghost use Rattle.std.specs.Prelude.{◌≡◌, IfErr, IfOk, None, map};
 ghost use Rattle.std.specs.Option.{option_copied};
 ghost use Rattle.htl_device.specs.States.{AreOpen, IfKnown};
+ghost use Rattle.htl_inputs.specs.Readings.{AreRead};
 ghost use Rattle.htl_main.specs.Origins.{by_fault};
-ghost use Rattle.htl_main.specs.Readings.{AreRead};
 ghost use Rattle.htl_program.specs.Asking.{IsBeginsBetween, IsBeginsCause};
 ghost use Rattle.htl_program.specs.Loads.{IsBegun, IsCovered, is_state};
 

@@ -4,10 +4,10 @@ use Rattle.std.proofs.lemmas.Grind.{common_steps}
 use Rattle.std.proofs.lemmas.List.{length-map}
 use Rattle.std.proofs.lemmas.Result.{err_from_is_err_and}
 use Rattle.htl_device.specs.States.{ends, has_ended, lefts, remaining}
-use Rattle.htl_main.specs.CutInputs.{decoding}
+use Rattle.htl_inputs.specs.CutInputs.{decoding}
+use Rattle.htl_inputs.proofs.ReadingLaws.{ends_too, read_then, unread, well}
 use Rattle.htl_main.proofs.AddingLaws.{added_cause, as_many, may_be_partial, no_fewer, no_write_after, none_stops, reads_after, stops_cause}
 use Rattle.htl_main.proofs.AfterDecoding.{refused_is}
-use Rattle.htl_main.proofs.ReadingLaws.{ends_too, read_then, unread, well}
 use Rattle.htl_main.proofs.adding.add.Goals as goal
 
 pub returns-in_err-check_workers : goal.returns-in_err-check_workers

@@ -4,12 +4,12 @@ use Rattle.std.specs.Prelude.{slice_get}
 use Rattle.std.proofs.lemmas.Result.{err_from_is_err_and}
 use Rattle.htl_segment.specs.Content.{Content}
 use Rattle.htl_tables.proofs.FirstNoted.{get_last}
+use Rattle.htl_inputs.specs.CutInputs.{decoding}
+use Rattle.htl_inputs.specs.Inputs.{DecodeAll, Decodes}
+use Rattle.htl_inputs.proofs.InputLaws.{decode_more}
 use Rattle.htl_main.specs.Causes.{IsCauseAfter}
-use Rattle.htl_main.specs.CutInputs.{decoding}
-use Rattle.htl_main.specs.Inputs.{DecodeAll, Decodes}
 use Rattle.htl_main.specs.Loading.{AreLoaded}
 use Rattle.htl_main.proofs.AddingLaws.{behind, spans_too}
-use Rattle.htl_main.proofs.InputLaws.{decode_more}
 use Rattle.htl_main.proofs.adding.load_with.Goals as goal
 
 pub returns-in_err-loaded-clause-err : goal.returns-in_err-loaded-clause-err

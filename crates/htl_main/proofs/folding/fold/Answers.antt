@@ -1,12 +1,12 @@
 -- `fold` reads its sources one after another, takes their segments, and ends for a cause of theirs.
 use Rattle.std.proofs.Common.{inl, map, refl}
 use Rattle.std.proofs.lemmas.Result.{err_from_is_err_and}
+use Rattle.htl_inputs.proofs.ReadingLaws.{ends_too, ill, read_then, unread, well}
 use Rattle.htl_main.specs.Folding.{folding}
 use Rattle.htl_main.specs.Origins.{by_fault}
 use Rattle.htl_main.proofs.AfterDecoding.{refused_is}
 use Rattle.htl_main.proofs.FoldInputs.{gap_about_none, gap_late, gap_no_write, is_folded, no_workers, not_added, read_to_fold}
 use Rattle.htl_main.proofs.LateFaults.{read_late}
-use Rattle.htl_main.proofs.ReadingLaws.{ends_too, ill, read_then, unread, well}
 use Rattle.htl_main.proofs.folding.fold.Goals as goal
 
 pub returns-in_err-check_workers : goal.returns-in_err-check_workers

@@ -2,13 +2,13 @@
 use Rattle.std.proofs.Common.{[], None, map, refl}
 use Rattle.std.proofs.lemmas.Result.{err_from_is_err_and}
 use Rattle.std.specs.Option.{option_copied}
+use Rattle.htl_inputs.specs.declared.fault.RunFault.TheVariants.{Workers}
+use Rattle.htl_inputs.proofs.ReadingLaws.{ends_too, ill, read_then, unread, well}
 use Rattle.htl_main.specs.Folding.{AreFolded, folding}
-use Rattle.htl_main.specs.declared.fault.RunFault.TheVariants.{Workers}
 use Rattle.htl_main.proofs.AfterDecoding.{refused_is}
 use Rattle.htl_main.proofs.FoldInputs.{begins_refused, gap_about_none, gap_late, gap_no_write, is_folded, no_workers, not_added, nothing_folded}
 use Rattle.htl_main.proofs.FoldInputs.{symbols_about_none, symbols_late, symbols_no_write, symbols_refused}
 use Rattle.htl_main.proofs.LateFaults.{read_late}
-use Rattle.htl_main.proofs.ReadingLaws.{ends_too, ill, read_then, unread, well}
 use Rattle.htl_main.proofs.folding.load_folded.Goals as goal
 
 pub returns-in_err-check_workers : goal.returns-in_err-check_workers

@@ -3,10 +3,10 @@ use Rattle.std.proofs.lemmas.Result.{err_from_is_err_and}
 use Rattle.std.proofs.Common.{map, refl}
 use Rattle.std.specs.Option.{option_copied}
 use Rattle.htl_device.specs.States.{ends, lefts}
-use Rattle.htl_main.specs.CutInputs.{decoding}
+use Rattle.htl_inputs.specs.CutInputs.{decoding}
+use Rattle.htl_inputs.proofs.ReadingLaws.{ends_too, read_then, unread, well}
 use Rattle.htl_main.specs.Loading.{in_setting}
 use Rattle.htl_main.proofs.AfterDecoding.{refused_is, not_write, reads_then, some_job, sources_cause_of, sources_stop, stop_about_none}
-use Rattle.htl_main.proofs.ReadingLaws.{ends_too, read_then, unread, well}
 use Rattle.htl_main.proofs.loading.load.Goals as goal
 
 pub returns-in_err-check_workers : goal.returns-in_err-check_workers

@@ -2,7 +2,7 @@
 use Rattle.std.proofs.Common.{refl}
 use Rattle.std.proofs.lemmas.Result.{err_from_is_err_and}
 use Rattle.std.specs.Option.{option_copied}
-use Rattle.htl_main.specs.CutInputs.{decoding}
+use Rattle.htl_inputs.specs.CutInputs.{decoding}
 use Rattle.htl_main.proofs.AfterDecoding.{some_job}
 use Rattle.htl_main.proofs.CaseRefused.{none_after}
 use Rattle.htl_main.proofs.loading.load_decoded.Goals as goal

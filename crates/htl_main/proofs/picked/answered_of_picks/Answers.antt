@@ -2,11 +2,11 @@
 use Rattle.std.proofs.Common.{◌≡◌, ◌∙◌, ℕ, Bool, Option, None, Some, IfNone, inr, refl, ap}
 use Rattle.std.proofs.lemmas.Result.{err_from_is_err_and}
 use Rattle.std.specs.Option.{option_copied}
-use Rattle.htl_main.specs.CutInputs.{decoding}
 use Rattle.std.specs.List.{list_any}
 use Rattle.htl_event.specs.Moments.{counted_events}
 use Rattle.htl_command.specs.declared.question.Job.{Job}
 use Rattle.htl_segment.specs.Traces.{Trace, all_events}
+use Rattle.htl_inputs.specs.CutInputs.{decoding}
 use Rattle.htl_main.specs.Moments.{IsNamedMoment}
 use Rattle.htl_question.specs.Questions.{subject_of}
 use Rattle.htl_question.specs.Subjects.{is_about}

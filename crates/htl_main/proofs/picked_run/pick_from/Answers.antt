@@ -3,11 +3,11 @@ use Rattle.std.proofs.Common.{map, false, refl}
 use Rattle.std.specs.Option.{option_copied}
 use Rattle.std.proofs.lemmas.Result.{IfErr-weaker, err_from_is_err_and}
 use Rattle.htl_device.specs.States.{ends, lefts}
-use Rattle.htl_main.specs.CutInputs.{decoding}
+use Rattle.htl_inputs.specs.CutInputs.{decoding}
+use Rattle.htl_inputs.proofs.ReadingLaws.{ends_too, unread}
 use Rattle.htl_main.proofs.AfterDecoding.{sources_stop}
 use Rattle.htl_main.proofs.AfterPicking.{ends_picking, ends_without_case, given_is, picked_run}
 use Rattle.htl_main.proofs.LateFaults.{printing_late, read_late}
-use Rattle.htl_main.proofs.ReadingLaws.{ends_too, unread}
 use Rattle.htl_main.proofs.picked_run.pick_from.Goals as goal
 
 pub returns-in_err-check_workers : goal.returns-in_err-check_workers

@@ -2,12 +2,12 @@
 use Rattle.std.proofs.Common.{◌≤◌, arith, inl, length, map}
 use Rattle.std.proofs.lemmas.Option.{IfSome_then}
 use Rattle.std.proofs.lemmas.Result.{err_from_is_err_and}
+use Rattle.htl_inputs.specs.declared.fault.RunFault.TheVariants.{Memory}
+use Rattle.htl_inputs.proofs.CutLaws.{ends_next, no_ends}
+use Rattle.htl_inputs.proofs.ReadingLaws.{all_ended, all_texts, at_next, ends_there, next_of, next_open, none_before, one_more, refused_there}
+use Rattle.htl_inputs.proofs.ReadingLaws.{stops_there}
 use Rattle.htl_main.specs.Picking.{ArePicksMore}
-use Rattle.htl_main.specs.declared.fault.RunFault.TheVariants.{Memory}
-use Rattle.htl_main.proofs.CutLaws.{ends_next, no_ends}
 use Rattle.htl_main.proofs.PickLaws.{none_picked, one_picked}
-use Rattle.htl_main.proofs.ReadingLaws.{all_ended, all_texts, at_next, ends_there, next_of, next_open, none_before, one_more, refused_there}
-use Rattle.htl_main.proofs.ReadingLaws.{stops_there}
 use Rattle.htl_main.proofs.picking.pick_all.Goals as goal
 
 pub loop-place-init : goal.loop-place-init

@@ -1,9 +1,9 @@
 -- The sources so far were read to their ends, and what is asked about of them was picked.
 use Rattle.std.proofs.Common.{map, take, false}
 use Rattle.htl_device.specs.States.{IfKnown}
-use Rattle.htl_main.specs.CutInputs.{AreCutEnds}
+use Rattle.htl_inputs.specs.CutInputs.{AreCutEnds}
+use Rattle.htl_inputs.proofs.ReadingLaws.{ReadBefore}
 use Rattle.htl_main.specs.Picking.{ArePicksOfAll}
-use Rattle.htl_main.proofs.ReadingLaws.{ReadBefore}
 use Rattle.htl_main.proofs.picking.pick_all.Given as goal
 
 abbrev pub invariant-loop-place : goal.invariant-loop-place

@@ -1,5 +1,5 @@
 -- `pick_source` reads the source's bytes, and reports their fault, as a run does of one source.
-use Rattle.htl_main.proofs.OneSource.{accepted_read, decoded_ill, never_write, reported_bytes_of}
+use Rattle.htl_inputs.proofs.OneSource.{accepted_read, decoded_ill, never_write, reported_bytes_of}
 use Rattle.htl_main.proofs.PickLaws.{accepted_more, never_case, refused_more}
 use Rattle.htl_main.proofs.picking.pick_source.Goals as goal
 

@@ -3,8 +3,8 @@ use Rattle.std.proofs.Common.{Vec, Global, ℕ, map, refl}
 use Rattle.std.specs.Io.KnownBytes.{Appends}
 use Rattle.std.specs.Option.{option_copied}
 use Rattle.std.proofs.lemmas.Result.{err_from_is_err_and}
+use Rattle.htl_inputs.specs.CutInputs.{decoding}
 use Rattle.htl_main.specs.Causes.{IsCause}
-use Rattle.htl_main.specs.CutInputs.{decoding}
 use Rattle.htl_main.proofs.AfterDecoding.{refused_is, cause_of, input_about_none, inputs_stop, not_write, stop_no_write}
 use Rattle.htl_main.proofs.AfterLoading.{ends, loaded_of, prints, refused_over, reports_of}
 use Rattle.htl_main.proofs.printing.run.Goals as goal

@@ -4,11 +4,11 @@ use Rattle.std.proofs.lemmas.Result.{err_from_is_err_and}
 use Rattle.std.specs.Io.KnownBytes.{Appends}
 use Rattle.std.specs.Option.{option_copied}
 use Rattle.htl_device.specs.States.{ends, lefts}
-use Rattle.htl_main.specs.Sources.{IsSourcesCause}
+use Rattle.htl_inputs.proofs.ReadingLaws.{ends_too, ill, read_then, well}
+use Rattle.htl_main.specs.Causes.{IsSourcesCause}
 use Rattle.htl_main.proofs.AfterDecoding.{refused_is}
 use Rattle.htl_main.proofs.AfterLoading.{over_late, prints, refused_over, reports_of, sources_end}
 use Rattle.htl_main.proofs.LateFaults.{read_late}
-use Rattle.htl_main.proofs.ReadingLaws.{ends_too, ill, read_then, well}
 use Rattle.htl_main.proofs.streaming.run_from.Goals as goal
 
 pub returns-in_err-loaded : goal.returns-in_err-loaded

@@ -2,14 +2,14 @@
 use Rattle.std.proofs.Common.{◌++◌, ◌≤◌, ℕ, List, [], Option, Some, None, IfSome, arith, inl, length, map, refl}
 use Rattle.std.proofs.lemmas.Option.{IfSome_then}
 use Rattle.std.proofs.lemmas.Result.{err_from_is_err_and}
+use Rattle.htl_inputs.specs.Sources.{IsReportedOfSource}
+use Rattle.htl_inputs.specs.declared.fault.RunFault.TheVariants.{Memory}
+use Rattle.htl_inputs.proofs.CutLaws.{ends_next, no_ends}
+use Rattle.htl_inputs.proofs.InputLaws.{decode_next}
+use Rattle.htl_inputs.proofs.ReadingLaws.{all_ended, all_texts, at_next, ends_there, left_there, next_of, next_open, none_before, one_more, refused_there}
+use Rattle.htl_inputs.proofs.ReadingLaws.{stops_there}
 use Rattle.htl_main.specs.Folders.{folds_of}
-use Rattle.htl_main.specs.Sources.{IsReportedOfSource}
-use Rattle.htl_main.specs.declared.fault.RunFault.TheVariants.{Memory}
-use Rattle.htl_main.proofs.CutLaws.{ends_next, no_ends}
 use Rattle.htl_main.proofs.FoldInputs.{TookInput, TookOwn, given_before, took_both, took_none}
-use Rattle.htl_main.proofs.InputLaws.{decode_next}
-use Rattle.htl_main.proofs.ReadingLaws.{all_ended, all_texts, at_next, ends_there, left_there, next_of, next_open, none_before, one_more, refused_there}
-use Rattle.htl_main.proofs.ReadingLaws.{stops_there}
 use Rattle.htl_main.proofs.taking.read_all.Goals as goal
 
 of_both : (known : Option (List ℕ)) (P Q : List ℕ → Type 0) → IfSome known P → IfSome known Q → IfSome known (λ text. P text × Q text)

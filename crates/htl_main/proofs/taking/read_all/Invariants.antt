@@ -3,10 +3,10 @@ use Rattle.std.proofs.Common.{List, map, take}
 use Rattle.htl_device.specs.States.{IfKnown}
 use Rattle.htl_segment.specs.Content.{Content}
 use Rattle.htl_segment.specs.Keepers.{Took}
-use Rattle.htl_main.specs.CutInputs.{AreCutEnds}
-use Rattle.htl_main.specs.Inputs.{DecodeAll}
+use Rattle.htl_inputs.specs.CutInputs.{AreCutEnds}
+use Rattle.htl_inputs.specs.Inputs.{DecodeAll}
+use Rattle.htl_inputs.proofs.ReadingLaws.{ReadBefore}
 use Rattle.htl_main.specs.Folders.{folds_of}
-use Rattle.htl_main.proofs.ReadingLaws.{ReadBefore}
 use Rattle.htl_main.proofs.taking.read_all.Given as goal
 
 abbrev pub invariant-loop-place : goal.invariant-loop-place

@@ -1,8 +1,8 @@
 -- A folder takes the segments of a source, which is read as one of the run, or its fault is reported.
+use Rattle.htl_inputs.proofs.DigitsLaws.{digits_read, digits_reported, err_known, ok_known, told_known}
+use Rattle.htl_inputs.proofs.OneSource.{accepted_read, decoded_ill, reported_bytes_of}
 use Rattle.htl_main.specs.Folders.{folds_of}
-use Rattle.htl_main.proofs.DigitsLaws.{digits_read, digits_reported, err_known, ok_known, told_known}
 use Rattle.htl_main.proofs.FoldInputs.{TookInput, TookOwn, fault_kept, source_err, source_kept, source_ok, unread_kept}
-use Rattle.htl_main.proofs.OneSource.{accepted_read, decoded_ill, reported_bytes_of}
 use Rattle.htl_main.proofs.taking.read_input.Goals as goal
 
 pub returns-in-Ok-clause-ok : goal.returns-in-Ok-clause-ok

@@ -1,9 +1,8 @@
 -- The bytes are the segments that the folder took and those that are left, or it took those before a fault.
-use Rattle.htl_main.proofs.DumpLaws.{rest_at}
-use Rattle.htl_main.proofs.EndLaws.{refused_input}
+use Rattle.htl_inputs.proofs.EndLaws.{rest_at, refused_input}
+use Rattle.htl_inputs.proofs.InputLaws.{refused_bytes}
 use Rattle.htl_main.specs.Folders.{folds_of}
 use Rattle.htl_main.proofs.FoldInputs.{kept_before, text_kept, text_ok}
-use Rattle.htl_main.proofs.InputLaws.{refused_bytes}
 use Rattle.htl_main.proofs.taking.take_bytes.Goals as goal
 
 pub returns-clause-ok : goal.returns-clause-ok

@@ -1,7 +1,7 @@
 -- The bytes that digits write are those that are taken; of digits that are refused nothing is.
 use Rattle.std.proofs.lemmas.Result.{err_from_is_err_and}
+use Rattle.htl_inputs.specs.Inputs.{HasBytes}
 use Rattle.htl_main.specs.Folders.{folds_of}
-use Rattle.htl_main.specs.Inputs.{HasBytes}
 use Rattle.htl_main.proofs.FoldInputs.{digits_kept}
 use Rattle.htl_main.proofs.taking.take_text.Goals as goal
 

@@ -4,7 +4,7 @@ use Rattle.std.specs.Prelude.{is_some}
 use Rattle.std.proofs.lemmas.Result.{err_from_is_err_and}
 use Rattle.std.specs.Option.{option_copied}
 use Rattle.htl_lemmas.proofs.Lists.{take_front}
-use Rattle.htl_main.proofs.ReadingLaws.{ends_too, read_then, well}
+use Rattle.htl_inputs.proofs.ReadingLaws.{ends_too, read_then, well}
 use Rattle.htl_dialogue.proofs.Simulated.{converses_too, stops_too}
 use Rattle.htl_program.specs.Asking.{Opening, answers_over}
 use Rattle.htl_program.specs.Loads.{answers_from, is_state}

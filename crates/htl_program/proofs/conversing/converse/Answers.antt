@@ -2,8 +2,8 @@
 use Rattle.std.proofs.Common.{◌≡◌, ◌∙◌, Bool, List, Option, false, inl, inr, map, option_map, refl, rules, string_bytes, true, ℕ}
 use Rattle.htl_command.specs.declared.question.Setting.{Setting}
 use Rattle.htl_device.specs.States.{SourceState}
+use Rattle.htl_inputs.specs.declared.fault.RunFault.{RunFault}
 use Rattle.htl_main.specs.Origins.{by_fault}
-use Rattle.htl_main.specs.declared.fault.RunFault.{RunFault}
 use Rattle.htl_main.specs.declared.origin.Between.TheVariants.{Nothing}
 use Rattle.htl_program.specs.Asking.{IsBeginsBetween, before_dialogue}
 use Rattle.htl_program.specs.Readings.{AreUnread}

@@ -6,7 +6,7 @@ use Rattle.std.proofs.lemmas.List.{map-append}
 use Rattle.std.proofs.lemmas.List.Elements.{All-push}
 use Rattle.std.proofs.lemmas.Result.{err_from_is_err_and}
 use Rattle.htl_device.specs.States.{AreOpen, IsOpen, fresh, lefts, remaining}
-use Rattle.htl_main.specs.declared.fault.RunFault.{RunFault}
+use Rattle.htl_inputs.specs.declared.fault.RunFault.{RunFault}
 use Rattle.htl_program.specs.Readings.{IsUnopenedFor}
 use Rattle.htl_program.specs.Rounds.{unopened}
 use Rattle.htl_program.specs.Worlds.{Ask, IsAsked, of_each, to_open}

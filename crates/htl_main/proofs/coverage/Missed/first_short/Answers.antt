@@ -1,8 +1,8 @@
 -- It is the processor of the first gap, or of one cut end more that misses a segment.
 use Rattle.std.proofs.Common.{List, None, arith, get_or, subst, take, take_all}
 use Rattle.std.proofs.lemmas.List.{take_more}
+use Rattle.htl_inputs.specs.declared.cuts.CutEnd.{CutEnd}
 use Rattle.htl_main.specs.CaseOutlines.{IsFirstShort}
-use Rattle.htl_main.specs.declared.cut_inputs.CutEnd.{CutEnd}
 use Rattle.htl_main.proofs.Missing.{short_next}
 use Rattle.htl_main.proofs.coverage.Missed.first_short.Goals as goal
 

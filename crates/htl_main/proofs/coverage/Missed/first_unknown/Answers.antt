@@ -1,8 +1,8 @@
 -- One cut end more is known, or it is the first that isn't.
 use Rattle.std.proofs.Common.{None, All, arith, get_or, subst, take_all}
 use Rattle.std.proofs.lemmas.Option.{slice_get-get_or}
+use Rattle.htl_inputs.specs.declared.cuts.CutEnd.{CutEnd}
 use Rattle.htl_main.specs.Completeness.{IsKnown}
-use Rattle.htl_main.specs.declared.cut_inputs.CutEnd.{CutEnd}
 use Rattle.htl_main.proofs.Missing.{first_unknown, known_next, known_of, unknown_of}
 use Rattle.htl_main.proofs.coverage.Missed.first_unknown.Goals as goal
 

@@ -1,0 +1,3 @@
+pub mod CutCounts
+pub mod DumpLaws
+pub mod EncodeLaws

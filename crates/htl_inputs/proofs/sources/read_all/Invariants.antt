@@ -1,0 +1,12 @@
+-- The segments are those of the sources so far, which were read to their ends.
+use Rattle.std.proofs.Common.{map}
+use Rattle.htl_device.specs.States.{IfKnown}
+use Rattle.htl_inputs.proofs.ReadingLaws.{ReadBefore}
+use Rattle.htl_inputs.proofs.SpanLaws.{IsSoFar}
+use Rattle.htl_inputs.proofs.sources.read_all.Given as goal
+
+abbrev pub invariant-loop-place : goal.invariant-loop-place
+invariant-loop-place g l = record {
+  before : ReadBefore l.form.hex (map g.R.Source.state l.initial.sources) (map g.R.Source.state l.sources) l.place;
+  decoded : IfKnown (map g.R.Source.state l.initial.sources) (λ texts. IsSoFar l.form texts l.place l.decoded);
+}

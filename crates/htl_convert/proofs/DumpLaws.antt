@@ -253,8 +253,8 @@ abbrev unread : DigitsFault → Result (Vec ℕ Global) DigitsFault
 unread fault = Err fault
 
 -- nothing is dumped of a source whose digits can't be read
-pub unread_dump : (old new : SourceState) (form : InputForm) (place : ℕ) (given : Option (List ℕ)) (fault : DigitsFault) (out : Option (List ℕ)) → form.hex ≡ true
-    → ReadsDigits MAX_READS given old new (unread fault)
+pub unread_dump : (old new : SourceState) (form : InputForm) (place : ℕ) (given : Option (List ℕ)) (fault : DigitsFault) (out : Option (List ℕ))
+    → form.hex ≡ true → ReadsDigits MAX_READS given old new (unread fault)
     → IfSome given (λ input. InputStops form new.remaining new.ended place input out out (of_digits place fault))
 unread_dump old new form place None fault out hex is = tt
 unread_dump old new form place (Some input) (digits_faults.Foreign at) out hex is = record {
@@ -263,7 +263,8 @@ unread_dump old new form place (Some input) (digits_faults.Foreign at) out hex i
   are = refl;
   written = Appends-nil out;
 }
-unread_dump old new form place (Some input) digits_faults.Read out hex is = record { reported = refl; segments = []; are = rw hex refl; written = Appends-nil out }
+unread_dump old new form place (Some input) digits_faults.Read out hex is =
+    record { reported = refl; segments = []; are = rw hex refl; written = Appends-nil out }
 unread_dump old new form place (Some input) digits_faults.NoMemory out hex is =
     let kept = is.memory refl in
     record { reported = inr (kept.0, kept.1, kept.2, rw hex (kept.3)); segments = []; are = inl refl; written = Appends-nil out }

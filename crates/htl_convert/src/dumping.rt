@@ -13,7 +13,8 @@ ghost use Rattle.htl_device.specs.States.{AreOpen, IsOpen};
 ghost use Rattle.htl_inputs.specs.Ends.{IsEnd, IsEndRefused, IsSegmentOf};
 ghost use Rattle.htl_inputs.specs.Inputs.{SameDigits};
 ghost use Rattle.htl_inputs.specs.Reads.{FailsOnly, IsRead, NamesOnly, NeverRead};
-ghost use Rattle.htl_convert.specs.Dumping.{DumpsInput, FrontDumped, FrontStops, OthersFit, WholeStops, with_input};
+ghost use Rattle.htl_convert.specs.Dumping.{DumpsInput, FrontDumped, FrontStops, OthersFit};
+ghost use Rattle.htl_convert.specs.Dumping.{WholeStops, with_input};
 ghost use Rattle.htl_convert.specs.Dumps.{InputStops, IsDumpedFrom, is_failed_write};
 
 use htl_command::InputForm;

@@ -12,7 +12,8 @@ ghost use Rattle.htl_device.specs.States.{AreOpen, IfKnown, IsOpen, ends, lefts}
 ghost use Rattle.htl_inputs.specs.Reads.{IsRead, NamesOnly, NeverRead, NeverWrite};
 ghost use Rattle.htl_inputs.specs.Readings.{AreRead};
 ghost use Rattle.htl_convert.specs.Dumps.{is_failed_write};
-ghost use Rattle.htl_convert.specs.Encodings.{EncodeAll, EncodingStops, IsEncodedFrom, IsReportedOfText, written_as};
+ghost use Rattle.htl_convert.specs.Encodings.{EncodeAll, EncodingStops, IsEncodedFrom};
+ghost use Rattle.htl_convert.specs.Encodings.{IsReportedOfText, written_as};
 
 use htl_device::{MAX_READS, Sink, Source, read_whole};
 use htl_inputs::{RunFault, write_lines};

@@ -1,4 +1,5 @@
-//! Exchanges: analysts in threads, which share the runs of a case through one queue.
+//! Exchanges, for programs that call this library; no command uses them: analysts in threads, which
+//! share the runs of a case through one queue.
 //!
 //! A run is all segments of one processor. The queue holds parcels: runs of the case, and states
 //! that desks posted. Each desk has an analyst of its own, which no other thread sees. Whatever

@@ -84,7 +84,8 @@ pub enum RunFault {
 
 impl RunFault {
     ghost use Rattle.std.specs.Prelude.{◌≡◌};
-    ghost use Rattle.htl_inputs.specs.Faults.{of_digits, of_hex, of_read, of_segment, of_source, of_text};
+    ghost use Rattle.htl_inputs.specs.Faults.{of_digits, of_hex, of_read, of_segment, of_source};
+    ghost use Rattle.htl_inputs.specs.Faults.{of_text};
     ghost use Rattle.htl_inputs.specs.Statuses.{status_of};
 
     /// The exit status of the program: 2 for a wrong command, 3 for malformed input, 4 if the

@@ -8,7 +8,8 @@ use Rattle.std.proofs.lemmas.Result.{err_from_is_err_and}
 use Rattle.htl_device.specs.declared.source.TheConstants.{MAX_READ_LEN, MIN_READ_LEN}
 use Rattle.htl_segment.specs.Bundles.{IsRest}
 use Rattle.htl_convert.specs.Dumping.{FrontDumped}
-use Rattle.htl_convert.proofs.DumpLaws.{finished, finished_cut, front_named, front_no_read, kept_last, rest_inside, so_far_failed, so_far_memory, so_far_next, so_far_once_more, so_far_read, so_far_stops, so_far_unread}
+use Rattle.htl_convert.proofs.DumpLaws.{finished, finished_cut, front_named, front_no_read, kept_last, rest_inside, so_far_failed, so_far_memory, so_far_next}
+use Rattle.htl_convert.proofs.DumpLaws.{so_far_once_more, so_far_read, so_far_stops, so_far_unread}
 use Rattle.htl_convert.proofs.dumping.dump_within.Goals as goal
 
 pub returns-in_default-clause-stops : goal.returns-in_default-clause-stops

@@ -8,7 +8,7 @@ use Rattle.htl_inputs.specs.declared.fault.RunFault.{RunFault}
 use Rattle.htl_dialogue.specs.Lines.{arguments_of}
 use Rattle.htl_dialogue.specs.Sayings.{Saying, asks_forgotten, is_read, is_readable, meant, saying_of}
 use Rattle.htl_dialogue.specs.Sayings.{nothing, quits, asks, reads as says_reads, wrong}
-use Rattle.htl_main.specs.declared.adding.Added.{Added}
+use Rattle.htl_main.specs.declared.loading.adding.Added.{Added}
 use Rattle.htl_main.specs.declared.completed.Absence.{Absence}
 use Rattle.htl_main.specs.declared.printing.AnswerText.{AnswerText}
 use Rattle.htl_main.specs.declared.refused.Refused.{Refused}

@@ -45,8 +45,8 @@ use Rattle.htl_main.specs.Folding.{IsBeginningRefused}
 use Rattle.htl_main.specs.Folding.{IsCollectionOf, IsFolded, IsFoldedFar, IsFoldedUpTo, IsFoldingRefused, IsFoldsFault, IsHalfKnown, IsMissingOfFirsts}
 use Rattle.htl_main.specs.Folding.{StopsFolding, TakesUpTo, counted, folding}
 use Rattle.htl_main.specs.Printed.{WorkersFit}
-use Rattle.htl_main.specs.declared.adding.Added.{Added}
-use Rattle.htl_main.specs.declared.folder.Folder.{Folder}
+use Rattle.htl_main.specs.declared.loading.adding.Added.{Added}
+use Rattle.htl_main.specs.declared.folding.folder.Folder.{Folder}
 use Rattle.htl_main.specs.declared.origin.Between.TheVariants.{Nothing}
 use Rattle.htl_main.proofs.FoldLaws.{all_counted}
 use Rattle.htl_main.proofs.LateFaults.{IsLate, read_late}

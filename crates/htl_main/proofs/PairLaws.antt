@@ -19,8 +19,8 @@ use Rattle.htl_case.specs.declared.fault.CaseFault.TheVariants.{TwoContents, Seq
 use Rattle.htl_symbols.proofs.Searches.{list_any-true}
 use Rattle.htl_main.specs.Origins.{BreakRuleAt, is_about_two}
 use Rattle.htl_main.specs.Pairs.{AreOne, AreTwoAt, HaveOne, IsLeastSequence, NonePasses, PassesAt, has_shared, is_key, reaches}
-use Rattle.htl_main.specs.declared.pairing.Shared.{Shared}
-use Rattle.htl_main.specs.declared.pairing.Shared.TheVariants.{Key, Sequence}
+use Rattle.htl_main.specs.declared.loading.pairing.Shared.{Shared}
+use Rattle.htl_main.specs.declared.loading.pairing.Shared.TheVariants.{Key, Sequence}
 
 -- a member stands at some place
 pub member_at : {X : Type 0} (xs : List X) (x : X) (h : Contains xs x) → slice_get xs h.0 ≡ Some x

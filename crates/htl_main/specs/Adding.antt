@@ -16,7 +16,7 @@ use Rattle.htl_main.specs.Coverages.{IsCoverage}
 use Rattle.htl_main.specs.Loading.{in_setting}
 use Rattle.htl_main.specs.Origins.{IsBetween}
 use Rattle.htl_main.specs.Causes.{IsSourcesCause}
-use Rattle.htl_main.specs.declared.adding.Added.{Added}
+use Rattle.htl_main.specs.declared.loading.adding.Added.{Added}
 use Rattle.htl_main.specs.declared.refused.Refused.{Refused}
 
 -- Added: the case is that of the segments of the inputs and of those before, and is complete where that is asked for, whichever of the

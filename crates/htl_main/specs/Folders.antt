@@ -27,8 +27,8 @@ use Rattle.htl_command.specs.declared.question.InputForm.{InputForm}
 use Rattle.htl_main.specs.Picking.{NamesMissing}
 use Rattle.htl_main.specs.Folding.{AreAccepted, AreFolded, AreGiven, AreTaken, Fall, GaveBefore, IsCollectionOf, IsOfPlace, IsUnfit}
 use Rattle.htl_main.specs.Folding.{StandBefore, TakesUpTo, counted}
-use Rattle.htl_main.specs.declared.adding.Added.{Added}
-use Rattle.htl_main.specs.declared.folder.Folder.{Folder}
+use Rattle.htl_main.specs.declared.loading.adding.Added.{Added}
+use Rattle.htl_main.specs.declared.folding.folder.Folder.{Folder}
 
 -- No front falls and no key is lost from the one state to the other.
 pub record Keeps (old new : State) : Type 0 where

@@ -3,8 +3,8 @@ use Rattle.std.specs.Prelude.{◌≡◌, ◌≢◌, ℕ, ◌≤◌, ◌==◌, na
 use Rattle.std.specs.List.{list_any}
 use Rattle.htl_event.specs.Events.{Event}
 use Rattle.htl_segment.specs.Content.{Content}
-use Rattle.htl_main.specs.declared.pairing.Shared.{Shared}
-use Rattle.htl_main.specs.declared.pairing.Shared.TheVariants.{Key, Sequence}
+use Rattle.htl_main.specs.declared.loading.pairing.Shared.{Shared}
+use Rattle.htl_main.specs.declared.loading.pairing.Shared.TheVariants.{Key, Sequence}
 
 abbrev pub is_key : ℕ → ℕ → Content → Bool
 is_key processor number s = (s.processor == processor) && (s.number == number)

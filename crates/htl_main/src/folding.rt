@@ -1,4 +1,12 @@
 //! A reading that forgets: segments are folded as they come, and no event is kept.
+//!
+//! `taking.rt` takes the segments of sources, `folder.rt` folds them, `falling.rt` finds which one
+//! falls once another one is taken, and `answers.rt` answers over what was folded.
+
+mod answers;
+mod falling;
+mod folder;
+mod taking;
 
 ghost use Rattle.std.specs.Prelude.{◌≡◌, List, Some, None, true, map, IfErr, IfOk};
 ghost use Rattle.std.specs.Option.{option_copied};
@@ -13,11 +21,12 @@ ghost use Rattle.htl_main.specs.Folding.{AreFolded, IsCollectionOf};
 ghost use Rattle.htl_main.specs.Printed.{HasSymbols};
 ghost use Rattle.htl_main.specs.Runs.{BeginsAs, FoldsAs};
 
-use crate::adding::Added;
 use crate::coverage::{Coverage, Missed};
+use crate::folding::taking::{Taken, take_all};
+use crate::loading::Added;
 use crate::printing::{check_gaps, check_workers, read_symbols};
 use crate::refused::Refused;
-use crate::taking::{Taken, take_all};
+pub use answers::folded_text;
 use htl_analyst::Analyst;
 use htl_case::CaseFault;
 use htl_command::Setting;

@@ -1,4 +1,11 @@
 //! What is loaded before a question is answered, or many.
+//!
+//! `adding.rt` adds more sources to it. `cases.rt` makes the case of all segments, or finds the two
+//! that a fault is about, which `pairing.rt` pairs.
+
+mod adding;
+pub(crate) mod cases;
+mod pairing;
 
 ghost use Rattle.std.specs.Prelude.{◌≡◌, ℕ, Bool, List, map, IfErr, IfOk};
 ghost use Rattle.std.specs.Option.{option_copied};
@@ -16,10 +23,11 @@ ghost use Rattle.htl_main.specs.Coverages.{IsCoverage};
 ghost use Rattle.htl_main.specs.Loading.{AreLoaded};
 ghost use Rattle.htl_main.specs.Origins.{IsBetween};
 
-use crate::cases::case_of;
 use crate::coverage::{Coverage, Missed};
+use crate::loading::cases::case_of;
 use crate::printing::{check_gaps, check_workers, read_symbols};
 use crate::refused::Refused;
+pub use adding::{Added, add};
 use htl_case::Case;
 use htl_command::{Moment, Setting};
 use htl_device::Parted;

@@ -1,79 +1,96 @@
-//! Picks what a question asks about from sources, each of which is read to its end.
+//! The run of a question, which keeps only the events that the question asks about.
+//!
+//! `picks.rt` picks them from the sources, and `answers.rt` answers from them.
 
-ghost use Rattle.std.specs.Prelude.{◌≡◌, false, map, IfErr, IfOk, IfSome};
-ghost use Rattle.htl_device.specs.States.{AreOpen, IsOpen};
-ghost use Rattle.htl_inputs.specs.Reads.{IsRead, NeverWrite, ReadsAll, StopsIn};
-ghost use Rattle.htl_inputs.specs.Sources.{IsReportedOfSource};
-ghost use Rattle.htl_main.specs.Picked.{NeverCase};
-ghost use Rattle.htl_main.specs.Picking.{AreAllPicked, ArePicksMore};
+mod answers;
+mod picks;
 
-use htl_command::InputForm;
-use htl_device::{MAX_READS, Parted};
+ghost use Rattle.std.specs.Prelude.{◌≡◌, false, map};
+ghost use Rattle.std.specs.Option.{option_copied};
+ghost use Rattle.htl_device.specs.States.{AreOpen};
+ghost use Rattle.htl_question.specs.Questions.{Serves};
+ghost use Rattle.htl_main.specs.Picking.{PrintsPicks};
+ghost use Rattle.htl_main.specs.Runs.{IsPicked};
+
+use crate::completed::Completed;
+use crate::picking::answers::answered_of_picks;
+use crate::picking::picks::{AllPicks, pick_all};
+use crate::printing::check_workers;
+use htl_case::PickedCase;
+use htl_command::Job;
+use htl_device::{Parted, Sink};
 use htl_event::Interest;
-use htl_inputs::{Accepted, CutEnd, RunFault, accept, add_end};
-use htl_reading::gather_bundle;
-use htl_segment::Picks;
+use htl_inputs::{RunFault, write_lines};
 use std::alloc::Global;
 use std::thread::Threads;
 
-/// What was picked of all sources, and which of them were cut.
-#[derive(Drop)]
-pub(crate) struct AllPicks {
-    pub picks: Picks,
-    pub cuts: Vec<CutEnd>,
+/// What a run of picks lacks to tell its outcome. It wrote nothing, and its inputs have to be read
+/// again.
+#[derive(Clone, Copy, Debug, PartialEq, Eq)]
+pub enum Lacking {
+    /// All events of the process (`Question::widest_interest`): none that counts tells of its open
+    /// handles.
+    Process,
+    /// Whole segments (`run_from`): a key comes twice, so that contents have to be compared, or the
+    /// segments don't form a case.
+    Segments,
 }
 
-/// Picks what is asked about from all sources, and tells which of them were cut. The first fault is
-/// reported, and ends the reading.
-pub(crate) fn pick_all<Rt: Threads + Sync, R: Parted>(
+/// The same as `run_from`, but it keeps no segments. It makes only the events that are of this
+/// interest: those that the question needs (`Question::interest`), or all of what it is about
+/// (`Question::widest_interest`).
+///
+/// Where these don't tell the outcome, it returns what it lacks.
+pub fn pick_from<Rt: Threads + Sync, R: Parted, W: Sink>(
     rt: &Rt,
     alloc: Global,
-    form: InputForm,
+    job: &Job,
     interest: Interest,
-    workers: u32,
-    sources: &mut [R],
-) -> Result<AllPicks, RunFault>
-    requires ready { AreOpen (map R.state sources.old) }
-    requires bytes { form.hex ≡ false }
-    ensures reads { ReadsAll false (map R.state sources.old) (map R.state sources.new)
-        (AreAllPicked form interest) (StopsIn form (map R.state sources.new)) result }
-    ensures no_write { NeverWrite result }
-    ensures no_case { NeverCase result }
+    inputs: &mut [R],
+    symbols: Option<&[u8]>,
+    out: &mut W,
+) -> Result<Result<Completed, Lacking>, RunFault>
+    requires ready { AreOpen (map R.state inputs.old) }
+    requires out { (W.state out.old).failed ≡ false }
+    requires bytes { job.now.setting.form.hex ≡ false }
+    requires serves { Serves job.now.question interest }
+    ensures { IsPicked interest job.now (option_copied symbols.entry) (map R.state inputs.old)
+        (map R.state inputs.new) (W.state out.old) (W.state out.new) result }
 {
-    let mut picks = Picks::new(alloc, interest);
-    let mut cuts = Vec::new(alloc);
-    for (place, source) in sources.iter_mut().enumerate() {
-        let more = pick_source(rt, alloc, form, workers, place as u64, source, picks)?;
-        picks = more.segments;
-        add_end(&mut cuts, place as u64, more.end)?;
-    }
-    Ok(AllPicks { picks, cuts })
+    check_workers(job.setting.workers)?;
+    let all = pick_all(
+        rt,
+        alloc,
+        job.setting.form,
+        interest,
+        job.setting.workers,
+        inputs,
+    )?;
+    print_picks(rt, alloc, job, interest, all, symbols, out)
 }
 
-/// Adds to the picks what is asked about from the source at a place, and tells whether it was cut.
-fn pick_source<Rt: Threads + Sync, R: Parted>(
-    rt: &Rt,
+/// Prints the answer over the picked case, or writes nothing and returns what is lacking.
+fn print_picks<W: Sink>(
+    rt: &(impl Threads + Sync),
     alloc: Global,
-    form: InputForm,
-    workers: u32,
-    place: u64,
-    source: &mut R,
-    picks: Picks,
-) -> Result<Accepted<Picks>, RunFault>
-    requires ready { IsOpen (R.state source.old) }
-    requires bytes { form.hex ≡ false }
-    ensures ok { IfOk result (λ new. IfSome (R.state source.old).remaining (λ bytes.
-        ArePicksMore form picks new.segments bytes new.end)) }
-    ensures err { IfErr result (λ fault. IfSome (R.state source.old).remaining (λ bytes.
-        IsReportedOfSource form (R.state source.new).remaining (R.state source.new).ended
-        place bytes fault)) }
-    ensures reading { IsRead false MAX_READS place (R.state source.old)
-        (R.state source.new) result }
-    ensures no_write { NeverWrite result }
-    ensures no_case { NeverCase result }
+    job: &Job,
+    interest: Interest,
+    all: AllPicks,
+    symbols: Option<&[u8]>,
+    out: &mut W,
+) -> Result<Result<Completed, Lacking>, RunFault>
+    requires out { (W.state out.old).failed ≡ false }
+    requires serves { Serves job.now.question interest }
+    ensures { PrintsPicks interest all (option_copied symbols.entry) job.now
+        (W.state out.old) (W.state out.new) result }
 {
-    match gather_bundle(rt, alloc, workers, source, picks) {
-        Ok(bundle) => accept(form, place, bundle),
-        Err(fault) => Err(RunFault::from_source(place, fault)),
-    }
+    let Some(case) = PickedCase::of(all.picks) else {
+        return Ok(Err(Lacking::Segments));
+    };
+    let answered = answered_of_picks(rt, alloc, job, interest, case, &all.cuts, symbols)?;
+    let Some((lines, completed)) = answered else {
+        return Ok(Err(Lacking::Process));
+    };
+    write_lines(out, &lines)?;
+    Ok(Ok(completed))
 }

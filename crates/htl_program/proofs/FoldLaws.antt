@@ -10,7 +10,7 @@ use Rattle.htl_inputs.specs.declared.fault.RunFault.TheVariants as faults
 use Rattle.htl_main.specs.Folding.{AreFolded, AreReadToFold, Folding, IsFolded, IsFoldedUpTo, IsFoldingRefused, IsHalfKnown, folding}
 use Rattle.htl_main.specs.Origins.{by_fault}
 use Rattle.htl_main.specs.Runs.{EndsFolding, FoldsAs}
-use Rattle.htl_main.specs.declared.adding.Added.{Added}
+use Rattle.htl_main.specs.declared.loading.adding.Added.{Added}
 use Rattle.htl_main.specs.declared.folding.Folded.{Folded}
 use Rattle.htl_main.specs.declared.refused.Refused.{Refused}
 use Rattle.htl_program.specs.Asking.{GoesOn, IsFolding}

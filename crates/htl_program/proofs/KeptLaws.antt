@@ -9,7 +9,7 @@ use Rattle.htl_inputs.specs.declared.fault.RunFault.TheVariants.{Incomplete}
 use Rattle.htl_main.specs.Folding.{AreFolded}
 use Rattle.htl_main.specs.Loading.{AreLoadedOf}
 use Rattle.htl_main.specs.Printed.{HasSymbols}
-use Rattle.htl_main.specs.declared.adding.Added.{Added}
+use Rattle.htl_main.specs.declared.loading.adding.Added.{Added}
 use Rattle.htl_main.specs.declared.completed.Absence.{Absence}
 use Rattle.htl_main.specs.declared.folding.Folded.{Folded}
 use Rattle.htl_main.specs.declared.loading.Loaded.{Loaded}

@@ -20,7 +20,7 @@ use Rattle.htl_main.specs.Origins.{by_fault}
 use Rattle.htl_main.specs.Printed.{HasSymbols, IsText}
 use Rattle.htl_main.specs.Runs.{AddsAs}
 use Rattle.htl_main.specs.Subjects.{HasAbsence}
-use Rattle.htl_main.specs.declared.adding.Added.{Added}
+use Rattle.htl_main.specs.declared.loading.adding.Added.{Added}
 use Rattle.htl_main.specs.declared.completed.Absence.{Absence}
 use Rattle.htl_main.specs.declared.loading.Loaded.{Loaded}
 use Rattle.htl_main.specs.declared.printing.AnswerText.{AnswerText}

@@ -29,7 +29,7 @@ use Rattle.htl_main.specs.Causes.{IsSourcesCause}
 use Rattle.htl_main.specs.Remarks.{RemarksOver, ReportsRemarks}
 use Rattle.htl_main.specs.Runs.{EndsAdding}
 use Rattle.htl_main.specs.Subjects.{ReportsAbsence}
-use Rattle.htl_main.specs.declared.adding.Added.{Added}
+use Rattle.htl_main.specs.declared.loading.adding.Added.{Added}
 use Rattle.htl_main.specs.declared.completed.Absence.{Absence}
 use Rattle.htl_main.specs.declared.coverage.Coverage.{Coverage}
 use Rattle.htl_main.specs.declared.origin.Between.{Between}

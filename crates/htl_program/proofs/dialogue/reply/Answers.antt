@@ -6,7 +6,7 @@ use Rattle.std.proofs.lemmas.Result.{err_from_is_err_and}
 use Rattle.htl_dialogue.specs.Dialogues.{reading_reply}
 use Rattle.htl_dialogue.specs.Notes.{first_fault, reads, refuses}
 use Rattle.htl_dialogue.specs.Replying.{fault_of}
-use Rattle.htl_main.specs.declared.adding.Added.{Added}
+use Rattle.htl_main.specs.declared.loading.adding.Added.{Added}
 use Rattle.htl_main.specs.declared.refused.Refused.{Refused}
 use Rattle.htl_program.proofs.Asked.{no_names}
 use Rattle.htl_program.proofs.dialogue.reply.Goals as goal

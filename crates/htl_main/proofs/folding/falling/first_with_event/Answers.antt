@@ -1,0 +1,12 @@
+-- The search stops at the first segment that has an event.
+use Rattle.std.proofs.Common.{◌≡◌, ◌≢◌, [], rules, tests}
+use Rattle.std.proofs.lemmas.Iterator.{YieldsList-from_slice, first_from_find}
+use Rattle.std.proofs.lemmas.List.{nil_from_length}
+use Rattle.htl_main.proofs.FallingLaws.{nearest_first}
+use Rattle.htl_main.proofs.folding.falling.first_with_event.Goals as goal
+
+pub returns : goal.returns
+returns c = λ order. nearest_first c.args.segments.now order (λ s. s.now) c.find.result
+    (first_from_find _ _ c.find.result (λ s. s.events ≢ []) (λ s. s.events ≡ []) c.find.ensures.ran
+    (YieldsList-from_slice c.args.segments.now cc) (λ s q called. search rules)
+    (λ s q called. (search rules, nil_from_length s.now.events (search (rules, tests)))))

@@ -8,6 +8,9 @@
 //! `run_from` loads its sources, answers and writes. Where many questions come, a caller does the
 //! same: `load` reads the sources once, and `answer_text` answers each question.
 //!
+//! What a caller needs beside these comes from crates below, and is handed out here too: the command
+//! line (`parse`, `Job`, `Question`), sources and sinks, and why a run ends (`RunFault`).
+//!
 //! Files and folders, in reading order: `streaming.rt` (the run over sources), `loading.rt` with
 //! `loading/` (what is loaded before a question is answered: the case of all segments, also with
 //! more sources; or the two segments that a fault is about), `printing.rt` (the run over bytes in
@@ -51,7 +54,7 @@ mod streaming;
 pub use completed::{Absence, Completed, absence_of, since_of};
 pub use coverage::Coverage;
 pub use folding::{Folded, fold, folded_text, load_folded};
-pub use htl_command::ParseFault;
+pub use htl_command::{Job, ParseFault, parse};
 pub use htl_device::{Reading, Sink, Source, Writing};
 pub use htl_event::Interest;
 pub use htl_inputs::{CutEnd, CutInputs, RunFault};

@@ -24,7 +24,7 @@ use Rattle.htl_main.specs.Picking.{ArePickedFor, ArePicksOfAll, EndsAnswer, Ends
 use Rattle.htl_main.specs.Printed.{WorkersFit}
 use Rattle.htl_main.specs.Runs.{EndsPicking}
 use Rattle.htl_main.specs.declared.completed.Completed.{Completed}
-use Rattle.htl_main.specs.declared.picking.Lacking.{Lacking}
+use Rattle.htl_main.specs.declared.picks.Lacking.{Lacking}
 use Rattle.htl_main.proofs.AfterDecoding.{sources_cause_of}
 
 -- ---- what was picked

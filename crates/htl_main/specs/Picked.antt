@@ -19,8 +19,8 @@ use Rattle.htl_main.specs.Moments.{IsNamedMoment}
 use Rattle.htl_main.specs.Remarks.{ReportsRemarks}
 use Rattle.htl_main.specs.Subjects.{ReportsAbsence}
 use Rattle.htl_main.specs.declared.completed.Completed.{Completed}
-use Rattle.htl_main.specs.declared.picking.Lacking.{Lacking}
-use Rattle.htl_main.specs.declared.picking.Lacking.TheVariants as lacking
+use Rattle.htl_main.specs.declared.picks.Lacking.{Lacking}
+use Rattle.htl_main.specs.declared.picks.Lacking.TheVariants as lacking
 
 -- what is reported beside the answer holds of the inputs
 pub record Reports (job : Job) (inputs : List (List ℕ)) (symbols : Option (List ℕ)) (completed : Completed) : Type 0 where

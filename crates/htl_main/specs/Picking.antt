@@ -28,8 +28,8 @@ use Rattle.htl_main.specs.Runs.{LeavesSink}
 use Rattle.htl_main.specs.Subjects.{HasAbsenceIn}
 use Rattle.htl_main.specs.declared.completed.Completed.{Completed}
 use Rattle.htl_reading.specs.declared.outcome.EarlyEnd.{EarlyEnd}
-use Rattle.htl_main.specs.declared.picking.Lacking.{Lacking}
-use Rattle.htl_main.specs.declared.picking.picks.AllPicks.{AllPicks}
+use Rattle.htl_main.specs.declared.picks.Lacking.{Lacking}
+use Rattle.htl_main.specs.declared.picks.picking.AllPicks.{AllPicks}
 
 -- only the open handles of a process are asked about
 abbrev pub is_of_open_handles : Interest → Bool

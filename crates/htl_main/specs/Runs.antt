@@ -28,7 +28,7 @@ use Rattle.htl_main.specs.declared.loading.adding.Added.{Added}
 use Rattle.htl_main.specs.declared.completed.Completed.{Completed}
 use Rattle.htl_main.specs.declared.folding.Folded.{Folded}
 use Rattle.htl_main.specs.declared.loading.Loaded.{Loaded}
-use Rattle.htl_main.specs.declared.picking.Lacking.{Lacking}
+use Rattle.htl_main.specs.declared.picks.Lacking.{Lacking}
 use Rattle.htl_main.specs.declared.refused.Refused.{Refused}
 
 -- Why a run over inputs of these texts has no answer: one of these causes. Where a write failed, some first part of the answer was written.

@@ -16,7 +16,7 @@
 //! more sources; or the two segments that a fault is about), `printing.rt` (the run over bytes in
 //! memory, and the steps of all runs), `origin.rt` (where these two segments came from),
 //! `coverage.rt` (what a case misses of its trace), `completed.rt` (what a run reports beside its
-//! answer), `remarks.rt` (what is told of it beside its lines), `picking.rt` with `picking/` (the
+//! answer), `remarks.rt` (what is told of it beside its lines), `picks.rt` with `picks/` (the
 //! run that keeps only what its question asks about), `folding.rt` with `folding/` (sources that are
 //! read and forgotten, and answers over what was folded), `refused.rt` (a fault and the two segments
 //! it is about), `laws.rt` (a run has one outcome, inputs have one coverage, runs and analysts give
@@ -45,7 +45,7 @@ pub mod folding_laws;
 pub mod laws;
 mod loading;
 mod origin;
-mod picking;
+mod picks;
 mod printing;
 mod refused;
 mod remarks;
@@ -61,7 +61,7 @@ pub use htl_inputs::{CutEnd, CutInputs, RunFault};
 pub use htl_question::Question;
 pub use loading::{Added, Loaded, add, load};
 pub use origin::{Between, Origin};
-pub use picking::{Lacking, pick_from};
+pub use picks::{Lacking, pick_from};
 pub use printing::{AnswerText, answer_text, run};
 pub use refused::Refused;
 pub use remarks::Remarks;

@@ -4,7 +4,7 @@ use Rattle.htl_device.specs.States.{IfKnown}
 use Rattle.htl_inputs.specs.CutInputs.{AreCutEnds}
 use Rattle.htl_inputs.proofs.ReadingLaws.{ReadBefore}
 use Rattle.htl_main.specs.Picking.{ArePicksOfAll}
-use Rattle.htl_main.proofs.picking.picks.pick_all.Given as goal
+use Rattle.htl_main.proofs.picks.picking.pick_all.Given as goal
 
 abbrev pub invariant-loop-place : goal.invariant-loop-place
 invariant-loop-place g l = record {

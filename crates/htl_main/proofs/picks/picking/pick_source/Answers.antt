@@ -1,7 +1,7 @@
 -- `pick_source` reads the source's bytes, and reports their fault, as a run does of one source.
 use Rattle.htl_inputs.proofs.OneSource.{accepted_read, decoded_ill, never_write, reported_bytes_of}
 use Rattle.htl_main.proofs.PickLaws.{accepted_more, never_case, refused_more}
-use Rattle.htl_main.proofs.picking.picks.pick_source.Goals as goal
+use Rattle.htl_main.proofs.picks.picking.pick_source.Goals as goal
 
 pub returns-in-Ok-clause-ok : goal.returns-in-Ok-clause-ok
 returns-in-Ok-clause-ok g c =

@@ -8,7 +8,7 @@ use Rattle.htl_inputs.proofs.ReadingLaws.{ends_too, unread}
 use Rattle.htl_main.proofs.AfterDecoding.{sources_stop}
 use Rattle.htl_main.proofs.AfterPicking.{ends_picking, ends_without_case, given_is, picked_run}
 use Rattle.htl_main.proofs.LateFaults.{printing_late, read_late}
-use Rattle.htl_main.proofs.picking.pick_from.Goals as goal
+use Rattle.htl_main.proofs.picks.pick_from.Goals as goal
 
 pub returns-in_err-check_workers : goal.returns-in_err-check_workers
 returns-in_err-check_workers g c =

@@ -2,7 +2,7 @@
 use Rattle.std.proofs.Common.{refl}
 use Rattle.std.proofs.lemmas.Result.{err_from_is_err_and}
 use Rattle.htl_main.proofs.AfterPicking.{answer_no_write, ends_printing, picked_for}
-use Rattle.htl_main.proofs.picking.print_picks.Goals as goal
+use Rattle.htl_main.proofs.picks.print_picks.Goals as goal
 
 pub returns : goal.returns
 returns g c =

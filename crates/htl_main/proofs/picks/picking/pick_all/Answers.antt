@@ -8,7 +8,7 @@ use Rattle.htl_inputs.proofs.ReadingLaws.{all_ended, all_texts, at_next, ends_th
 use Rattle.htl_inputs.proofs.ReadingLaws.{stops_there}
 use Rattle.htl_main.specs.Picking.{ArePicksMore}
 use Rattle.htl_main.proofs.PickLaws.{none_picked, one_picked}
-use Rattle.htl_main.proofs.picking.picks.pick_all.Goals as goal
+use Rattle.htl_main.proofs.picks.picking.pick_all.Goals as goal
 
 pub loop-place-init : goal.loop-place-init
 loop-place-init g c = record {

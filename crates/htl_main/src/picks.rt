@@ -1,9 +1,9 @@
 //! The run of a question, which keeps only the events that the question asks about.
 //!
-//! `picks.rt` picks them from the sources, and `answers.rt` answers from them.
+//! `picking.rt` picks them from the sources, and `answers.rt` answers from them.
 
 mod answers;
-mod picks;
+mod picking;
 
 ghost use Rattle.std.specs.Prelude.{◌≡◌, false, map};
 ghost use Rattle.std.specs.Option.{option_copied};
@@ -13,8 +13,8 @@ ghost use Rattle.htl_main.specs.Picking.{PrintsPicks};
 ghost use Rattle.htl_main.specs.Runs.{IsPicked};
 
 use crate::completed::Completed;
-use crate::picking::answers::answered_of_picks;
-use crate::picking::picks::{AllPicks, pick_all};
+use crate::picks::answers::answered_of_picks;
+use crate::picks::picking::{AllPicks, pick_all};
 use crate::printing::check_workers;
 use htl_case::PickedCase;
 use htl_command::Job;

@@ -14,7 +14,7 @@ use Rattle.htl_main.specs.Subjects.{HasAbsence, absence_by}
 use Rattle.htl_main.specs.declared.completed.Absence.{Absence}
 use Rattle.htl_main.proofs.Missing.{memory_cause, missing_cause, symbols_cause}
 use Rattle.htl_main.proofs.PickedAnswers.{picked_as_of}
-use Rattle.htl_main.proofs.picking.answers.answered_of_picks.Goals as goal
+use Rattle.htl_main.proofs.picks.answers.answered_of_picks.Goals as goal
 
 none_left : {X P : Type 0} (found : Option X) → IfNone found P → ((x : X) → found ≡ Some x → ⊥) → P
 none_left None of_none other = of_none

@@ -7,7 +7,7 @@ use Rattle.htl_question.specs.Questions.{subject_of}
 use Rattle.htl_question.specs.Subjects.{is_about}
 use Rattle.htl_main.proofs.PickedAnswers.{falls_short, falls_not_short, subject_among, tells_of_no_handle}
 use Rattle.htl_main.proofs.UntilLaws.{found_in_lists}
-use Rattle.htl_main.proofs.picking.answers.subject_of_picks.Goals as goal
+use Rattle.htl_main.proofs.picks.answers.subject_of_picks.Goals as goal
 
 pub returns-then-falls_short-clause-none : goal.returns-then-falls_short-clause-none
 returns-then-falls_short-clause-none c = λ until segments is named.

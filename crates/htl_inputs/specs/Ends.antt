@@ -1,5 +1,5 @@
 -- For the clauses of steps of a run: the last bytes of an input, which its segments leave.
-use Rattle.std.specs.Prelude.{◌≡◌, ◌≢◌, ◌<◌, ◌+◌, ⊤, ℕ, Bool, true, false, List, [], length, Option, None, Some}
+use Rattle.std.specs.Prelude.{◌≡◌, ◌≢◌, ◌<◌, ℕ, true, List, [], length, Option, None, Some}
 use Rattle.htl_command.specs.declared.question.InputForm.{InputForm}
 use Rattle.htl_segment.specs.Content.{Content}
 use Rattle.htl_segment.specs.Faults.{first_fault}
@@ -8,7 +8,6 @@ use Rattle.htl_reading.specs.Sources.{EndsWithin, begins_header}
 use Rattle.htl_reading.specs.declared.outcome.EarlyEnd.{EarlyEnd}
 use Rattle.htl_inputs.specs.CutInputs.{HasEnd}
 use Rattle.htl_inputs.specs.Inputs.{AsksMemory, Decodes, reported_of}
-use Rattle.htl_inputs.specs.declared.cuts.CutInputs.{CutInputs}
 use Rattle.htl_inputs.specs.declared.fault.RunFault.{RunFault}
 use Rattle.htl_inputs.specs.declared.fault.RunFault.TheVariants.{Segment}
 

@@ -1,8 +1,7 @@
 -- How a run ends, what it leaves in the sink that its answer goes to, and how it reads its sources (this project's own).
-use Rattle.std.specs.Prelude.{◌≡◌, ◌≢◌, ℕ, Bool, true, false, List, [], Option, IfErr, IfOk, OnOk, Result, Ok, Err}
+use Rattle.std.specs.Prelude.{◌≡◌, ◌≢◌, ℕ, true, false, List, [], Option, IfErr, IfOk, OnOk, Result, Ok, Err}
 use Rattle.htl_analyst.specs.States.{State}
 use Rattle.htl_case.specs.Cases.{IsCase}
-use Rattle.htl_command.specs.declared.question.InputForm.{InputForm}
 use Rattle.htl_command.specs.declared.question.Job.{Job}
 use Rattle.htl_command.specs.declared.question.Moment.{Moment}
 use Rattle.htl_command.specs.declared.question.Setting.{Setting}
@@ -13,7 +12,6 @@ use Rattle.htl_segment.specs.Traces.{Trace}
 use Rattle.htl_inputs.specs.CutInputs.{AreCut}
 use Rattle.htl_inputs.specs.Reads.{NeverWrite}
 use Rattle.htl_inputs.specs.Readings.{AreRead}
-use Rattle.htl_inputs.specs.declared.cuts.CutInputs.{CutInputs}
 use Rattle.htl_inputs.specs.declared.fault.RunFault.{RunFault}
 use Rattle.htl_inputs.specs.declared.fault.RunFault.TheVariants.{Write}
 use Rattle.htl_main.specs.Adding.{IsAdded, IsAddingRefused}

@@ -6,7 +6,7 @@ use Rattle.htl_segment.specs.Content.{Content}
 use Rattle.htl_case.specs.Faults.{key_of}
 use Rattle.htl_case.specs.declared.fault.CaseFault.{CaseFault}
 use Rattle.htl_case.specs.declared.fault.CaseFault.TheVariants as cases
-use Rattle.htl_inputs.specs.Inputs.{DecodeAll}
+use Rattle.htl_inputs.specs.Inputs.{DecodeAll, HasSegment}
 use Rattle.htl_inputs.specs.declared.fault.RunFault.{RunFault}
 use Rattle.htl_inputs.specs.declared.fault.RunFault.TheVariants.{Case}
 use Rattle.htl_main.specs.declared.origin.Origin.{Origin}

@@ -9,7 +9,7 @@ use Rattle.htl_device.specs.States.{SinkState, SourceState}
 use Rattle.htl_inputs.specs.declared.cuts.CutInputs.{CutInputs}
 use Rattle.htl_inputs.specs.declared.fault.RunFault.{RunFault}
 use Rattle.htl_inputs.specs.declared.fault.RunFault.TheVariants.{Memory, Write}
-use Rattle.htl_convert.specs.Dumps.{is_failed_write, EndsDumping}
+use Rattle.htl_convert.specs.Dumps.{EndsDumping, is_failed_write}
 use Rattle.htl_convert.specs.Encodings.{EndsEncoding}
 use Rattle.htl_dialogue.specs.Dialogues.{Converses, DialogueStops}
 use Rattle.htl_dialogue.specs.Notes.{Note}

@@ -10,8 +10,8 @@ use Rattle.htl_command.specs.declared.code.Code.TheVariants.{Y1, Y2, Y3, Y4, Y5,
 use Rattle.htl_command.specs.declared.code.Code.TheVariants.{E1, E2}
 use Rattle.htl_program.specs.Parts.{part_text}
 use Rattle.htl_program.specs.Words.{advice_of, form_wrong_of, part_of, with_part, wrong_of}
-use Rattle.htl_program.specs.declared.named_part.NamedPart.{NamedPart}
-use Rattle.htl_program.specs.declared.named_part.NamedPart.TheVariants as parts
+use Rattle.htl_program.specs.declared.explained.named_part.NamedPart.{NamedPart}
+use Rattle.htl_program.specs.declared.explained.named_part.NamedPart.TheVariants as parts
 use Rattle.htl_question.specs.declared.subject.Subject.{Subject}
 use Rattle.htl_segment.specs.declared.fault.Fault.{Fault}
 use Rattle.htl_segment.specs.declared.fault.Fault.TheVariants as segments

@@ -4,8 +4,8 @@ use Rattle.std.specs.Prelude.{◌==◌, ◌++◌, [], ℕ, Bool, List, Option, N
 use Rattle.htl_inputs.specs.declared.cuts.CutInputs.{CutInputs}
 use Rattle.htl_main.specs.declared.coverage.Coverage.{Coverage}
 use Rattle.htl_program.specs.AskedAbout.{subject_text}
-use Rattle.htl_program.specs.declared.lack.Lack.{Lack}
-use Rattle.htl_program.specs.declared.lack.Lack.TheVariants as lacks
+use Rattle.htl_program.specs.declared.saying.lack.Lack.{Lack}
+use Rattle.htl_program.specs.declared.saying.lack.Lack.TheVariants as lacks
 use Rattle.hleak.specs.Shown.{shown_name}
 use Rattle.hleak.specs.Subjects.{input_name}
 use Rattle.hleak.specs.declared.explaining.task.Task.{Task}

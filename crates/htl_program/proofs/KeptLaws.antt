@@ -19,8 +19,8 @@ use Rattle.htl_program.specs.Asking.{Found, GoesOn, IfAllHold, IsAbsenceOver, Is
 use Rattle.htl_program.specs.Asking.{found_with, inputs, inputs_then, one_is_absent, segments, unknown}
 use Rattle.htl_program.specs.Loads.{AddsFiles, AreKept, FoldsFiles, HasAbsenceIn, HasOutcomeIn, IsCovered, ReadsFiles}
 use Rattle.htl_program.specs.Worlds.{Known}
-use Rattle.htl_program.specs.declared.kept.Kept.{Kept}
-use Rattle.htl_program.specs.declared.kept.Kept.TheVariants.{Case, State}
+use Rattle.htl_program.specs.declared.conversing.kept.Kept.{Kept}
+use Rattle.htl_program.specs.declared.conversing.kept.Kept.TheVariants.{Case, State}
 use Rattle.htl_program.proofs.FoldLaws.{took}
 use Rattle.htl_program.proofs.LoadLaws.{adds_to, loaded_absence, loaded_answer, loaded_then}
 

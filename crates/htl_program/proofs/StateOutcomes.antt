@@ -15,8 +15,8 @@ use Rattle.htl_main.specs.declared.folding.Folded.{Folded}
 use Rattle.htl_main.specs.declared.printing.AnswerText.{AnswerText}
 use Rattle.htl_dialogue.specs.Notes.{AreToldOf}
 use Rattle.htl_program.specs.Loads.{HasAbsenceIn, HasOutcomeIn, is_memory}
-use Rattle.htl_program.specs.declared.kept.Kept.{Kept}
-use Rattle.htl_program.specs.declared.kept.Kept.TheVariants.{Case, State}
+use Rattle.htl_program.specs.declared.conversing.kept.Kept.{Kept}
+use Rattle.htl_program.specs.declared.conversing.kept.Kept.TheVariants.{Case, State}
 
 pub state_outcome : (complete : Bool) (folded : Folded) (job : Job) (result : Result AnswerText RunFault)
     → IfOk result (λ text. (taken : List Content) (T : Trace) → AreFolded folded.analyst taken → IsAskedOver job.question taken T

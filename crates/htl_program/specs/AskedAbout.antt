@@ -12,8 +12,8 @@ use Rattle.htl_main.specs.Subjects.{since_of}
 use Rattle.htl_main.specs.declared.completed.Absence.{Absence}
 use Rattle.htl_main.specs.declared.completed.Absence.TheVariants as absences
 use Rattle.htl_main.specs.declared.remarks.Remarks.{Remarks}
-use Rattle.htl_program.specs.declared.lack.Lack.{Lack}
-use Rattle.htl_program.specs.declared.lack.Lack.TheVariants as lacks
+use Rattle.htl_program.specs.declared.saying.lack.Lack.{Lack}
+use Rattle.htl_program.specs.declared.saying.lack.Lack.TheVariants as lacks
 
 -- an object in all of its 16 digits, a tag in display order, and a handle without its low two bits
 abbrev pub subject_text : Subject → List ℕ

@@ -42,8 +42,8 @@ use Rattle.htl_symbols.specs.Ranges.{Range}
 use Rattle.htl_program.specs.Endings.{IsUnopened, RunsOut}
 use Rattle.htl_program.specs.Readings.{AreInputs}
 use Rattle.htl_program.specs.Worlds.{Known, IsFirstAbsent, IsFirstRefused}
-use Rattle.htl_program.specs.declared.ask_fault.AskFault.{AskFault}
-use Rattle.htl_program.specs.declared.ask_fault.AskFault.TheVariants.{Run, Dialogue}
+use Rattle.htl_program.specs.declared.conversing.ask_fault.AskFault.{AskFault}
+use Rattle.htl_program.specs.declared.conversing.ask_fault.AskFault.TheVariants.{Run, Dialogue}
 
 -- the job of a run of its own, whose status says nothing of what its answer finds
 abbrev pub own_run : Setting → Job → Job

@@ -29,9 +29,9 @@ use Rattle.htl_program.specs.Asking.{Begins, GoesOn, IsAnswerText, IsFolding, Re
 use Rattle.htl_program.specs.Asking.{inputs, one_is_absent, segments}
 use Rattle.htl_program.specs.Endings.{RunsOut}
 use Rattle.htl_program.specs.Worlds.{Known}
-use Rattle.htl_program.specs.declared.kept.Begun.{Begun}
-use Rattle.htl_program.specs.declared.kept.Kept.{Kept}
-use Rattle.htl_program.specs.declared.kept.Kept.TheVariants.{Case, State}
+use Rattle.htl_program.specs.declared.conversing.kept.Begun.{Begun}
+use Rattle.htl_program.specs.declared.conversing.kept.Kept.{Kept}
+use Rattle.htl_program.specs.declared.conversing.kept.Kept.TheVariants.{Case, State}
 
 abbrev pub is_state : Kept → Bool
 is_state (Case loaded) = false

@@ -16,7 +16,7 @@ use Rattle.htl_main.specs.declared.coverage.Coverage.{Coverage}
 use Rattle.htl_main.specs.declared.origin.Between.TheVariants.{Nothing}
 use Rattle.htl_main.specs.declared.refused.Refused.{Refused}
 use Rattle.htl_program.specs.AskedAbout.{lack_of}
-use Rattle.htl_program.specs.declared.lack.Lack.{Lack}
+use Rattle.htl_program.specs.declared.saying.lack.Lack.{Lack}
 
 -- A message to a person: that the run of a command begins, and that it has ended; a text as it stands; that memory was refused;
 -- that a text could not be written; the fault that ended a run, and the same in words, by what its command names; what a question lacks;

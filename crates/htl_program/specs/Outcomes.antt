@@ -24,8 +24,8 @@ use Rattle.htl_program.specs.Endings.{EndsRun, IsUnopened, IsUntabled, RunsOut}
 use Rattle.htl_program.specs.Readings.{AreInputs, ReportsRead}
 use Rattle.htl_program.specs.Rounds.{Asks, AsksLater, OpensAgain, OpensInputs, OpensOnce}
 use Rattle.htl_program.specs.Worlds.{IsFirstAbsent, IsTable, IsTableAbsent, Known, WorldChange, of_each, of_inputs}
-use Rattle.htl_program.specs.declared.ask_fault.AskFault.{AskFault}
-use Rattle.htl_program.specs.declared.ask_fault.AskFault.TheVariants as asks
+use Rattle.htl_program.specs.declared.conversing.ask_fault.AskFault.{AskFault}
+use Rattle.htl_program.specs.declared.conversing.ask_fault.AskFault.TheVariants as asks
 
 -- the inputs of the names have these texts
 abbrev pub HaveTexts : {A : Type 0} → Known → List (String A) → List (List ℕ) → Type 0

@@ -7,8 +7,8 @@ use Rattle.htl_command.specs.declared.code.Code.TheVariants.{Y2, Y3, Y4, Y5, Y6,
 use Rattle.htl_command.specs.declared.printed.Parts.{Parts}
 use Rattle.htl_command.specs.declared.printed.Parts.TheVariants.{Nothing, Number, Numbers, Field}
 use Rattle.htl_program.specs.AskedAbout.{subject_text}
-use Rattle.htl_program.specs.declared.named_part.NamedPart.{NamedPart}
-use Rattle.htl_program.specs.declared.named_part.NamedPart.TheVariants as parts
+use Rattle.htl_program.specs.declared.explained.named_part.NamedPart.{NamedPart}
+use Rattle.htl_program.specs.declared.explained.named_part.NamedPart.TheVariants as parts
 
 -- a part of the inputs, by its number or its field; or what was asked about; or words that stand for each of them
 abbrev pub part_text : NamedPart → List ℕ

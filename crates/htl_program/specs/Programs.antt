@@ -32,8 +32,8 @@ use Rattle.htl_program.specs.Messages.{Hears, HearsAll, HearsRun, Message, alone
 use Rattle.htl_program.specs.Messages.{stop_said, text, unwritten}
 use Rattle.htl_program.specs.Statuses.{conversion_status, dialogue_status, end_status}
 use Rattle.htl_program.specs.Words.{explained}
-use Rattle.htl_program.specs.declared.ask_fault.AskFault.{AskFault}
-use Rattle.htl_program.specs.declared.ask_fault.AskFault.TheVariants as asks
+use Rattle.htl_program.specs.declared.conversing.ask_fault.AskFault.{AskFault}
+use Rattle.htl_program.specs.declared.conversing.ask_fault.AskFault.TheVariants as asks
 use Rattle.htl_program.specs.declared.console.Console.{Console}
 
 -- what was written and said: what is known of the output, whether a write to it failed because its reader has gone, and what a person heard

@@ -3,7 +3,7 @@
 ghost use Rattle.std.specs.Prelude.{◌≡◌, ◌&&◌, ◌||◌};
 
 use crate::output::Output;
-use crate::person::Person;
+use crate::saying::Person;
 use htl_command::CommandLine;
 
 /// Where answers go, and who reads what is said beside them.

@@ -1,4 +1,14 @@
 //! A dialogue in a world: the files are read once, and each line of standard input gets its reply.
+//!
+//! `dialogue.rt` replies to the lines, each as by a run over all that was read so far. `files.rt` has
+//! the files that a line names, `kept.rt` what is kept of them: all segments, or what they come to.
+//! `speaker.rt` is who types the lines, and `ask_fault.rt` why a dialogue ends before they do.
+
+mod ask_fault;
+mod dialogue;
+mod files;
+mod kept;
+mod speaker;
 
 ghost use Rattle.std.specs.Prelude.{◌≡◌, IfErr, false, map, option_copied};
 ghost use Rattle.htl_device.specs.States.{AreOpen, IfKnown, IsOpen};
@@ -9,16 +19,16 @@ ghost use Rattle.htl_program.specs.Outcomes.{EndsConversing, IsConversed, talk};
 ghost use Rattle.htl_program.specs.Rounds.{Asks, AsksLater};
 ghost use Rattle.htl_program.specs.Worlds.{change};
 
-use crate::ask_fault::AskFault;
-use crate::dialogue::converse_lines;
-use crate::files::Files;
-use crate::kept::{Begun, begin};
+use crate::conversing::dialogue::converse_lines;
+use crate::conversing::kept::{Begun, begin};
 use crate::opening::{as_bytes, open_all};
-use crate::speaker::Speaker;
 use crate::world::World;
+pub use ask_fault::AskFault;
+pub use files::Files;
 use htl_device::{Sink, Source};
 use htl_dialogue::Conversed;
 use htl_main::{Between, Refused};
+pub use speaker::Speaker;
 use std::alloc::Global;
 use std::thread::Threads;
 

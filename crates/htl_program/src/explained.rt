@@ -1,12 +1,21 @@
 //! The text that `hleak explain` prints of a fault.
+//!
+//! `words.rt` says what each code means, `named_part.rt` which part of the inputs a fault names, and
+//! `subject.rt` what a question is about.
+
+mod named_part;
+mod subject;
+mod words;
 
 ghost use Rattle.std.specs.Prelude.{◌≡◌};
 ghost use Rattle.htl_program.specs.Words.{wrong_in};
 
-use crate::named_part::NamedPart;
-use crate::words::{BAD_VALUE, advice, wrong};
+use crate::explained::words::BAD_VALUE;
 use htl_command::{Code, Parts, PrintedFault};
+pub use named_part::NamedPart;
 use std::fmt;
+pub use subject::SubjectText;
+pub use words::{FREE_MEMORY, advice, form_wrong, wrong};
 
 /// A fault in words: one line with the fault and what is wrong, and one with what to do.
 #[derive(Clone, Copy)]

@@ -1,5 +1,10 @@
 //! What is said to a person of how a run ended. Where that is `quiet`, a person watches and the output's
 //! reader has gone: then a failed write goes unsaid.
+//!
+//! `person.rt` is who reads it, and `lack.rt` what a person is told that a question lacks.
+
+mod lack;
+mod person;
 
 ghost use Rattle.std.specs.Prelude.{◌≡◌, ◌&&◌, is_some};
 ghost use Rattle.htl_program.specs.Programs.{SaysAnswer, SaysConversion, SaysDialogue, SaysDump};
@@ -8,12 +13,12 @@ ghost use Rattle.htl_program.specs.Messages.{HearsAll, alone as alone_of, cut_sa
 ghost use Rattle.htl_program.specs.Messages.{gaps_said, lack_said, notes_said, stop_said};
 ghost use Rattle.htl_program.specs.Messages.{unnamed_said};
 
-use crate::ask_fault::AskFault;
-use crate::lack::Lack;
-use crate::person::Person;
+use crate::conversing::AskFault;
 use htl_command::{Command, Job, Moment, Run};
 use htl_dialogue::{Conversed, DialogueFault};
 use htl_main::{Between, Completed, Coverage, CutInputs, Refused, RunFault};
+pub use lack::Lack;
+pub use person::Person;
 
 /// Says how the run of a question ended.
 pub(crate) fn say_answer<P: Person>(

@@ -86,16 +86,14 @@ pub opened : (kind : Kind) → is_open_kind kind ≡ true → kind ≡ Opened
 opened Opened e = refl
 opened kind e = absurd cc
 
-module _ (events : List Event) (process since exit moment : ℕ) (latest rows : List Event) (are : AreLatestOf events process latest)
-    (listed : Lists ByBase (HasEventOf latest process) rows) (last : IsLastExit (Contains events) process exit)
-    (is : moment ≡ max since exit) where
-  open_from_row : (x : Event) → Contains rows x → is_opened_after moment x ≡ true
+module _ (events : List Event) (process since exit moment : ℕ) (latest : List Event) (are : AreLatestOf events process latest)
+    (last : IsLastExit (Contains events) process exit) (is : moment ≡ max since exit) where
+  -- a latest event that is an open after the later of a moment and the last exit opened a handle that is open
+  pub open_from_latest : (x : Event) → event_at latest process (base_of x.handle) ≡ Some x → is_opened_after moment x ≡ true
       → IsOpen (Contains events) process x × (since < x.sequence)
-  open_from_row x here test =
-      let has = (listed.members x).0 here in
+  open_from_latest x at test =
       let parts = and_parts _ _ test in
       let after : moment < x.sequence = ltb-true moment x.sequence parts.1 in
-      let at : event_at latest process (base_of x.handle) ≡ Some x = ap (λ p. event_at latest p (base_of x.handle)) (sym has.0) ∙ has.1 in
       let found : LatestIs (Contains events) process (base_of x.handle) (Some x) =
       subst (λ o. LatestIs (Contains events) process (base_of x.handle) o) at (are (base_of x.handle)) in (
         record {
@@ -106,19 +104,34 @@ module _ (events : List Event) (process since exit moment : ℕ) (latest rows : 
         omega (arith, after, is),
       )
 
+  -- and what opened a handle that is open and was opened after the moment is such an event
+  pub latest_from_open : HaveOwnSequences events → (x : Event) → IsOpen (Contains events) process x → since < x.sequence
+      → (event_at latest process (base_of x.handle) ≡ Some x) × (is_opened_after moment x ≡ true)
+  latest_from_open own x o later =
+      let base = base_of x.handle in
+      let outlives = o.outlives exit last in
+      let after : moment < x.sequence = omega (arith, outlives, later, is) in (
+        LatestIs-unique (Contains events) (one_event events own) process base (event_at latest process base) (Some x) (are base) o.latest,
+        and_from _ _ (ap is_open_kind o.opens) (lt-ltb moment x.sequence after),
+      )
+
+module _ (events : List Event) (process since exit moment : ℕ) (latest rows : List Event) (are : AreLatestOf events process latest)
+    (listed : Lists ByBase (HasEventOf latest process) rows) (last : IsLastExit (Contains events) process exit)
+    (is : moment ≡ max since exit) where
+  open_from_row : (x : Event) → Contains rows x → is_opened_after moment x ≡ true
+      → IsOpen (Contains events) process x × (since < x.sequence)
+  open_from_row x here =
+      let has = (listed.members x).0 here in
+      open_from_latest events process since exit moment latest are last is x
+      (ap (λ p. event_at latest p (base_of x.handle)) (sym has.0) ∙ has.1)
+
   row_from_open : HaveOwnSequences events → (x : Event) → IsOpen (Contains events) process x → since < x.sequence
       → Contains (filter (is_opened_after moment) rows) x
   row_from_open own x o later =
-      let base = base_of x.handle in
-      let at : event_at latest process base ≡ Some x =
-      LatestIs-unique (Contains events) (one_event events own) process base (event_at latest process base) (Some x)
-      (are base) o.latest in
       let owner = o.latest.of_handle.owner in
-      let kept = ap (λ p. event_at latest p base) owner ∙ at in
-      let outlives = o.outlives exit last in
-      let after : moment < x.sequence = omega (arith, outlives, later, is) in
-      Contains-filter (is_opened_after moment) rows x ((listed.members x).1 (owner, kept))
-      (and_from _ _ (ap is_open_kind o.opens) (lt-ltb moment x.sequence after))
+      let has = latest_from_open events process since exit moment latest are last is own x o later in
+      Contains-filter (is_opened_after moment) rows x
+      ((listed.members x).1 (owner, ap (λ p. event_at latest p (base_of x.handle)) owner ∙ has.0)) has.1
 
   -- the opens after the later of a moment and the last exit, of the latest events of handles, are the difference
   pub opened_after_is_diff : HaveOwnSequences events → IsDiff (Contains events) process since (filter (is_opened_after moment) rows)

@@ -8,8 +8,8 @@ ghost use Rattle.htl_event.specs.Members.{IsRising};
 ghost use Rattle.htl_answers.specs.Lives.{AreInOrder};
 ghost use Rattle.htl_answers.specs.Points.{point_at};
 
-use crate::leaking::put_in_order;
 use crate::lives::{Lives, lives_of, number_at};
+use crate::ordering::put_in_order;
 use htl_event::{EventList, NoMemory, Point, Span};
 use std::alloc::Global;
 

@@ -1,9 +1,7 @@
 //! Leaks: the stacks that opened outstanding handles.
 
-ghost use Rattle.std.specs.Prelude.{◌≡◌, ◌↔◌, List, Contains, filter, map, IfOk};
-ghost use Rattle.std.specs.declared.cmp.Ordering.TheVariants.{Less, Equal};
+ghost use Rattle.std.specs.Prelude.{◌≡◌, List, Contains, filter, map, IfOk};
 ghost use Rattle.htl_event.specs.Events.{Event};
-ghost use Rattle.htl_event.specs.Members.{IsRising};
 ghost use Rattle.htl_event.specs.Handles.{HaveOwnSequences};
 ghost use Rattle.htl_event.specs.Tallies.{IsLeaksSince, AreOpenSince};
 ghost use Rattle.htl_answers.specs.Parts.{AreEventsOf};
@@ -11,6 +9,7 @@ ghost use Rattle.htl_answers.specs.Leaks.{opens_many, counted_first, stack_befor
 
 use crate::counted_by::BySlotAndStack;
 use crate::open::{diff, outstanding};
+use crate::ordering::put_in_order;
 use crate::part::Part;
 use crate::slot_counts::counts_of_events;
 use htl_event::{Count, NoMemory, SharedEvent, SharedStack, Slot};
@@ -91,16 +90,4 @@ fn stack_first(
         rows.push((stack.copy()?, number.0))?;
     }
     Ok(rows)
-}
-
-/// Sorts rows, and leaves each in once.
-pub(crate) fn put_in_order<T: Ord>(rows: &mut Vec<T>)
-where
-    T: Drop,
-    requires { (x y : T) → T.cmp x y ≡ Equal → x ≡ y }
-    ensures rising { IsRising (λ a b. T.cmp a b ≡ Less) rows.new.items }
-    ensures members { (row : T) → Contains rows.new.items row ↔ Contains rows.old.items row }
-{
-    rows.sort_unstable();
-    rows.dedup();
 }

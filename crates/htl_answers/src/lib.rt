@@ -14,10 +14,10 @@
 //! Files, in reading order: `part.rt` (what the answers are made of), `held.rt` and `handles.rt`
 //! (answers over held events, and those that take no memory), `open.rt` (outstanding handles and
 //! differences), `counts.rt` (the prefix tally), `counted_by.rt`, `hints.rt`, `adding.rt` and
-//! `slot_counts.rt` (the rows of the slots that are asked for), `leaking.rt`, `tagging.rt` and
-//! `bad_references.rt` (the answers made of these),
-//! `sums.rt` (how often each slot came), `whole.rt` (the one tree of all parts), `lives.rt` (when
-//! handles were opened and ceased to be open), `growing.rt` (how many were open as of moments).
+//! `slot_counts.rt` (the rows of the slots that are asked for), `ordering.rt` (rows in order),
+//! `leaking.rt`, `tagging.rt` and `bad_references.rt` (the answers made of these), `sums.rt` (how
+//! often each slot came), `whole.rt` (the one tree of all parts), `lives.rt` (when handles were
+//! opened and ceased to be open), `growing.rt` (how many were open as of moments).
 #![tactic(auto)]
 
 mod adding;
@@ -31,6 +31,7 @@ mod hints;
 mod leaking;
 mod lives;
 mod open;
+mod ordering;
 mod part;
 mod slot_counts;
 mod sums;
@@ -43,6 +44,7 @@ pub use growing::growth;
 pub use handles::{latest, mark};
 pub use leaking::leaks;
 pub use open::{diff, outstanding};
+pub use ordering::put_in_order;
 pub use part::Part;
 pub use sums::slot_sums;
 pub use tagging::{stacks, tags};

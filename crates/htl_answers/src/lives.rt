@@ -13,7 +13,7 @@ ghost use Rattle.htl_answers.specs.Lives.{changes_of, exits_of, start_of};
 ghost use Rattle.htl_answers.specs.Lives.{next_of, earlier_of, first_after, end_of, ends_of};
 ghost use Rattle.htl_answers.specs.Lives.{number_to, number_at, AreInOrder};
 
-use crate::leaking::put_in_order;
+use crate::ordering::put_in_order;
 use htl_event::{EventList, Kind, NoMemory, SharedEvent, base};
 use std::alloc::Global;
 

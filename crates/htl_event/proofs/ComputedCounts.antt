@@ -59,14 +59,14 @@ key_of_slot slot passes key has es k h =
 abbrev pub comes_first : {X : Type 0} → (X → X → Ordering) → X → X → Bool
 comes_first cmp x y = is_lt (cmp x y)
 
-is_lt-Less : (o : Ordering) → is_lt o ≡ true → o ≡ Less
+pub is_lt-Less : (o : Ordering) → is_lt o ≡ true → o ≡ Less
 is_lt-Less Less e = refl
 is_lt-Less o e = absurd cc
 
-abbrev same_list : List ℕ → List ℕ → Bool
+abbrev pub same_list : List ℕ → List ℕ → Bool
 same_list = pointwise nat_eq
 
-same_list-exact : (xs ys : List ℕ) → same_list xs ys ≡ true → xs ≡ ys
+pub same_list-exact : (xs ys : List ℕ) → same_list xs ys ≡ true → xs ≡ ys
 same_list-exact xs ys = (pointwise_decides unsigned_Decides xs ys).0
 
 module _ {V : Type 0} (cmp : List ℕ × V → List ℕ × V → Ordering) (value : List ℕ → V) (size : V → ℕ) (keys : List (List ℕ)) where
@@ -138,10 +138,10 @@ abbrev pub most_first : List ℕ × ℕ → List ℕ × ℕ → Ordering
 most_first a b = ordering_then (nat_cmp b.1 a.1) (stack_cmp a.0 b.0)
 
 -- the number, where it is so great at least
-abbrev enough : ℕ → ℕ → ℕ
+abbrev pub enough : ℕ → ℕ → ℕ
 enough least n = if nat_le least n then n else 0
 
-enough-is : (least n : ℕ) → (0 < enough least n) ↔ ((0 < n) × (least ≤ n))
+pub enough-is : (least n : ℕ) → (0 < enough least n) ↔ ((0 < n) × (least ≤ n))
 enough-is least n = elim (cases_Bool (nat_le least n)) [
   | inl great ↦ rw great (λ h. (h, leb-true least n great), λ h. h.0)
   | inr small ↦ rw small (
@@ -151,7 +151,7 @@ enough-is least n = elim (cases_Bool (nat_le least n)) [
   )
 ]
 
-key_of_enough : (least : ℕ) (rows : List Event) (k : List ℕ) → 0 < enough least (count_by (has_stack k) rows)
+pub key_of_enough : (least : ℕ) (rows : List Event) (k : List ℕ) → 0 < enough least (count_by (has_stack k) rows)
     → Contains (map (λ e. e.stack) rows) k
 key_of_enough least rows k h =
     key_counted has_stack (λ e. e.stack) (λ j e. same_list-exact e.stack j) rows k

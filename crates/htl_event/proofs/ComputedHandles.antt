@@ -143,7 +143,7 @@ module _ (es : List Event) (process : ℕ) where
       and_from _ _ ((is_of-decides Opened process e).1 (o.opens, o.latest.of_handle.owner))
       (and_from _ _ (le-leb _ _ last) (lt-ltb _ _ after))
 
-  open_where : (e : Event) → (Contains es e × (is_open e ≡ true)) ↔ IsOpen (Contains es) process e
+  pub open_where : (e : Event) → (Contains es e × (is_open e ≡ true)) ↔ IsOpen (Contains es) process e
   open_where e = (λ h. open_from_test e h.0 h.1, λ o. (o.latest.here, test_from_open e o))
 
 abbrev pub by_base : Event → Event → Bool

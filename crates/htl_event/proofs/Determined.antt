@@ -1,19 +1,23 @@
 -- The same events give the same answers about handles.
-use Rattle.std.proofs.Common.{◌≡◌, ℕ, ◌≤◌, List, [], ◌∷◌, Option, Some, None, refl, sym, ap, ◌∙◌, arith, inl, inr}
+use Rattle.std.proofs.Common.{◌≡◌, ℕ, ◌<◌, ◌≤◌, List, [], ◌∷◌, Option, Some, None, refl, sym, ap, ◌∙◌, subst, arith, inl, inr}
 use Rattle.std.specs.Prelude.{Contains, ◌↔◌, ◌≢◌, count_by}
 use Rattle.htl_event.specs.declared.kind.Kind.TheVariants.{Snapshot, Exited}
 use Rattle.htl_event.specs.Events.{Event}
 use Rattle.htl_event.specs.Slots.{base_of}
 use Rattle.htl_event.specs.Handles.{IsLatest, LatestIs, IsGreatestSequence, IsOf, IsOpen}
 use Rattle.htl_event.specs.Handles.{ByBase, IsOutstanding, IsDiff, IsOfHandle, NewestFirst, HaveOwnSequences}
+use Rattle.htl_event.specs.Members.{Lists}
 use Rattle.htl_event.specs.Growth.{EarlierFirst, IsPoint, IsGrowth}
 use Rattle.htl_event.specs.Moments.{events_until}
 use Rattle.htl_event.specs.Tallies.{has_stack, MostFirst, AreOpenSince, IsLeaksSince}
 use Rattle.htl_event.specs.declared.growth.Point.{Point}
 use Rattle.htl_event.specs.declared.growth.Span.{Span}
+use Rattle.htl_event.specs.declared.since.Since.{Since}
+use Rattle.htl_event.specs.declared.since.Since.TheVariants.{Snapshot as OwnSnapshot, Sequence}
+use Rattle.htl_event.specs.Sites.{Site, CountsSince, ByProcessAndBase, AreOpenAnywhere, IsSite, MostHandlesFirst, IsSites}
 use Rattle.htl_event.specs.Laws.{HaveSame, HandlesAreDetermined}
 use Rattle.htl_event.proofs.Members.{Contains-cases, Contains-nil, at_member, Lists-same}
-use Rattle.htl_event.proofs.Orders.{ByBase-strict, NewestFirst-strict, MostFirst-strict, EarlierFirst-strict}
+use Rattle.htl_event.proofs.Orders.{ByBase-strict, NewestFirst-strict, MostFirst-strict, EarlierFirst-strict, ByProcessAndBase-strict, MostHandlesFirst-strict}
 use Rattle.htl_event.proofs.Untils.{until_same}
 
 -- ---- the same members
@@ -165,6 +169,30 @@ growth_same xs ys same process (Some span) points a b p q =
     (point_moved xs ys same process span points point, point_moved ys xs (λ e. ((same e).1, (same e).0)) process span points point))
     p q
 
+counts_since_moved : (xs ys : List Event) → HaveSame xs ys → (since : Option Since) (e : Event) → CountsSince (Contains xs) since e
+    → CountsSince (Contains ys) since e
+counts_since_moved xs ys same None e h = h
+counts_since_moved xs ys same (Some (Sequence moment)) e h = h
+counts_since_moved xs ys same (Some OwnSnapshot) e h = λ mark is. h mark
+    (IsGreatestSequence-same _ _ (same_where (Contains ys) (Contains xs) (IsOf Snapshot e.process) (λ x. ((same x).1, (same x).0))) mark is)
+
+open_anywhere_same : (xs ys : List Event) → HaveSame xs ys → (since : Option Since) (a b : List Event)
+    → AreOpenAnywhere (Contains xs) since a → AreOpenAnywhere (Contains ys) since b → a ≡ b
+open_anywhere_same xs ys same since a b =
+    let back : HaveSame ys xs = λ e. ((same e).1, (same e).0) in
+    Lists-same ByProcessAndBase ByProcessAndBase-strict _ _ a b (λ e. (
+      λ h. ((open_in_both xs ys same e.process e).0 h.0, counts_since_moved xs ys same since e h.1),
+      λ h. ((open_in_both xs ys same e.process e).1 h.0, counts_since_moved ys xs back since e h.1),
+    ))
+
+sites_same : (xs ys : List Event) → HaveSame xs ys → (since : Option Since) (least : ℕ) (a b : List Site)
+    → IsSites (Contains xs) since least a → IsSites (Contains ys) since least b → a ≡ b
+sites_same xs ys same since least a b p q =
+    let one : p.handles ≡ q.handles = open_anywhere_same xs ys same since p.handles q.handles p.are q.are in
+    let moved : Lists MostHandlesFirst (λ site. IsSite q.handles site × ((0 < site.handles) × (least ≤ site.handles))) a =
+    subst (λ handles. Lists MostHandlesFirst (λ site. IsSite handles site × ((0 < site.handles) × (least ≤ site.handles))) a) one p.stacks in
+    Lists-same MostHandlesFirst MostHandlesFirst-strict _ _ a b (λ site. (λ h. h, λ h. h)) moved q.stacks
+
 -- of two lists with the same events, each answer about handles is one
 pub handles_are_determined : (xs ys : List Event) → HaveSame xs ys → HandlesAreDetermined xs ys
 handles_are_determined xs ys same = record {
@@ -180,4 +208,5 @@ handles_are_determined xs ys same = record {
       (same_where (Contains xs) (Contains ys) (IsOfHandle process (base_of handle)) same);
   leaks = leaks_same xs ys same;
   growth = growth_same xs ys same;
+  sites = sites_same xs ys same;
 }

@@ -8,11 +8,14 @@ pub mod Ordered
 pub mod EventTests
 pub mod ComputedHandles
 pub mod ComputedCounts
+pub mod ComputedSites
 pub mod RowsHandles
 pub mod RowsCounts
+pub mod RowsSites
 pub mod EventsEqual
 pub mod Sums
 pub mod Summarized
 pub mod Wanted
 pub mod WantedLists
 pub mod WantedSummaries
+pub mod Balanced

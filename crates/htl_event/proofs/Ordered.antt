@@ -103,7 +103,7 @@ module _ {K : Type 0} (same : K → K → Bool) (exact : (x y : K) → same x y 
         | inr there ↦ Contains-there y ys x (Contains-list_any x ys there)
       ]
 
-  Contains-distinct : (xs : List K) (z : K) → Contains (distinct same xs) z ↔ Contains xs z
+  pub Contains-distinct : (xs : List K) (z : K) → Contains (distinct same xs) z ↔ Contains xs z
   Contains-distinct [] z = (λ h. h, λ h. h)
   Contains-distinct (x ∷ xs) z =
       let rest = Contains-distinct xs z in

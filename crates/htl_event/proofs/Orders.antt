@@ -1,5 +1,5 @@
 -- The orders of answers are strict.
-use Rattle.std.proofs.Common.{◌≡◌, ℕ, List, arith}
+use Rattle.std.proofs.Common.{◌≡◌, ℕ, ◌<◌, List, arith}
 use Rattle.std.specs.Cmp.{IsTotalOrder}
 use Rattle.std.specs.declared.cmp.Ordering.{Ordering}
 use Rattle.std.specs.declared.cmp.Ordering.TheVariants.{Less, Equal}
@@ -10,6 +10,9 @@ use Rattle.htl_event.specs.OrderLaws.{stack_total}
 use Rattle.htl_event.specs.Handles.{ByBase, NewestFirst}
 use Rattle.htl_event.specs.Growth.{EarlierFirst}
 use Rattle.htl_event.specs.Tallies.{ByTag, ByStack, ByHandleAndStack, MostFirst}
+use Rattle.htl_event.specs.Events.{Event}
+use Rattle.htl_event.specs.Slots.{base_of}
+use Rattle.htl_event.specs.Sites.{Site, ByProcessAndBase, MostHandlesFirst}
 
 -- what a total order puts first comes strictly before
 pub strict_from_total : {X : Type 0} {R : X → X → Ordering} → IsTotalOrder R → IsStrictOrder (λ x y. R x y ≡ Less)
@@ -30,6 +33,10 @@ NewestFirst-strict = record { irreflexive = λ x h. omega arith; transitive = λ
 pub EarlierFirst-strict : IsStrictOrder EarlierFirst
 EarlierFirst-strict = record { irreflexive = λ x h. omega arith; transitive = λ x y z p q. omega arith }
 
+-- the order of numbers is strict
+pub lower-strict : IsStrictOrder (λ (a b : ℕ). a < b)
+lower-strict = record { irreflexive = λ x h. omega arith; transitive = λ x y z p q. omega arith }
+
 -- the order of tags by their bytes is strict
 pub ByTag-strict : IsStrictOrder ByTag
 ByTag-strict = strict_from_total (on_total (λ (row : List ℕ × Count). row.0) nat_list_cmp_total)
@@ -49,3 +56,14 @@ pub MostFirst-strict : IsStrictOrder MostFirst
 MostFirst-strict =
     strict_from_total (then_total (back_total (on_total (λ (row : List ℕ × ℕ). row.1) nat_cmp_total))
     (on_total (λ (row : List ℕ × ℕ). row.0) stack_total))
+
+-- the order of events by process and base handle is strict
+pub ByProcessAndBase-strict : IsStrictOrder ByProcessAndBase
+ByProcessAndBase-strict =
+    strict_from_total (then_total (on_total (λ (e : Event). e.process) nat_cmp_total) (on_total (λ (e : Event). base_of e.handle) nat_cmp_total))
+
+-- the order of sites, the greatest number of handles first and then by stack, is strict
+pub MostHandlesFirst-strict : IsStrictOrder MostHandlesFirst
+MostHandlesFirst-strict =
+    strict_from_total (then_total (back_total (on_total (λ (site : Site). site.handles) nat_cmp_total))
+    (on_total (λ (site : Site). site.stack) stack_total))

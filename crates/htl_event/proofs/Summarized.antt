@@ -1,5 +1,5 @@
 -- The same events, at whatever places, give the same summary.
-use Rattle.std.proofs.Common.{◌≡◌, ℕ, ◌<◌, Bool, true, cond, List, sym, ap, ◌∙◌, arith, ◌&&◌, ◌==◌}
+use Rattle.std.proofs.Common.{◌≡◌, ℕ, ◌<◌, Bool, true, cond, List, sym, ap, ◌∙◌, ◌&&◌, ◌==◌}
 use Rattle.std.specs.Prelude.{Contains, ◌↔◌, length}
 use Rattle.std.specs.List.Sorted.{IsPermutation}
 use Rattle.std.proofs.lemmas.List.Sorted.{IsPermutation-sym, Contains-permutation, sum_by-IsPermutation}
@@ -15,7 +15,7 @@ use Rattle.htl_event.specs.Handles.{IsOf}
 use Rattle.htl_event.specs.Laws.{HaveSame}
 use Rattle.htl_event.specs.Summaries.{how_many, IsProcessRow, MostOutstandingFirst, IsObjectRow, MostUnbalancedFirst, SummariesAreDetermined}
 use Rattle.htl_event.proofs.Members.{Lists-same}
-use Rattle.htl_event.proofs.Orders.{strict_from_total}
+use Rattle.htl_event.proofs.Orders.{strict_from_total, lower-strict}
 use Rattle.htl_event.proofs.Determined.{IsGreatestSequence-same, same_where, open_in_both}
 use Rattle.htl_event.proofs.Counts.{counts_are_determined}
 
@@ -30,9 +30,6 @@ pub MostUnbalancedFirst-strict : IsStrictOrder MostUnbalancedFirst
 MostUnbalancedFirst-strict =
     strict_from_total (then_total (back_total (on_total (λ (row : ObjectRow). row.unbalanced) nat_cmp_total))
     (on_total (λ (row : ObjectRow). row.object) nat_cmp_total))
-
-lower-strict : IsStrictOrder (λ (a b : ℕ). a < b)
-lower-strict = record { irreflexive = λ x h. omega arith; transitive = λ x y z p q. omega arith }
 
 -- ---- the same rows
 

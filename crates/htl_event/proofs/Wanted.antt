@@ -21,12 +21,15 @@ use Rattle.htl_event.specs.Growth.{IsPoint, IsGrowth}
 use Rattle.htl_event.specs.Moments.{events_until}
 use Rattle.htl_event.specs.declared.growth.Point.{Point}
 use Rattle.htl_event.specs.declared.growth.Span.{Span}
+use Rattle.htl_event.specs.declared.since.Since.{Since}
+use Rattle.htl_event.specs.declared.since.Since.TheVariants.{Snapshot as OwnSnapshot, Sequence}
+use Rattle.htl_event.specs.Sites.{Site, CountsSince, AreOpenAnywhere, IsSites}
 use Rattle.htl_event.proofs.Counts.{count_where-IsPermutation, same_rows}
 use Rattle.htl_event.proofs.Members.{filter-pass, filter-skip, Contains-filter, Contains-from_filter, Contains-map, Contains-from_map}
 use Rattle.htl_event.specs.declared.interest.Interest.{Interest}
-use Rattle.htl_event.specs.declared.interest.Interest.TheVariants.{Process, OpenHandles, Object}
+use Rattle.htl_event.specs.declared.interest.Interest.TheVariants.{Process, OpenHandles, AllHandles, Object}
 use Rattle.htl_event.specs.Interests.{tracks_handles, wants, needs_stack, without_stack, as_needed, wanted}
-use Rattle.htl_event.specs.Interests.{HaveSameOpenHandles, ProcessNeedsItsOwn, ObjectNeedsItsOwn}
+use Rattle.htl_event.specs.Interests.{HaveSameOpenHandles, ProcessNeedsItsOwn, ObjectNeedsItsOwn, SitesNeedHandles}
 
 -- ---- sets of events that tell the same of a process's handles
 
@@ -113,7 +116,8 @@ open_too p A B e same o =
 open_same : (p : ℕ) (A B : Event → Type 0) (e : Event) → Agree p A B → IsOpen A p e ↔ IsOpen B p e
 open_same p A B e same = (open_too p A B e same, open_too p B A e (turned p A B same))
 
-lists_too : {X : Type 0} {before : X → X → Type 0} (P Q : X → Type 0) (rows : List X) → ((x : X) → P x ↔ Q x) → Lists before P rows
+-- a list names the elements of an equal property too
+pub lists_too : {X : Type 0} {before : X → X → Type 0} (P Q : X → Type 0) (rows : List X) → ((x : X) → P x ↔ Q x) → Lists before P rows
     → Lists before Q rows
 lists_too P Q rows same l = record {
   rising = l.rising;
@@ -142,6 +146,29 @@ leaks_too : (p : ℕ) (since : Option ℕ) (least : ℕ) (A B : Event → Type 0
 leaks_too p since least A B rows same l = record {
   handles = l.handles;
   are = since_too p since A B l.handles same l.are;
+  stacks = l.stacks;
+}
+
+counts_too : (since : Option Since) (A B : Event → Type 0) (e : Event) → Agree e.process A B → CountsSince A since e → CountsSince B since e
+counts_too None A B e same h = h
+counts_too (Some (Sequence moment)) A B e same h = h
+counts_too (Some OwnSnapshot) A B e same h = λ mark is. h mark (greatest e.process B A Snapshot mark refl same.1.others same.0.others is)
+
+open_anywhere_too : (since : Option Since) (A B : Event → Type 0) (rows : List Event) → ((p : ℕ) → Agree p A B)
+    → AreOpenAnywhere A since rows → AreOpenAnywhere B since rows
+open_anywhere_too since A B rows same =
+    lists_too (λ e. IsOpen A e.process e × CountsSince A since e) (λ e. IsOpen B e.process e × CountsSince B since e) rows (λ e.
+    let here = same e.process in
+    let back = turned e.process A B here in (
+      λ h. (open_too e.process A B e here h.0, counts_too since A B e here h.1),
+      λ h. (open_too e.process B A e back h.0, counts_too since B A e back h.1),
+    ))
+
+sites_too : (since : Option Since) (least : ℕ) (A B : Event → Type 0) (rows : List Site) → ((p : ℕ) → Agree p A B)
+    → IsSites A since least rows → IsSites B since least rows
+sites_too since least A B rows same l = record {
+  handles = l.handles;
+  are = open_anywhere_too since A B l.handles same l.are;
   stacks = l.stacks;
 }
 
@@ -186,7 +213,8 @@ growth_same p (Some span) points xs ys rows same =
 
 -- ---- counts of what passes another test too
 
-count_same : {X : Type 0} (p w : X → Bool) → ((x : X) → p x ≡ true → w x ≡ true) → (xs : List X) → count_by p xs ≡ count_by p (filter w xs)
+-- as many pass a test among those that pass another, where they pass that too
+pub count_same : {X : Type 0} (p w : X → Bool) → ((x : X) → p x ≡ true → w x ≡ true) → (xs : List X) → count_by p xs ≡ count_by p (filter w xs)
 count_same p w implied [] = refl
 count_same p w implied (x ∷ xs) =
     let others = count_same p w implied xs in
@@ -203,7 +231,8 @@ count_same p w implied (x ∷ xs) =
       ])
     ]
 
-count_where_same : (passes w : Event → Bool) (slot : Slot) → ((sign : Sign) (e : Event) → is_counted slot sign e ≡ true → w e ≡ true)
+-- a slot has the same count among the events that pass a test, where all that are counted under it pass that
+pub count_where_same : (passes w : Event → Bool) (slot : Slot) → ((sign : Sign) (e : Event) → is_counted slot sign e ≡ true → w e ≡ true)
     → (es : List Event) → count_where passes es slot ≡ count_where passes (filter w es) slot
 count_where_same passes w slot implied es =
     let side : (sign : Sign) → times passes es slot sign ≡ times passes (filter w es) slot sign =
@@ -245,9 +274,11 @@ as_needed_alike interest e x is =
     subst (λ (y : Event). AreAlike y e) is
     (record { sequence = sym alike.sequence; kind = sym alike.kind; process = sym alike.process; handle = sym alike.handle })
 
--- an open is needed as it is
-open_as_needed : (p : ℕ) (e : Event) → e.kind ≡ Opened → as_needed (OpenHandles p) e ≡ e
-open_as_needed p e opens = ap (λ (k : Kind). if needs_stack (OpenHandles p) k then e else without_stack e) opens
+-- an open is needed as it is, where the stacks of opens are needed
+open_as_needed : (interest : Interest) → needs_stack interest Opened ≡ true → (e : Event) → e.kind ≡ Opened → as_needed interest e ≡ e
+open_as_needed interest needs e opens =
+    ap (λ (k : Kind). if needs_stack interest k then e else without_stack e) opens
+    ∙ ap (λ (whole : Bool). if whole then e else without_stack e) needs
 
 -- the events of a process are needed as they are
 all_of_process : (p : ℕ) (es : List Event) → map (as_needed (Process p)) es ≡ es
@@ -299,31 +330,27 @@ module _ (interest : Interest) (es own : List Event) (moved : IsPermutation (wan
       (Contains-permutation own (map (as_needed interest) kept) x (IsPermutation-sym (map (as_needed interest) kept) own moved) here) in
       (y, (Contains-from_filter (wants interest) es y there).0, is)
 
--- all events agree with those that are wanted of the open handles of the process
-module _ (p : ℕ) (es own : List Event) (moved : IsPermutation (wanted (OpenHandles p) es) own) where
-  abbrev trim : Event → Event
-  trim = as_needed (OpenHandles p)
-
-  asked : (x : Event) → x.process ≡ p → tracks_handles x.kind ≡ true → wants (OpenHandles p) x ≡ true
-  asked x owner tracks = rw (tracks, eq-eqb x.process p owner) refl
-
+-- all events agree on the open handles of a process with those that are wanted, where these are all that tell of them
+module _ (interest : Interest) (needs : needs_stack interest Opened ≡ true) (es own : List Event)
+    (moved : IsPermutation (wanted interest es) own) (p : ℕ)
+    (asked : (x : Event) → x.process ≡ p → tracks_handles x.kind ≡ true → wants interest x ≡ true) where
   agree_on_open : Agree p (Contains es) (Contains own)
   agree_on_open = (
     record {
-      opens = λ x owner opens here. subst (Contains own) (open_as_needed p x opens)
-          (in_own (OpenHandles p) es own moved x (asked x owner (ap tracks_handles opens)) here);
+      opens = λ x owner opens here. subst (Contains own) (open_as_needed interest needs x opens)
+          (in_own interest es own moved x (asked x owner (ap tracks_handles opens)) here);
       others = λ x owner tracks here.
-          (trim x, in_own (OpenHandles p) es own moved x (asked x owner tracks) here, alike_as_needed (OpenHandles p) x);
+          (as_needed interest x, in_own interest es own moved x (asked x owner tracks) here, alike_as_needed interest x);
     },
     record {
       opens = λ x owner opens here.
-          let (y, there, is) = from_own (OpenHandles p) es own moved x here in
-          let same = alike_as_needed (OpenHandles p) y in
+          let (y, there, is) = from_own interest es own moved x here in
+          let same = alike_as_needed interest y in
           let opened : y.kind ≡ Opened = same.kind ∙ ap (λ (e : Event). e.kind) is ∙ opens in
-          subst (Contains es) (sym (open_as_needed p y opened) ∙ is) there;
+          subst (Contains es) (sym (open_as_needed interest needs y opened) ∙ is) there;
       others = λ x owner tracks here.
-          let (y, there, is) = from_own (OpenHandles p) es own moved x here in
-          (y, there, as_needed_alike (OpenHandles p) y x is);
+          let (y, there, is) = from_own interest es own moved x here in
+          (y, there, as_needed_alike interest y x is);
     },
   )
 
@@ -347,7 +374,17 @@ same_open_handles p es own same =
 -- answers about open handles need what is wanted of them alone
 pub open_handles_need_wanted : (process : ℕ) (events own : List Event) → IsPermutation (wanted (OpenHandles process) events) own
     → HaveSameOpenHandles process events own
-open_handles_need_wanted p es own moved = same_open_handles p es own (agree_on_open p es own moved)
+open_handles_need_wanted p es own moved =
+    same_open_handles p es own (agree_on_open (OpenHandles p) refl es own moved p
+    (λ x owner tracks. rw (tracks, eq-eqb x.process p owner) refl))
+
+-- sites need what is wanted of the open handles of all processes alone
+pub sites_need_handles : (events own : List Event) → IsPermutation (wanted AllHandles events) own → SitesNeedHandles events own
+sites_need_handles es own moved since least rows =
+    let A = Contains es in
+    let B = Contains own in
+    let same : (p : ℕ) → Agree p A B = (λ p. agree_on_open AllHandles refl es own moved p (λ x owner tracks. tracks)) in
+    (sites_too since least A B rows same, sites_too since least B A rows (λ p. turned p A B (same p)))
 
 -- answers about a process need its own events alone
 pub process_needs_its_own : (process : ℕ) (events own : List Event) → IsPermutation (wanted (Process process) events) own

@@ -28,12 +28,12 @@ use Rattle.htl_event.proofs.Wanted.{Shows, greatest, open_alike, lists_same, in_
 -- ---- lists without stacks
 
 -- all events are asked about, and none of their stacks
-all_without_stacks : (es : List Event) → wanted AllEvents es ≡ map without_stack es
+pub all_without_stacks : (es : List Event) → wanted AllEvents es ≡ map without_stack es
 all_without_stacks [] = refl
 all_without_stacks (e ∷ es) = ap (λ (l : List Event). without_stack e ∷ l) (all_without_stacks es)
 
 -- a test that looks at no stack counts as many
-count_bare : (test : Event → Bool) → ((e : Event) → test (without_stack e) ≡ test e) → (es : List Event)
+pub count_bare : (test : Event → Bool) → ((e : Event) → test (without_stack e) ≡ test e) → (es : List Event)
     → count_by test (map without_stack es) ≡ count_by test es
 count_bare test blind [] = refl
 count_bare test blind (e ∷ es) =
@@ -186,7 +186,8 @@ module _ (events own : List Event) (moved : IsPermutation (wanted AllEvents even
       sym (count_bare test blind events) ∙ ap (count_by test) (sym (all_without_stacks events))
       ∙ count_by-IsPermutation test (wanted AllEvents events) own moved
 
-  balance_same : (object : ℕ) (tag : List ℕ) → balance events object tag ≡ balance own object tag
+  -- a tag of an object has the same balance without stacks
+  pub balance_same : (object : ℕ) (tag : List ℕ) → balance events object tag ≡ balance own object tag
   balance_same object tag =
       let side : (sign : Sign) → times (λ e. true) events (Tagged object tag) sign ≡ times (λ e. true) own (Tagged object tag) sign =
       (λ sign. counts_same (λ e. is_counted (Tagged object tag) sign e && true)

@@ -16,6 +16,8 @@ use Rattle.htl_event.specs.Handles.{LatestIs, later, IsGreatestSequence, IsMark,
 use Rattle.htl_event.specs.Handles.{IsOutstanding, IsDiff, IsListing, HaveOwnSequences}
 use Rattle.htl_event.specs.Tallies.{zero_count, plus_count, count_where, tally, under, balance, IsTags, IsStacks, IsBad, IsLeaksSince}
 use Rattle.htl_event.specs.Growth.{IsGrowth}
+use Rattle.htl_event.specs.declared.since.Since.{Since}
+use Rattle.htl_event.specs.Sites.{Site, IsSites}
 
 -- the same events are in both lists, in whatever order
 abbrev pub HaveSame : List Event → List Event → Type 0
@@ -40,6 +42,8 @@ pub record HandlesAreDetermined (xs ys : List Event) : Type 0 where
       → IsLeaksSince (Contains xs) process since at_least a → IsLeaksSince (Contains ys) process since at_least b → a ≡ b
   pub growth : (process : ℕ) (span : Option Span) (points : ℕ) (a b : List Point)
       → IsGrowth span points xs process a → IsGrowth span points ys process b → a ≡ b
+  pub sites : (since : Option Since) (at_least : ℕ) (a b : List Site)
+      → IsSites (Contains xs) since at_least a → IsSites (Contains ys) since at_least b → a ≡ b
 
 -- two lists with the same events at other places have the same counts, and one answer to each question about counts
 pub record CountsAreDetermined (xs ys : List Event) : Type 0 where

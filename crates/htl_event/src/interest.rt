@@ -11,8 +11,13 @@ pub enum Interest {
     /// The open handles of a process: its opens, closes, snapshots and exits. Only opens need their
     /// stacks.
     OpenHandles(u32),
+    /// The open handles of all processes: opens, closes, snapshots and exits. Only opens need their
+    /// stacks.
+    AllHandles,
     /// An object: the events that name it.
     Object(u64),
+    /// A tag: the references and dereferences under it, of whatever objects.
+    Tag([u8; 4]),
     /// All events. A summary asks about them, and needs no stacks.
     AllEvents,
 }
@@ -26,8 +31,8 @@ impl Interest {
         ensures { result ≡ needs_stack self kind }
     {
         match self {
-            Interest::OpenHandles(_) => matches!(kind, Kind::Opened),
-            Interest::Process(_) | Interest::Object(_) => true,
+            Interest::OpenHandles(_) | Interest::AllHandles => matches!(kind, Kind::Opened),
+            Interest::Process(_) | Interest::Object(_) | Interest::Tag(_) => true,
             Interest::AllEvents => false,
         }
     }

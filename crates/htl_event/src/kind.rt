@@ -22,7 +22,7 @@ pub enum Kind {
 impl Kind {
     ghost use Rattle.std.specs.Prelude.{◌≡◌};
     ghost use Rattle.htl_event.specs.Handles.{opens_or_closes};
-    ghost use Rattle.htl_event.specs.Interests.{tracks_handles};
+    ghost use Rattle.htl_event.specs.Interests.{names_object, tracks_handles};
     ghost use Rattle.htl_event.specs.Words.{word_of};
 
     /// Whether such an event opens or closes a handle.
@@ -41,6 +41,13 @@ impl Kind {
             self,
             Kind::Opened | Kind::Closed | Kind::Snapshot | Kind::Exited
         )
+    }
+
+    /// Whether such an event names an object: it is a reference or a dereference.
+    pub fn names_object(self) -> bool
+        ensures { result ≡ names_object self }
+    {
+        matches!(self, Kind::Ref | Kind::Deref)
     }
 
     /// The word that listings and texts have for such an event.

@@ -2,9 +2,12 @@
 
 ghost use Rattle.std.specs.Prelude.{List, ℕ};
 ghost use Rattle.std.specs.List.Sorted.{IsPermutation};
+ghost use Rattle.htl_event.specs.Balances.{BalancesAreDetermined};
 ghost use Rattle.htl_event.specs.Events.{Event};
 ghost use Rattle.htl_event.specs.Interests.{HaveSameOpenHandles, ProcessNeedsItsOwn};
-ghost use Rattle.htl_event.specs.Interests.{ObjectNeedsItsOwn, SummaryNeedsNoStack, wanted};
+ghost use Rattle.htl_event.specs.Interests.{ObjectNeedsItsOwn, SitesNeedHandles};
+ghost use Rattle.htl_event.specs.Interests.{SummaryNeedsNoStack, wanted};
+ghost use Rattle.htl_event.specs.Interests.{BalancesNeedNoStack, StacksNeedTheirTag};
 ghost use Rattle.htl_event.specs.Laws.{HaveSame, HandlesAreDetermined};
 ghost use Rattle.htl_event.specs.Laws.{CountsAreDetermined, CountsAddUp, IsUnion};
 ghost use Rattle.htl_event.specs.Laws.{LaterOfBoth, PrefixTallyIsSum, BalanceIsSum};
@@ -30,6 +33,12 @@ pub fn summaries_are_determined()
     ensures { (xs ys : List Event) → IsPermutation xs ys → SummariesAreDetermined xs ys }
 {}
 
+/// Each answer about balances over all objects is the only one, and depends on how often each event
+/// is there, and not on their order.
+pub fn balances_are_determined()
+    ensures { (xs ys : List Event) → IsPermutation xs ys → BalancesAreDetermined xs ys }
+{}
+
 /// Counts over two lists put together are the sums of the counts over each.
 pub fn counts_add_up()
     ensures { (xs ys : List Event) → CountsAddUp xs ys }
@@ -53,8 +62,8 @@ pub fn balance_is_sum()
 
 /// An answer about a process or an object over all events is the one over its own events alone, in
 /// whatever order these are. An answer about a process's open handles needs its opens, closes,
-/// snapshots and exits alone, and the stacks of opens. A summary needs all events, but none of
-/// their stacks.
+/// snapshots and exits alone, and the stacks of opens, and sites need those of all processes. A
+/// summary needs all events, but none of their stacks.
 pub fn answers_need_what_is_wanted()
     ensures process { (process : ℕ) (events own : List Event)
         → IsPermutation (wanted (Interest.Process process) events) own
@@ -62,10 +71,19 @@ pub fn answers_need_what_is_wanted()
     ensures open_handles { (process : ℕ) (events own : List Event)
         → IsPermutation (wanted (Interest.OpenHandles process) events) own
         → HaveSameOpenHandles process events own }
+    ensures all_handles { (events own : List Event)
+        → IsPermutation (wanted Interest.AllHandles events) own
+        → SitesNeedHandles events own }
     ensures object { (object : ℕ) (events own : List Event)
         → IsPermutation (wanted (Interest.Object object) events) own
         → ObjectNeedsItsOwn object events own }
     ensures summary { (events own : List Event)
         → IsPermutation (wanted Interest.AllEvents events) own
         → SummaryNeedsNoStack events own }
+    ensures balances { (events own : List Event)
+        → IsPermutation (wanted Interest.AllEvents events) own
+        → BalancesNeedNoStack events own }
+    ensures tag { (tag : List ℕ) (events own : List Event)
+        → IsPermutation (wanted (Interest.Tag tag) events) own
+        → StacksNeedTheirTag tag events own }
 {}

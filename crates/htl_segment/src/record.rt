@@ -98,7 +98,9 @@ impl Record<'_> {
             Interest::OpenHandles(process) => {
                 self.process == process && self.kind.tracks_handles()
             }
+            Interest::AllHandles => self.kind.tracks_handles(),
             Interest::Object(object) => self.object == object,
+            Interest::Tag(tag) => self.kind.names_object() && self.tag == tag,
             Interest::AllEvents => true,
         }
     }
@@ -172,7 +174,7 @@ pub fn fields_fit(kind: Kind, handle: u32, object: u64, tag: [u8; 4]) -> bool
     ensures { result ≡ fields_fit kind handle object tag }
 {
     let opens_or_closes = kind.opens_or_closes();
-    let names_object = matches!(kind, Kind::Ref | Kind::Deref);
+    let names_object = kind.names_object();
     let handle_fits = (kind == Kind::BadRef)
         | (opens_or_closes & (base(handle) != 0))
         | (!opens_or_closes & (handle == 0));

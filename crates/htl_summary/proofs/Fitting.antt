@@ -65,7 +65,8 @@ usages_fit sums lt before left right after k x y is one two =
 abbrev tag_of_sum : Sum → Option ObjectRow
 tag_of_sum sum = tag_of sum.0 sum.1
 
-one_at_most : (b : Bool) → cond b 0 1 ≤ 1
+-- one or nothing is at most one
+pub one_at_most : (b : Bool) → cond b 0 1 ≤ 1
 one_at_most true = omega arith
 one_at_most false = omega arith
 

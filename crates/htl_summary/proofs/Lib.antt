@@ -1,3 +1,4 @@
+pub mod Counting
 pub mod Totals
 pub mod InOrder
 pub mod TableHalves
@@ -5,4 +6,16 @@ pub mod SlotSums
 pub mod Sorted
 pub mod ProcessRows
 pub mod ObjectRows
+pub mod Runs
+pub mod SiteRows
+pub mod OneProcess
+pub mod SiteSums
 pub mod Fitting
+pub mod AddedBalances
+pub mod BalanceKeys
+pub mod TagSums
+pub mod TagRows
+pub mod RankedBalances
+pub mod StackSums
+pub mod StackRows
+pub mod BalanceSums

@@ -6,7 +6,7 @@ use Rattle.std.specs.List.{sum_by, filter_map, AllByRecursion}
 use Rattle.std.specs.Ordering.{nat_cmp, is_eq}
 use Rattle.std.specs.Cmp.{unsigned_tied}
 use Rattle.std.specs.FinMap.Entries.{find, below_all}
-use Rattle.std.proofs.lemmas.Bool.{eqb-true, cases_Bool, cases_lt, and_parts, ltb-true, lt-ltb}
+use Rattle.std.proofs.lemmas.Bool.{eqb-true, cases_lt, and_parts, ltb-true, lt-ltb}
 use Rattle.std.proofs.lemmas.Cmp.{nat_eq_equiv}
 use Rattle.std.proofs.lemmas.List.{length-map}
 use Rattle.std.proofs.lemmas.List.Sums.{sum_by-cons, count_by-le-length}
@@ -24,7 +24,7 @@ use Rattle.htl_event.specs.Slots.{slot_of, slot_by_kind, is_slot, is_counted}
 use Rattle.htl_event.specs.Members.{IsRising}
 use Rattle.htl_event.specs.Tallies.{IsPositive, balance, ByTag, IsTags}
 use Rattle.htl_event.specs.Summaries.{IsOfObject, IsObject, IsNumberOfObjects, is_unbalanced, IsObjectRow, MostUnbalancedFirst, IsUnbalanced}
-use Rattle.htl_event.proofs.Members.{Contains-here, Contains-there, Contains-map, Contains-from_map}
+use Rattle.htl_event.proofs.Members.{Contains-here, Contains-map, Contains-from_map}
 use Rattle.htl_event.proofs.Members.{Contains-filter, Contains-from_filter}
 use Rattle.htl_event.proofs.Counts.{counts_are_determined}
 use Rattle.htl_sorted.specs.Entries.{IsSorted}
@@ -37,6 +37,7 @@ use Rattle.htl_answers.specs.Sums.{times_of, ListsSlotSums}
 use Rattle.htl_summary.specs.Totals.{by_owner, one_at, total_at}
 use Rattle.htl_summary.specs.ObjectTags.{one_if_unbalanced, tag_of, both_objects}
 use Rattle.htl_answers.proofs.NumberSums.{amount, sum_same, sum_filter_map}
+use Rattle.htl_summary.proofs.Counting.{exists_one}
 use Rattle.htl_summary.proofs.Totals.{found_row, row_there, total-amount, total-keeps, number_at}
 use Rattle.htl_summary.proofs.SlotSums.{came}
 
@@ -92,7 +93,8 @@ refs_number row = row.refs
 abbrev derefs_number : ObjectRow → ℕ
 derefs_number row = row.derefs
 
-length_is_sum : {X : Type 0} (xs : List X) → sum_by (λ (x : X). 1) xs ≡ length xs
+-- ones, one for each element, add up to the length
+pub length_is_sum : {X : Type 0} (xs : List X) → sum_by (λ (x : X). 1) xs ≡ length xs
 length_is_sum [] = refl
 length_is_sum {X} (x ∷ xs) = let rest = length_is_sum xs in let both = sum_by-cons (λ (y : X). 1) x xs in omega (arith, rest, both)
 
@@ -174,18 +176,6 @@ module _ (events : List Event) (sums : List Sum) (listed : ListsSlotSums events 
           (tags_of_single from.0.0 from.0.1 r from.2, sym (eqb-true object r.object (sym (unsigned_tied object r.object) ∙ t)))
 
   -- ---- events of the object
-
-  exists_one : {X : Type 0} (p : X → Bool) (xs : List X) → 0 < count_by p xs → (x : X) × Contains xs x × (p x ≡ true)
-  exists_one p [] lt = absurd (omega (arith, lt))
-  exists_one {X} p (x ∷ xs) lt =
-      elim (cases_Bool (p x)) [
-        | inl holds ↦ (x, Contains-here x xs, holds)
-        | inr fails ↦
-            let both = sum_by-cons (λ (y : X). cond (p y) 1 0) x xs in
-            let none : ◌≡◌ {A = ℕ} (cond (p x) 1 0) 0 = ap (λ b. cond b 1 0) fails in
-            let rest = exists_one p xs (omega (arith, lt, both, none)) in
-            (rest.0, Contains-there x xs rest.0 rest.1, rest.2)
-      ]
 
   of_object : (kind : Kind) (e : Event) (tag : List ℕ) (sign : Sign) → kind ≡ e.kind → is_slot (Tagged object tag) sign (slot_by_kind kind e) ≡ true
       → IsOfObject object e

@@ -1,5 +1,5 @@
 -- Sums over the slots of a list that has each slot once are counts of events.
-use Rattle.std.proofs.Common.{◌≡◌, ◌≢◌, ℕ, ◌<◌, Bool, true, false, cond, ◌&&◌, List, []}
+use Rattle.std.proofs.Common.{◌≡◌, ◌≢◌, ℕ, Bool, true, false, cond, ◌&&◌, List, []}
 use Rattle.std.proofs.Common.{◌∷◌, Option, Some, None, refl, sym, ap, subst, ◌∙◌, arith, inl, inr}
 use Rattle.std.specs.Prelude.{Contains, count_by}
 use Rattle.std.specs.List.{sum_by}
@@ -21,6 +21,7 @@ use Rattle.htl_tree.specs.Trees.{BySlot}
 use Rattle.htl_tree.proofs.Under.{same_slot_Decides}
 use Rattle.htl_answers.specs.Sums.{times_of, ListsSlotSums}
 use Rattle.htl_answers.proofs.NumberSums.{sum_same, sum_zero, sum_swap, cond_sum, none_or_none}
+use Rattle.htl_summary.proofs.Counting.{positive_somewhere}
 
 abbrev Sum : Type 0
 Sum = Slot × Count
@@ -88,19 +89,6 @@ hits passes sign (Some counted) = passes counted.0 && same_sign sign counted.1
 
 abbrev one_if : Bool → ℕ
 one_if b = cond b 1 0
-
-positive_somewhere : {X : Type 0} (p : X → Bool) (xs : List X) (x : X) → Contains xs x → p x ≡ true → 0 < count_by p xs
-positive_somewhere p [] x h holds = absurd (Contains-nil x h)
-positive_somewhere {X} p (y ∷ xs) x h holds =
-    let both = sum_by-cons (λ (z : X). one_if (p z)) y xs in
-    elim (Contains-cases y xs x h) [
-      | inl is ↦
-          let one : one_if (p y) ≡ 1 = ap (λ b. one_if b) (ap p is ∙ holds) in
-          omega (arith, both, one)
-      | inr there ↦
-          let rest = positive_somewhere p xs x there holds in
-          omega (arith, both, rest)
-    ]
 
 -- a slot that an event is counted under came
 pub came : (events : List Event) (e : Event) (slot : Slot) (sign : Sign) → Contains events e → slot_of e ≡ Some (slot, sign)

@@ -1,18 +1,19 @@
 -- Rows that a sort by a key put in order rise strictly, where their keys differ.
-use Rattle.std.proofs.Common.{◌≡◌, ◌≢◌, ℕ, suc, ◌+◌, get_or, Bool, false, List, []}
+use Rattle.std.proofs.Common.{◌≡◌, ◌≢◌, ℕ, suc, ◌+◌, get_or, Bool, true, false, List, []}
 use Rattle.std.proofs.Common.{◌∷◌, map, T, refl, sym, ap, subst, ◌∙◌, arith, inl, inr, nat_eq}
 use Rattle.std.specs.Prelude.{Contains, ◌↔◌, filter}
 use Rattle.std.specs.List.{IsDistinct, AllByRecursion}
 use Rattle.std.specs.List.Sorted.{IsSortedBy, IsPermutation}
 use Rattle.std.specs.Ordering.{nat_cmp, is_lt, ordering_then}
-use Rattle.std.specs.Cmp.{IsTotalOrder}
+use Rattle.std.specs.Cmp.{IsTotalOrder, unsigned_Decides}
+use Rattle.std.specs.Cmp.Lexicographic.{pointwise, pointwise_decides}
 use Rattle.std.specs.FinMap.{nat_cmp-IsAntisymmetric}
 use Rattle.std.specs.FinMap.Entries.{below_all}
 use Rattle.std.specs.declared.cmp.Ordering.{Ordering}
 use Rattle.std.specs.declared.cmp.Ordering.TheVariants.{Less, Equal, Greater}
 use Rattle.std.specs.declared.cmp.Reverse.{Reverse}
 use Rattle.std.proofs.lemmas.Bool.{cases_Bool, false≢true, ne_eqb, eq-eqb, both_ways}
-use Rattle.std.proofs.lemmas.Cmp.{nat_eq_equiv, nat_cmp_total, on_total, then_total, back_total}
+use Rattle.std.proofs.lemmas.Cmp.{nat_eq_equiv, nat_list_eq_equiv, nat_cmp_total, on_total, then_total, back_total}
 use Rattle.std.proofs.lemmas.Map.Keys.{IsDistinct-IsPermutation}
 use Rattle.std.proofs.lemmas.List.Sorted.{ranks_by, sorted_far, IsPermutation-map, IsPermutation-sym, Contains-permutation}
 use Rattle.htl_event.specs.Members.{IsRising}
@@ -20,7 +21,10 @@ use Rattle.htl_event.proofs.Members.{Contains-map, Contains-from_map, Contains-f
 use Rattle.htl_sorted.specs.Entries.{IsSorted, entries}
 use Rattle.htl_lemmas.proofs.Tests.{both_left, both_right, less, lower}
 use Rattle.htl_sorted.proofs.Places.{turn}
-use Rattle.htl_answers.proofs.Opens.{both_tied}
+use Rattle.htl_answers.specs.RowOrder.{both_tied, stack_same}
+use Rattle.htl_event.specs.OrderLaws.{stack_total}
+use Rattle.htl_event.specs.Sites.{Site, MostHandlesFirst}
+use Rattle.htl_summary.specs.Openers.{site_cmp}
 
 -- ---- keys that differ
 
@@ -67,8 +71,8 @@ same_members xs ys moved x = (Contains-permutation ys xs x (IsPermutation-sym xs
 
 -- ---- in order
 
-module _ {X K : Type 0} (key : X → K) (R : K → K → Ordering) (o : IsTotalOrder R) (n : X → ℕ)
-    (ties : (x y : X) → R (key x) (key y) ≡ Equal → n x ≡ n y) where
+module _ {X K N : Type 0} (key : X → K) (R : K → K → Ordering) (o : IsTotalOrder R) (n : X → N) (same : N → N → Bool)
+    (says : (a b : N) → a ≡ b → same a b ≡ true) (ties : (x y : X) → R (key x) (key y) ≡ Equal → n x ≡ n y) where
   abbrev lt : X → X → Bool
   lt x y = is_lt (R (key x) (key y))
 
@@ -85,7 +89,7 @@ module _ {X K : Type 0} (key : X → K) (R : K → K → Ordering) (o : IsTotalO
       let far = sorted_far lt (ranks_by o key) (x ∷ xs) up 0 (suc i) y (omega arith) (omega (arith, within)) in
       ap (λ z. lt z x) (sym is) ∙ far
 
-  pub rising_from_sorted : (xs : List X) → IsSortedBy lt xs → IsDistinct nat_eq (map n xs) → IsRising (λ a b. R (key a) (key b) ≡ Less) xs
+  pub rising_from_sorted : (xs : List X) → IsSortedBy lt xs → IsDistinct same (map n xs) → IsRising (λ a b. R (key a) (key b) ≡ Less) xs
   unfolding IsDistinct
   rising_from_sorted [] up distinct = tt
   rising_from_sorted (x ∷ xs) up distinct = (
@@ -100,8 +104,8 @@ module _ {X K : Type 0} (key : X → K) (R : K → K → Ordering) (o : IsTotalO
 
       apart : (y : X) → Contains xs y → n x ≢ n y
       apart y h e =
-          let not : nat_eq (n x) (n y) ≡ false = at_member (λ k. nat_eq (n x) k ≡ false) (map n xs) (n y) distinct.0 (Contains-map n xs y h) in
-          both_ways (nat_eq (n x) (n y)) not (eq-eqb (n x) (n y) e)
+          let not : same (n x) (n y) ≡ false = at_member (λ k. same (n x) k ≡ false) (map n xs) (n y) distinct.0 (Contains-map n xs y h) in
+          both_ways (same (n x) (n y)) not (says (n x) (n y) e)
 
 -- ---- the greatest number first, and then by key
 
@@ -126,4 +130,36 @@ module _ {X : Type 0} (number n : X → ℕ) where
   pub rising_by_rank : (xs ys : List X) → IsDistinct nat_eq (map n xs) → IsPermutation xs ys
       → IsSortedBy (λ x y. is_lt (rank_cmp (rank x) (rank y))) ys → IsRising (λ a b. rank_cmp (rank a) (rank b) ≡ Less) ys
   rising_by_rank xs ys distinct moved up =
-      rising_from_sorted rank rank_cmp rank_total n tied ys up (distinct_moved n xs ys moved distinct)
+      rising_from_sorted rank rank_cmp rank_total n nat_eq eq-eqb tied ys up (distinct_moved n xs ys moved distinct)
+
+-- ---- the most handles first, and then by stack
+
+pub site_total : IsTotalOrder site_cmp
+site_total =
+    then_total (back_total (on_total (λ (site : Site). site.handles) nat_cmp_total)) (on_total (λ (site : Site). site.stack) stack_total)
+
+-- sites of different stacks have stacks that differ
+distinct_stacks : (sites : List Site) → IsRising (λ (a b : Site). a.stack ≢ b.stack) sites
+    → IsDistinct (pointwise nat_eq) (map (λ (site : Site). site.stack) sites)
+unfolding IsDistinct
+distinct_stacks [] apart = tt
+distinct_stacks (x ∷ xs) apart = (
+  each_member (λ s. pointwise nat_eq x.stack s ≡ false) (map (λ (site : Site). site.stack) xs) (λ s h.
+      let (y, here, is) = Contains-from_map (λ (site : Site). site.stack) xs s h in
+      let differs : x.stack ≢ y.stack = at_member (λ (site : Site). x.stack ≢ site.stack) xs y apart.0 here in
+      elim (cases_Bool (pointwise nat_eq x.stack s)) [
+        | inl same ↦ absurd (differs ((pointwise_decides unsigned_Decides x.stack s).0 same ∙ sym is))
+        | inr other ↦ other
+      ]),
+  distinct_stacks xs apart.1,
+)
+
+-- and once they are sorted they rise
+pub sites_rise : (xs ys : List Site) → IsRising (λ (a b : Site). a.stack ≢ b.stack) xs → IsPermutation xs ys
+    → IsSortedBy (λ x y. is_lt (site_cmp x y)) ys → IsRising MostHandlesFirst ys
+sites_rise xs ys apart moved up =
+    let stack : Site → List ℕ = λ site. site.stack in
+    rising_from_sorted (λ (site : Site). site) site_cmp site_total stack (pointwise nat_eq)
+    (λ a b. (pointwise_decides unsigned_Decides a b).1) (λ x y e. stack_same x.stack y.stack (both_tied _ _ e).1) ys up
+    (IsDistinct-IsPermutation (pointwise nat_eq) nat_list_eq_equiv.symm (map stack xs) (map stack ys) (IsPermutation-map stack xs ys moved)
+    (distinct_stacks xs apart))

@@ -8,7 +8,7 @@ use Rattle.std.proofs.lemmas.List.Filters.{dedup_is}
 use Rattle.std.proofs.lemmas.List.Kept.{Contains-dedup, Contains-from_dedup, IsStrictlySortedBy-dedup}
 use Rattle.std.proofs.lemmas.List.Sorted.{Contains-permutation, IsPermutation-sym}
 use Rattle.htl_event.specs.Members.{IsRising}
-use Rattle.htl_answers.proofs.leaking.put_in_order.Goals as goal
+use Rattle.htl_answers.proofs.ordering.put_in_order.Goals as goal
 
 rising_strict : {X : Type 0} (cmp : X → X → Ordering) (xs : List X) → IsStrictlySortedBy cmp xs → IsRising (λ a b. cmp a b ≡ Less) xs
 unfolding IsStrictlySortedBy

@@ -9,12 +9,13 @@ use Rattle.htl_command.specs.declared.names.CommandOption.{CommandOption}
 use Rattle.htl_command.specs.declared.names.CommandOption.TheVariants.{Process, Since, AtLeast, Object, Tag, Handle, Points, Top, Symbols}
 use Rattle.htl_command.specs.declared.names.CommandOption.TheVariants.{Workers, Until}
 use Rattle.htl_command.specs.declared.names.QuestionName.{QuestionName}
-use Rattle.htl_command.specs.declared.names.QuestionName.TheVariants.{Summary, Outstanding, Diff, Tags, Bad, Leaks, Stacks, Trace, Growth}
+use Rattle.htl_command.specs.declared.names.QuestionName.TheVariants.{Summary, Outstanding, Diff, Tags, Bad, Leaks, Sites}
+use Rattle.htl_command.specs.declared.names.QuestionName.TheVariants.{Stacks, Trace, Growth}
 
 abbrev pub commands : List CommandName
 commands =
-    Question Summary ∷ Question Outstanding ∷ Question Diff ∷ Question Tags ∷ Question Bad ∷ Question Leaks ∷ Question Stacks
-    ∷ Question Trace ∷ Question Growth ∷ Ask ∷ Explain ∷ Dump ∷ Encode ∷ []
+    Question Summary ∷ Question Outstanding ∷ Question Diff ∷ Question Tags ∷ Question Bad ∷ Question Leaks ∷ Question Sites
+    ∷ Question Stacks ∷ Question Trace ∷ Question Growth ∷ Ask ∷ Explain ∷ Dump ∷ Encode ∷ []
 
 -- each question: the name of its command, and the options that not every question has
 abbrev pub question_row : QuestionName → List ℕ × List CommandOption
@@ -24,6 +25,7 @@ question_row Diff = (codes "diff", Process ∷ Since ∷ Top ∷ [])
 question_row Tags = (codes "tags", Object ∷ [])
 question_row Bad = (codes "bad", Process ∷ Top ∷ [])
 question_row Leaks = (codes "leaks", Process ∷ Since ∷ AtLeast ∷ Top ∷ [])
+question_row Sites = (codes "sites", Since ∷ AtLeast ∷ Top ∷ [])
 question_row Stacks = (codes "stacks", Object ∷ Tag ∷ Top ∷ [])
 question_row Trace = (codes "trace", Process ∷ Handle ∷ Top ∷ [])
 question_row Growth = (codes "growth", Process ∷ Points ∷ [])
@@ -51,6 +53,7 @@ own_options question = (question_row question).1
 -- the options without a value that not every question has
 abbrev pub own_flags : QuestionName → List CommandFlag
 own_flags Leaks = ExitCode ∷ Folded ∷ []
+own_flags Sites = ExitCode ∷ Folded ∷ []
 own_flags Stacks = []
 own_flags Trace = []
 own_flags Growth = []

@@ -27,8 +27,9 @@ use Rattle.htl_command.specs.declared.question.InputForm.{InputForm}
 use Rattle.htl_command.specs.declared.question.Job.{Job}
 use Rattle.htl_question.specs.declared.question.Question.{Question}
 use Rattle.htl_command.specs.declared.question.Setting.{Setting}
-use Rattle.htl_question.specs.declared.question.Question.TheVariants.{Summary, Outstanding, Diff, Tags, Bad, Leaks, Stacks, Trace, Growth}
-use Rattle.htl_question.specs.declared.question.Since.TheVariants.{Snapshot}
+use Rattle.htl_question.specs.declared.question.Question.TheVariants.{Summary, Outstanding, Diff, Tags, Bad, Leaks, Sites}
+use Rattle.htl_question.specs.declared.question.Question.TheVariants.{Stacks, Trace, Growth}
+use Rattle.htl_event.specs.declared.since.Since.TheVariants.{Snapshot}
 
 -- the text that was given for an option
 abbrev pub given : CommandOption → List Row → Option Text
@@ -60,6 +61,7 @@ question_of name.Bad rows = option_map (λ p. Bad p) (value process_in Process r
 question_of name.Leaks rows =
     option_and_then (λ p. both (λ s n. Leaks p s n) (optional since_in Since rows) (defaulted count_in AtLeast 1 rows))
     (value process_in Process rows)
+question_of name.Sites rows = both (λ s n. Sites s n) (optional since_in Since rows) (defaulted count_in AtLeast 1 rows)
 question_of name.Stacks rows = both (λ o t. Stacks o t) (value object_in Object rows) (value tag_in Tag rows)
 question_of name.Trace rows = both (λ p h. Trace p h) (value process_in Process rows) (value handle_in Handle rows)
 question_of name.Growth rows = both (λ p n. Growth p n) (value process_in Process rows) (defaulted points_in Points 20 rows)

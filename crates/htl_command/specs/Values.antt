@@ -7,8 +7,8 @@ use Rattle.std.specs.Int.{to_be_bytes, w32}
 use Rattle.std.specs.Str.{bytes_eq}
 use Rattle.htl_command.specs.declared.question.Moment.{Moment}
 use Rattle.htl_command.specs.declared.question.Moment.TheVariants as moment
-use Rattle.htl_question.specs.declared.question.Since.{Since}
-use Rattle.htl_question.specs.declared.question.Since.TheVariants as since
+use Rattle.htl_event.specs.declared.since.Since.{Since}
+use Rattle.htl_event.specs.declared.since.Since.TheVariants as since
 use Rattle.htl_numbers.specs.Numbers.{decimal_number, hexadecimal_number}
 
 -- a process: decimal, at most 4294967295

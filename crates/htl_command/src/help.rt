@@ -130,6 +130,8 @@ impl QuestionName {
             QuestionName::Tags => "References and dereferences of an object, by tag (!obtrace)",
             QuestionName::Bad => "References to invalid handles, by handle and stack (BAD REF)",
             QuestionName::Leaks => "Stacks by how many of their handles are still open, most first",
+            QuestionName::Sites =>
+                "Stacks by how many of their handles are open, over all processes",
             QuestionName::Stacks => "Stacks behind one tag of an object (!obtrace)",
             QuestionName::Trace =>
                 "Each open, close and bad reference of a handle (!htrace HANDLE)",
@@ -158,6 +160,8 @@ Example:
                 "Example:\n  hleak bad --process 4 --symbols names.csv cpu0.hls cpu1.hls",
             QuestionName::Leaks =>
                 "Example:\n  hleak leaks --process 4 --workers 4 cpu0.hls cpu1.hls",
+            QuestionName::Sites =>
+                "Example:\n  hleak sites --since snapshot --symbols names.csv cpu0.hls cpu1.hls",
             QuestionName::Stacks =>
                 "Example:\n  hleak stacks --object 0xffffa00000001000 --tag Lky8 cpu0.hls cpu1.hls",
             QuestionName::Trace =>
@@ -192,8 +196,8 @@ impl CommandOption {
                 "\
 Only handles opened after this sequence: decimal, at
 most 18446744073709551615, or 'snapshot' for that of the
-process's last snapshot
-[default: snapshot for diff, none for leaks]"
+last snapshot of their process
+[default: snapshot for diff, none for leaks and sites]"
             }
             CommandOption::AtLeast => {
                 "\

@@ -28,6 +28,7 @@ pub(crate) enum QuestionName {
     Tags,
     Bad,
     Leaks,
+    Sites,
     Stacks,
     Trace,
     Growth,
@@ -63,13 +64,14 @@ pub(crate) enum CommandFlag {
 }
 
 /// All commands, as help lists them.
-pub(crate) const COMMANDS: [CommandName; 13] = [
+pub(crate) const COMMANDS: [CommandName; 14] = [
     CommandName::Question(QuestionName::Summary),
     CommandName::Question(QuestionName::Outstanding),
     CommandName::Question(QuestionName::Diff),
     CommandName::Question(QuestionName::Tags),
     CommandName::Question(QuestionName::Bad),
     CommandName::Question(QuestionName::Leaks),
+    CommandName::Question(QuestionName::Sites),
     CommandName::Question(QuestionName::Stacks),
     CommandName::Question(QuestionName::Trace),
     CommandName::Question(QuestionName::Growth),
@@ -118,6 +120,7 @@ impl QuestionName {
             QuestionName::Tags => "tags",
             QuestionName::Bad => "bad",
             QuestionName::Leaks => "leaks",
+            QuestionName::Sites => "sites",
             QuestionName::Stacks => "stacks",
             QuestionName::Trace => "trace",
             QuestionName::Growth => "growth",
@@ -146,6 +149,11 @@ impl QuestionName {
                 CommandOption::AtLeast,
                 CommandOption::Top,
             ],
+            QuestionName::Sites => &[
+                CommandOption::Since,
+                CommandOption::AtLeast,
+                CommandOption::Top,
+            ],
             QuestionName::Stacks => &[
                 CommandOption::Object,
                 CommandOption::Tag,
@@ -170,7 +178,10 @@ impl QuestionName {
             | QuestionName::Diff
             | QuestionName::Tags
             | QuestionName::Bad => &[CommandFlag::ExitCode],
-            QuestionName::Leaks => &[CommandFlag::ExitCode, CommandFlag::Folded],
+            QuestionName::Leaks | QuestionName::Sites => &[
+                CommandFlag::ExitCode,
+                CommandFlag::Folded,
+            ],
             QuestionName::Stacks | QuestionName::Trace | QuestionName::Growth => &[],
         }
     }

@@ -38,8 +38,8 @@ pub enum Format {
     Plain,
     /// A JSON object a line.
     Json,
-    /// Folded stacks, for flame graph programs. Only an answer to `Leaks` has them; every other one
-    /// is printed in plain lines.
+    /// Folded stacks, for flame graph programs. Only an answer to `Leaks` or to `Sites` has them;
+    /// every other one is printed in plain lines.
     Folded,
 }
 

@@ -114,6 +114,10 @@ fn question<'a>(name: QuestionName, entries: &ArgMatches<'a>) -> Result<Question
             since: options::since(entries)?,
             at_least: options::at_least(entries)?,
         },
+        QuestionName::Sites => Question::Sites {
+            since: options::since(entries)?,
+            at_least: options::at_least(entries)?,
+        },
         QuestionName::Stacks => Question::Stacks {
             object: options::object(entries)?,
             tag: options::tag(entries)?,

@@ -12,6 +12,7 @@ use Rattle.hex.proofs.HexLemmas.{decode_of-encode_lower}
 use Rattle.htl_lemmas.proofs.Padding.{after_zeros}
 use Rattle.htl_event.specs.Events.{Event}
 use Rattle.htl_event.specs.Ranges.{InRange}
+use Rattle.htl_event.specs.Sites.{Site}
 use Rattle.htl_event.specs.Slots.{base_of}
 use Rattle.htl_event.specs.Words.{word_of}
 use Rattle.htl_event.specs.declared.growth.Point.{Point}
@@ -25,11 +26,11 @@ use Rattle.htl_symbols.specs.Ranges.{Range}
 use Rattle.htl_taken.specs.declared.gap.Gap.{Gap}
 use Rattle.htl_taken.specs.declared.gap.Gap.TheVariants.{Between, Absent}
 use Rattle.htl_json.specs.Frames.{address_fields, frame, stack_fields}
-use Rattle.htl_json.specs.Laws.{AreAddresses, IsCount, IsGap, IsNumber, IsObjectRow, IsPoint, IsProcessRow, IsTag}
+use Rattle.htl_json.specs.Laws.{AreAddresses, IsCount, IsGap, IsNumber, IsObjectRow, IsPoint, IsProcessRow, IsSiteRow, IsTag}
 use Rattle.htl_json.specs.Records.{count_fields, quantity, shown_address, shown_handle, tag_fields}
 use Rattle.htl_json.specs.Rows.{absent_fields, bad_fields, bad_reference, balance_fields, between_fields, counted_stack, event_fields}
 use Rattle.htl_json.specs.Rows.{handles_field, handles_fields, leak, listed, missing, moments_fields, opened, point_fields, point_row}
-use Rattle.htl_json.specs.Rows.{process_row, tag_balance, unbalanced_fields, unbalanced_object}
+use Rattle.htl_json.specs.Rows.{process_row, site_fields, site_row, tag_balance, unbalanced_fields, unbalanced_object}
 
 -- ---- parts of a value
 
@@ -178,6 +179,15 @@ module _ (symbols : List Range) where
     one_stack stack frames s f (ap (value_at 1) same),
     one_number handles other h o (ap (value_at 0) same),
   )
+
+  -- where two sites have one value, they are equal
+  pub one_site : (a b : Site) → IsSiteRow a → IsSiteRow b → site_row symbols a ≡ site_row symbols b → a ≡ b
+  unfolding site_fields stack_fields
+  one_site a b fit also same =
+      let stack = one_stack a.stack b.stack fit.0 also.0 (ap (value_at 2) same) in
+      let handles = one_number a.handles b.handles fit.1 also.1 (ap (value_at 0) same) in
+      let processes = one_number a.processes b.processes fit.2 also.2 (ap (value_at 1) same) in
+      λ t. record { stack = stack t; handles = handles t; processes = processes t }
 
   -- where two rows of reference stacks have one value, they are equal
   pub one_counted : (stack frames : List ℕ) (count other : Count) → AreAddresses stack → AreAddresses frames → IsCount count → IsCount other

@@ -1,8 +1,8 @@
 -- The value of an answer's first line, with the fields of the text's first line.
-use Rattle.std.specs.Prelude.{◌++◌, ◌∷◌, [], ℕ, List, Option, Some, None, codes}
+use Rattle.std.specs.Prelude.{◌++◌, ◌∷◌, [], ℕ, List, Option, Some, None, codes, if◌then◌else◌}
 use Rattle.htl_event.specs.Slots.{base_of}
 use Rattle.json.specs.Json.{Json, string}
-use Rattle.htl_question.specs.Questions.{subject_of}
+use Rattle.htl_question.specs.Questions.{is_since_snapshots, subject_of}
 use Rattle.htl_question.specs.Words.{word_of}
 use Rattle.htl_question.specs.declared.answer.Totals.{Totals}
 use Rattle.htl_question.specs.declared.question.Question.{Question}
@@ -33,12 +33,19 @@ subject_fields (Some (Tag object tag)) = object_field object ++ tag_fields tag
 subject_fields (Some (Handle process handle)) = process_field process ++ handle_field handle
 
 -- the sequence after which handles count, where it was asked since when
-unfoldable pub since_fields : Option ℕ → List Field
-since_fields None = []
-since_fields (Some since) = (codes "since", quantity since) ∷ []
+unfoldable pub sequence_fields : Option ℕ → List Field
+sequence_fields None = []
+sequence_fields (Some since) = (codes "since", quantity since) ∷ []
+
+unfoldable pub snapshots_fields : List Field
+snapshots_fields = (codes "since", string (codes "snapshot")) ∷ []
+
+-- or that handles count since the snapshot of their own process
+abbrev pub since_fields : Question → Option ℕ → List Field
+since_fields question since = if is_since_snapshots question then snapshots_fields else sequence_fields since
 
 abbrev pub question_fields : Question → Option ℕ → List Field
-question_fields question since = word_field question ++ (subject_fields (subject_of question) ++ since_fields since)
+question_fields question since = word_field question ++ (subject_fields (subject_of question) ++ since_fields question since)
 
 -- ---- the numbers
 

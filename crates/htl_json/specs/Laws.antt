@@ -3,6 +3,7 @@ use Rattle.std.specs.Prelude.{◌≡◌, ◌<◌, ◌^◌, ℕ, List}
 use Rattle.std.specs.List.{AllByRecursion}
 use Rattle.htl_event.specs.Events.{Event}
 use Rattle.htl_event.specs.Ranges.{InRange}
+use Rattle.htl_event.specs.Sites.{Site}
 use Rattle.htl_event.specs.Slots.{base_of}
 use Rattle.htl_event.specs.declared.growth.Point.{Point}
 use Rattle.htl_event.specs.declared.slot.Count.{Count}
@@ -11,8 +12,8 @@ use Rattle.htl_event.specs.declared.summary.ProcessRow.{ProcessRow}
 use Rattle.htl_symbols.specs.Ranges.{Range}
 use Rattle.htl_taken.specs.declared.gap.Gap.{Gap}
 use Rattle.htl_taken.specs.declared.gap.Gap.TheVariants.{Between, Absent}
-use Rattle.htl_json.specs.Rows.{bad_reference, counted_stack, leak, listed, missing, opened, point_row, process_row, tag_balance}
-use Rattle.htl_json.specs.Rows.{unbalanced_object}
+use Rattle.htl_json.specs.Rows.{bad_reference, counted_stack, leak, listed, missing, opened, point_row, process_row, site_row}
+use Rattle.htl_json.specs.Rows.{tag_balance, unbalanced_object}
 
 -- no type of a row has more than 64 bits
 abbrev pub IsNumber : ℕ → Type 0
@@ -35,6 +36,9 @@ IsPoint point = IsNumber point.sequence × IsNumber point.outstanding
 abbrev pub IsGap : Gap → Type 0
 IsGap (Between processor from to) = IsNumber processor × IsNumber from × IsNumber to
 IsGap (Absent processor) = IsNumber processor
+
+abbrev pub IsSiteRow : Site → Type 0
+IsSiteRow site = AreAddresses site.stack × IsNumber site.handles × IsNumber site.processes
 
 pub record IsProcessRow (row : ProcessRow) : Type 0 where
   pub process : IsNumber row.process
@@ -66,6 +70,7 @@ pub record IsOneRow (symbols : List Range) : Type 0 where
       → (handle ≡ other) × (stack ≡ frames) × (times ≡ often)
   pub leaks : (stack frames : List ℕ) (handles other : ℕ) → AreAddresses stack → AreAddresses frames → IsNumber handles → IsNumber other
       → leak symbols (stack, handles) ≡ leak symbols (frames, other) → (stack ≡ frames) × (handles ≡ other)
+  pub sites : (a b : Site) → IsSiteRow a → IsSiteRow b → site_row symbols a ≡ site_row symbols b → a ≡ b
   pub stacks : (stack frames : List ℕ) (count other : Count) → AreAddresses stack → AreAddresses frames → IsCount count → IsCount other
       → counted_stack symbols (stack, count) ≡ counted_stack symbols (frames, other) → (stack ≡ frames) × (count ≡ other)
   pub tags : (tag bytes : List ℕ) (count other : Count) → IsTag tag → IsTag bytes → IsCount count → IsCount other

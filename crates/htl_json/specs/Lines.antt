@@ -5,13 +5,13 @@ use Rattle.json.specs.Print.{print}
 use Rattle.json.specs.Tree.{json_tokens}
 use Rattle.htl_event.specs.declared.summary.ObjectRow.{ObjectRow}
 use Rattle.htl_event.specs.declared.summary.ProcessRow.{ProcessRow}
-use Rattle.htl_question.specs.Rows.{Found, Listed, opens, listing, tags, bad, leaks, stacks, points, summary}
+use Rattle.htl_question.specs.Rows.{Found, Listed, opens, listing, tags, bad, leaks, sites, stacks, points, summary}
 use Rattle.htl_question.specs.declared.answer.Totals.{Totals}
 use Rattle.htl_taken.specs.declared.gap.Gap.{Gap}
 use Rattle.htl_symbols.specs.Ranges.{Range}
 use Rattle.htl_json.specs.Heads.{head, summary_head}
-use Rattle.htl_json.specs.Rows.{bad_reference, counted_stack, leak, listed, missing, opened, point_row, process_row, tag_balance}
-use Rattle.htl_json.specs.Rows.{unbalanced_object}
+use Rattle.htl_json.specs.Rows.{bad_reference, counted_stack, leak, listed, missing, opened, point_row, process_row, site_row}
+use Rattle.htl_json.specs.Rows.{tag_balance, unbalanced_object}
 use Rattle.htl_report.specs.Addresses.{line_feed}
 use Rattle.htl_report.specs.Rows.{first_rows}
 
@@ -44,6 +44,7 @@ values_with symbols until top answer (listing rows) = list_values (listed symbol
 values_with symbols until top answer (tags rows) = list_values tag_balance answer until top rows
 values_with symbols until top answer (bad rows) = list_values (bad_reference symbols) answer until top rows
 values_with symbols until top answer (leaks rows) = list_values (leak symbols) answer until top rows
+values_with symbols until top answer (sites rows) = list_values (site_row symbols) answer until top rows
 values_with symbols until top answer (stacks rows) = list_values (counted_stack symbols) answer until top rows
 values_with symbols until top answer (points rows) = list_values point_row answer until top rows
 values_with symbols until top answer (summary totals gaps processes objects) =

@@ -1,6 +1,7 @@
 -- The value of a row of each answer.
 use Rattle.std.specs.Prelude.{◌++◌, ◌-◌, ◌∷◌, [], ℕ, List, codes}
 use Rattle.htl_event.specs.Events.{Event}
+use Rattle.htl_event.specs.Sites.{Site}
 use Rattle.htl_event.specs.Slots.{base_of}
 use Rattle.htl_event.specs.declared.growth.Point.{Point}
 use Rattle.htl_event.specs.declared.slot.Count.{Count}
@@ -46,6 +47,13 @@ handles_field handles = (codes "handles", quantity handles) ∷ []
 
 abbrev pub leak : List Range → List ℕ × ℕ → Json
 leak symbols row = record_of (handles_field row.1 ++ stack_fields symbols row.0)
+
+-- how many handles, and of how many processes they are
+unfoldable pub site_fields : ℕ → ℕ → List Field
+site_fields handles processes = (codes "handles", quantity handles) ∷ (codes "processes", quantity processes) ∷ []
+
+abbrev pub site_row : List Range → Site → Json
+site_row symbols site = record_of (site_fields site.handles site.processes ++ stack_fields symbols site.stack)
 
 abbrev pub counted_stack : List Range → List ℕ × Count → Json
 counted_stack symbols row = record_of (count_fields row.1.plus row.1.minus ++ stack_fields symbols row.0)

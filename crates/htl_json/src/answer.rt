@@ -5,7 +5,7 @@ ghost use Rattle.htl_json.specs.Lines.{IsReadBack, json_line, summary_values, va
 ghost use Rattle.htl_json.specs.Writing.{AddsLines};
 
 use crate::bad::write_bad;
-use crate::counts::{write_leaks, write_stacks, write_tags};
+use crate::counts::{write_leaks, write_sites, write_stacks, write_tags};
 use crate::events::{write_listing, write_opens};
 use crate::growths::write_points;
 use crate::heads::{write_head, write_summary_head};
@@ -69,6 +69,10 @@ fn write_answer(
         Rows::Leaks(rows) => {
             write_head(lines, answer, until, rows.len())?;
             write_leaks(lines, symbols, first_rows(top, rows))
+        }
+        Rows::Sites(rows) => {
+            write_head(lines, answer, until, rows.len())?;
+            write_sites(lines, symbols, first_rows(top, rows))
         }
         Rows::Stacks(rows) => {
             write_head(lines, answer, until, rows.len())?;

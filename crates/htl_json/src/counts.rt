@@ -1,13 +1,13 @@
-//! Rows that are counts: leaking stacks, stacks behind a tag, and tags.
+//! Rows that are counts: leaking stacks, of a process or of all, stacks behind a tag, and tags.
 
 ghost use Rattle.std.specs.Prelude.{◌≡◌, [], OnOk};
 ghost use Rattle.htl_json.specs.Rows.{balance_fields, counted_stack, handles_field, leak};
-ghost use Rattle.htl_json.specs.Rows.{tag_balance};
+ghost use Rattle.htl_json.specs.Rows.{site_fields, site_row, tag_balance};
 ghost use Rattle.htl_json.specs.Writing.{AddsFields, AddsLine, AddsLines};
 
 use crate::frames::write_stack;
 use crate::lines::Lines;
-use htl_event::{Count, SharedStack};
+use htl_event::{Count, SharedStack, Site};
 use htl_symbols::Symbols;
 use std::alloc::AllocError;
 
@@ -47,6 +47,44 @@ fn write_handles(lines: &mut Lines, handles: u64) -> Result<(), AllocError>
     ensures { OnOk result (AddsFields lines.old lines.new (handles_field handles)) }
 {
     lines.number("handles", handles)
+}
+
+pub(crate) fn write_sites(
+    lines: &mut Lines,
+    symbols: &Symbols,
+    rows: &[Site<SharedStack>],
+) -> Result<(), AllocError>
+    requires { lines.old.writer.tokens ≡ [] }
+    ensures { OnOk result
+        (AddsLines (site_row symbols.now) lines.old lines.new rows.now) }
+{
+    for site in rows {
+        write_site(lines, symbols, site)?;
+    }
+    Ok(())
+}
+
+fn write_site(
+    lines: &mut Lines,
+    symbols: &Symbols,
+    site: &Site<SharedStack>,
+) -> Result<(), AllocError>
+    requires { lines.old.writer.tokens ≡ [] }
+    ensures { OnOk result
+        (AddsLine lines.old lines.new (site_row symbols.now site.now)) }
+{
+    lines.begin_object()?;
+    write_numbers(lines, site.handles, site.processes)?;
+    write_stack(lines, symbols, &site.stack)?;
+    lines.end_line()
+}
+
+#[tactic(auto, unfolding(crate::specs::Rows::site_fields))]
+fn write_numbers(lines: &mut Lines, handles: u64, processes: u64) -> Result<(), AllocError>
+    ensures { OnOk result (AddsFields lines.old lines.new (site_fields handles processes)) }
+{
+    lines.number("handles", handles)?;
+    lines.number("processes", processes)
 }
 
 /// Writes the stacks of an object's references and dereferences under a tag.

@@ -3,8 +3,9 @@
 ghost use Rattle.std.specs.Prelude.{◌≡◌, ◌++◌, [], OnOk};
 ghost use Rattle.htl_json.specs.Heads.{count_field, handle_field, head, lines_fields};
 ghost use Rattle.htl_json.specs.Heads.{object_field, process_field, question_fields};
-ghost use Rattle.htl_json.specs.Heads.{since_fields, subject_fields, summary_head};
-ghost use Rattle.htl_json.specs.Heads.{totals_fields, until_fields, word_field};
+ghost use Rattle.htl_json.specs.Heads.{sequence_fields, since_fields, snapshots_fields};
+ghost use Rattle.htl_json.specs.Heads.{subject_fields, summary_head, totals_fields, until_fields};
+ghost use Rattle.htl_json.specs.Heads.{word_field};
 ghost use Rattle.htl_json.specs.Records.{tag_fields};
 ghost use Rattle.htl_json.specs.Writing.{AddsFields, AddsLine};
 
@@ -53,8 +54,8 @@ pub(crate) fn write_summary_head(
     lines.end_line()
 }
 
-/// Writes what was asked: the word of the question, what it is about, and the sequence after which
-/// handles count, where there is one.
+/// Writes what was asked: the word of the question, what it is about, and since when handles count,
+/// where it says that.
 fn write_question(
     lines: &mut Lines,
     question: Question,
@@ -64,7 +65,7 @@ fn write_question(
 {
     write_word(lines, question)?;
     write_subject(lines, question.subject())?;
-    write_since(lines, since)
+    write_since(lines, question, since)
 }
 
 #[tactic(auto, unfolding(crate::specs::Heads::word_field))]
@@ -131,10 +132,27 @@ fn write_count(lines: &mut Lines, count: usize) -> Result<(), AllocError>
     lines.number("count", count as u64)
 }
 
+fn write_since(lines: &mut Lines, question: Question, since: Option<u64>) -> Result<(), AllocError>
+    ensures { OnOk result (AddsFields lines.old lines.new (since_fields question since)) }
+{
+    if question.is_since_snapshots() {
+        write_snapshots(lines)
+    } else {
+        write_sequence(lines, since)
+    }
+}
+
+#[tactic(auto, unfolding(crate::specs::Heads::snapshots_fields))]
+fn write_snapshots(lines: &mut Lines) -> Result<(), AllocError>
+    ensures { OnOk result (AddsFields lines.old lines.new snapshots_fields) }
+{
+    lines.text("since", "snapshot")
+}
+
 /// Writes the sequence after which handles count, where there is one.
-#[tactic(auto, unfolding(crate::specs::Heads::since_fields))]
-fn write_since(lines: &mut Lines, since: Option<u64>) -> Result<(), AllocError>
-    ensures { OnOk result (AddsFields lines.old lines.new (since_fields since)) }
+#[tactic(auto, unfolding(crate::specs::Heads::sequence_fields))]
+fn write_sequence(lines: &mut Lines, since: Option<u64>) -> Result<(), AllocError>
+    ensures { OnOk result (AddsFields lines.old lines.new (sequence_fields since)) }
 {
     match since {
         Some(since) => lines.number("since", since),

@@ -4,18 +4,18 @@ use Rattle.std.proofs.lemmas.List.Sorted.{IsPermutation-refl}
 use Rattle.htl_event.specs.Events.{Event}
 use Rattle.htl_event.specs.Laws.{HandlesAreDetermined, CountsAreDetermined}
 use Rattle.htl_event.specs.Summaries.{SummariesAreDetermined}
+use Rattle.htl_event.specs.declared.since.Since.{Since}
+use Rattle.htl_event.specs.declared.since.Since.TheVariants.{Snapshot, Sequence}
 use Rattle.htl_event.proofs.Determined.{handles_are_determined}
 use Rattle.htl_event.proofs.Counts.{counts_are_determined}
 use Rattle.htl_event.proofs.Summarized.{summaries_are_determined}
 use Rattle.htl_question.specs.Answers.{Are, AreRows, IsAnswerOver, IsSince, IsSinceIfGiven, after, process_of}
 use Rattle.htl_question.specs.Bases.{Basis}
 use Rattle.htl_question.specs.Questions.{asks_since}
-use Rattle.htl_question.specs.Rows.{Found, Listed, opens, listing, tags, bad, leaks, stacks, points, summary}
+use Rattle.htl_question.specs.Rows.{Found, Listed, opens, listing, tags, bad, leaks, sites, stacks, points, summary}
 use Rattle.htl_question.specs.declared.answer.Totals.{Totals}
 use Rattle.htl_question.specs.declared.question.Question.{Question}
 use Rattle.htl_question.specs.declared.question.Question.TheVariants as questions
-use Rattle.htl_question.specs.declared.question.Since.{Since}
-use Rattle.htl_question.specs.declared.question.Since.TheVariants.{Snapshot, Sequence}
 
 handles : (es : List Event) → HandlesAreDetermined es es
 handles es = handles_are_determined es es (λ e. ((λ h. h), (λ h. h)))
@@ -61,6 +61,7 @@ one_rows B (questions.Diff process from) since a b p q = same_list opens _ ((han
 one_rows B (questions.Tags object) since a b p q = same_list tags _ ((counts B.events).tags object) a b p q
 one_rows B (questions.Bad process) since a b p q = same_list bad _ ((counts B.events).bad process) a b p q
 one_rows B (questions.Leaks process from least) since a b p q = same_list leaks _ ((handles B.events).leaks process since least) a b p q
+one_rows B (questions.Sites from least) since a b p q = same_list sites _ ((handles B.events).sites from least) a b p q
 one_rows B (questions.Stacks object tag) since a b p q = same_list stacks _ ((counts B.events).stacks object tag) a b p q
 one_rows B (questions.Trace process handle) since a b p q = same_list listing _ ((handles B.events).listing process handle) a b p q
 one_rows B (questions.Growth process count) since a b p q = same_list points _ ((handles B.events).growth process B.span count) a b p q

@@ -2,6 +2,7 @@
 use Rattle.std.specs.Prelude.{ℕ, Bool, true, false, ◌&&◌, ◌||◌, ◌==◌, not, List, length, Option, Some, None}
 use Rattle.std.specs.List.{list_any}
 use Rattle.htl_event.specs.Events.{Event}
+use Rattle.htl_event.specs.Sites.{Site}
 use Rattle.htl_event.specs.declared.growth.Point.{Point}
 use Rattle.htl_event.specs.declared.slot.Count.{Count}
 use Rattle.htl_event.specs.declared.summary.ObjectRow.{ObjectRow}
@@ -11,9 +12,7 @@ use Rattle.htl_question.specs.declared.answer.Rows.{Rows}
 use Rattle.htl_question.specs.declared.answer.Rows.TheVariants as rows
 use Rattle.htl_question.specs.declared.answer.Totals.{Totals}
 use Rattle.htl_question.specs.declared.question.Question.{Question}
-use Rattle.htl_question.specs.declared.question.Since.{Since}
-use Rattle.htl_question.specs.declared.question.Since.TheVariants.{Snapshot}
-use Rattle.htl_question.specs.Questions.{asks_since}
+use Rattle.htl_question.specs.Questions.{asks_since, is_snapshot}
 
 -- the rows of an answer
 pub data Listed : Type 0 where
@@ -22,6 +21,7 @@ pub data Listed : Type 0 where
   tags : List (List ℕ × Count) → Listed
   bad : List (ℕ × List ℕ × ℕ) → Listed
   leaks : List (List ℕ × ℕ) → Listed
+  sites : List Site → Listed
   stacks : List (List ℕ × Count) → Listed
   points : List Point → Listed
   summary : Totals → List Gap → List ProcessRow → List ObjectRow → Listed
@@ -32,11 +32,12 @@ listed (rows.Listing xs) = listing xs.items
 listed (rows.Tags xs) = tags xs.items
 listed (rows.Bad xs) = bad xs.items
 listed (rows.Leaks xs) = leaks xs.items
+listed (rows.Sites xs) = sites xs.items
 listed (rows.Stacks xs) = stacks xs.items
 listed (rows.Points xs) = points xs.items
 listed (rows.Summary totals gaps processes objects) = summary totals gaps.items processes.items objects.items
 
--- an answer: what was asked, after which sequence handles count, and the rows
+-- an answer: what was asked, after which sequence handles count, where there is one, and the rows
 pub record Found : Type 0 where
   pub question : Question
   pub since : Option ℕ
@@ -56,14 +57,11 @@ has_finding (listing xs) = has_rows xs
 has_finding (tags xs) = list_any (λ row. not (row.1.plus == row.1.minus)) xs
 has_finding (bad xs) = has_rows xs
 has_finding (leaks xs) = has_rows xs
+has_finding (sites xs) = has_rows xs
 has_finding (stacks xs) = has_rows xs
 has_finding (points xs) = has_rows xs
 has_finding (summary totals gaps processes objects) =
     list_any (λ row. not (row.outstanding == 0) || not (row.bad == 0)) processes || has_rows objects
-
-abbrev pub is_snapshot : Option Since → Bool
-is_snapshot (Some Snapshot) = true
-is_snapshot since = false
 
 abbrev pub is_0 : Option ℕ → Bool
 is_0 None = false

@@ -1,7 +1,8 @@
 -- The word of each question (this project's own).
 use Rattle.std.specs.Prelude.{ℕ, List, codes}
 use Rattle.htl_question.specs.declared.question.Question.{Question}
-use Rattle.htl_question.specs.declared.question.Question.TheVariants.{Summary, Outstanding, Diff, Tags, Bad, Leaks, Stacks, Trace, Growth}
+use Rattle.htl_question.specs.declared.question.Question.TheVariants.{Summary, Outstanding, Diff, Tags, Bad, Leaks, Sites}
+use Rattle.htl_question.specs.declared.question.Question.TheVariants.{Stacks, Trace, Growth}
 
 -- the word that names the question in a command, and in the first line of its answer
 abbrev pub word_of : Question → List ℕ
@@ -11,6 +12,7 @@ word_of (Diff process since) = codes "diff"
 word_of (Tags object) = codes "tags"
 word_of (Bad process) = codes "bad"
 word_of (Leaks process since at_least) = codes "leaks"
+word_of (Sites since at_least) = codes "sites"
 word_of (Stacks object tag) = codes "stacks"
 word_of (Trace process handle) = codes "trace"
 word_of (Growth process points) = codes "growth"

@@ -1,7 +1,7 @@
 //! Answers.
 
-use crate::question::{Question, Since};
-use htl_event::{Count, ObjectRow, Point, ProcessRow, SharedEvent, SharedStack};
+use crate::question::Question;
+use htl_event::{Count, ObjectRow, Point, ProcessRow, SharedEvent, SharedStack, Since, Site};
 use htl_taken::Gap;
 use std::marker::Model;
 
@@ -9,7 +9,7 @@ use std::marker::Model;
 #[derive(Debug, Drop)]
 pub struct Answer {
     pub question: Question,
-    /// The sequence after which handles count, where it was asked since when.
+    /// The sequence after which handles count, where it was asked since when and there is one.
     pub since: Option<u64>,
     pub rows: Rows,
 }
@@ -35,6 +35,8 @@ pub enum Rows {
     Bad(Vec<(u32, SharedStack, u64)>),
     /// Stacks, each with how many handles it opened.
     Leaks(Vec<(SharedStack, u64)>),
+    /// Stacks, each with how many handles it opened, and of how many processes.
+    Sites(Vec<Site<SharedStack>>),
     /// Stacks, each with its references and dereferences.
     Stacks(Vec<(SharedStack, Count)>),
     /// How many handles were open as of moments.
@@ -93,6 +95,7 @@ fn has_finding(rows: &Rows) -> bool
         Rows::Tags(rows) => has_unbalanced(rows),
         Rows::Bad(rows) => !rows.is_empty(),
         Rows::Leaks(rows) => !rows.is_empty(),
+        Rows::Sites(rows) => !rows.is_empty(),
         Rows::Stacks(rows) => !rows.is_empty(),
         Rows::Points(rows) => !rows.is_empty(),
         Rows::Summary {

@@ -14,5 +14,6 @@ mod question;
 mod subject;
 
 pub use answer::{Answer, Rows, Totals};
-pub use question::{Question, Since};
+pub use htl_event::Since;
+pub use question::Question;
 pub use subject::Subject;

@@ -1,7 +1,7 @@
 //! What can be asked of a trace.
 
 use crate::subject::Subject;
-use htl_event::Interest;
+use htl_event::{Interest, Since};
 
 /// A question about the events of a trace.
 #[derive(Clone, Copy, Debug, PartialEq, Eq)]
@@ -34,6 +34,13 @@ pub enum Question {
         since: Option<Since>,
         at_least: u32,
     },
+    /// The stacks that opened handles of any process which are still open: each that opened at least
+    /// `at_least` of them, 1 or more. Where there is a `since`, only handles that were opened since
+    /// then count; since the snapshot is for each process since its own.
+    Sites {
+        since: Option<Since>,
+        at_least: u32,
+    },
     /// The stacks behind a tag of an object. The tag's bytes are in the order in which they are
     /// shown.
     Stacks {
@@ -52,19 +59,11 @@ pub enum Question {
     },
 }
 
-/// Since when handles count: those that were opened later.
-#[derive(Clone, Copy, Debug, PartialEq, Eq)]
-pub enum Since {
-    /// The last snapshot of the process. Without one every handle counts.
-    Snapshot,
-    /// This sequence.
-    Sequence(u64),
-}
-
 impl Question {
     ghost use Rattle.std.specs.Prelude.{◌≡◌};
-    ghost use Rattle.htl_question.specs.Questions.{asks_since, interest_of, is_of_events};
-    ghost use Rattle.htl_question.specs.Questions.{is_of_open_handles, subject_of, widest};
+    ghost use Rattle.htl_question.specs.Questions.{asks_since, interest_of, is_of_all_handles};
+    ghost use Rattle.htl_question.specs.Questions.{is_of_events, is_of_open_handles};
+    ghost use Rattle.htl_question.specs.Questions.{is_since_snapshots, subject_of, widest};
     ghost use Rattle.htl_question.specs.Words.{word_of};
 
     /// The word that names the question in a command, and in the first line of its answer.
@@ -78,18 +77,20 @@ impl Question {
             Question::Tags { .. } => "tags",
             Question::Bad { .. } => "bad",
             Question::Leaks { .. } => "leaks",
+            Question::Sites { .. } => "sites",
             Question::Stacks { .. } => "stacks",
             Question::Trace { .. } => "trace",
             Question::Growth { .. } => "growth",
         }
     }
 
-    /// What the question is about. A summary is about all events.
+    /// What the question is about. A summary is about all events, and sites about the open handles
+    /// of all processes.
     pub fn subject(self) -> Option<Subject>
         ensures { result ≡ subject_of self }
     {
         match self {
-            Question::Summary => None,
+            Question::Summary | Question::Sites { .. } => None,
             Question::Outstanding { process }
             | Question::Diff { process, .. }
             | Question::Bad { process }
@@ -101,7 +102,7 @@ impl Question {
         }
     }
 
-    /// Whether the answer follows from what tells of the open handles of the process.
+    /// Whether the answer follows from what tells of open handles, of the process or of all.
     fn is_of_open_handles(self) -> bool
         ensures { result ≡ is_of_open_handles self }
     {
@@ -110,8 +111,17 @@ impl Question {
             Question::Outstanding { .. }
                 | Question::Diff { .. }
                 | Question::Leaks { .. }
+                | Question::Sites { .. }
                 | Question::Growth { .. }
         )
+    }
+
+    /// Whether the question is about the open handles of all processes. So it is about something in
+    /// each trace.
+    pub fn is_of_all_handles(self) -> bool
+        ensures { result ≡ is_of_all_handles self }
+    {
+        matches!(self, Question::Sites { .. })
     }
 
     /// Whether the answer needs events one by one: it lists them, or counts at many moments.
@@ -121,13 +131,29 @@ impl Question {
         matches!(self, Question::Trace { .. } | Question::Growth { .. })
     }
 
-    /// Since when handles count, where the question says it.
+    /// Whether handles count since the last snapshot of their own process, so that there is no one
+    /// sequence after which they count.
+    pub fn is_since_snapshots(self) -> bool
+        ensures { result ≡ is_since_snapshots self }
+    {
+        matches!(
+            self,
+            Question::Sites {
+                since: Some(Since::Snapshot),
+                ..
+            }
+        )
+    }
+
+    /// Since when handles count, where the question says it, and there is one sequence after which
+    /// they do.
     pub fn since(self) -> Option<Since>
         ensures { result ≡ asks_since self }
     {
         match self {
             Question::Diff { since, .. } => Some(since),
             Question::Leaks { since, .. } => since,
+            Question::Sites { since, .. } if !self.is_since_snapshots() => since,
             _ => None,
         }
     }
@@ -143,11 +169,16 @@ impl Question {
         }
     }
 
-    /// All events of what the question is about.
+    /// All events of what the question is about, from which it can be answered too. Of all processes
+    /// these are only what tells of open handles.
     pub fn widest_interest(self) -> Interest
         ensures { result ≡ widest self }
     {
-        Subject::interest(self.subject())
+        match self.subject() {
+            Some(subject) => Subject::interest(Some(subject)),
+            None if self.is_of_all_handles() => Interest::AllHandles,
+            None => Interest::AllEvents,
+        }
     }
 }
 

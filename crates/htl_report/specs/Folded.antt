@@ -2,6 +2,7 @@
 use Rattle.std.specs.Prelude.{◌++◌, ◌∷◌, [], ◌==◌, ◌||◌, ℕ, List, Option, codes, flat_map, if◌then◌else◌, map, reverse}
 use Rattle.std.specs.Fmt.{decimal}
 use Rattle.std.specs.List.{join_by}
+use Rattle.htl_event.specs.Sites.{Site}
 use Rattle.htl_symbols.specs.Ranges.{Range, resolved}
 use Rattle.htl_report.specs.Addresses.{line_feed, named}
 use Rattle.htl_report.specs.Rows.{first_rows}
@@ -30,3 +31,10 @@ folded_line symbols row = folded_stack symbols row.0 ++ folded_count row.1
 -- the leaking stacks, with no first line
 abbrev pub folded_text : List Range → Option ℕ → List (List ℕ × ℕ) → List ℕ
 folded_text symbols top rows = flat_map (folded_line symbols) (first_rows top rows)
+
+-- the same of the handles of all processes
+abbrev pub folded_site : List Range → Site → List ℕ
+folded_site symbols site = folded_line symbols (site.stack, site.handles)
+
+abbrev pub folded_sites : List Range → Option ℕ → List Site → List ℕ
+folded_sites symbols top rows = flat_map (folded_site symbols) (first_rows top rows)

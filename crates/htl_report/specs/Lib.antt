@@ -8,6 +8,7 @@ pub mod Listings
 pub mod Growths
 pub mod BadReferences
 pub mod Leaks
+pub mod Sites
 pub mod Folded
 pub mod TagBalances
 pub mod ReferenceStacks

@@ -1,7 +1,7 @@
 -- The printed text of an answer, as bytes: a first line, and for each row a line and its stack's lines. If `top` is given, only the
 -- first `top` rows are printed. If a moment is given up to which events count, the first line says it.
 use Rattle.std.specs.Prelude.{◌++◌, ℕ, List, Option, flat_map, length}
-use Rattle.htl_question.specs.Rows.{Found, Listed, opens, listing, tags, bad, leaks, stacks, points, summary}
+use Rattle.htl_question.specs.Rows.{Found, Listed, opens, listing, tags, bad, leaks, sites, stacks, points, summary}
 use Rattle.htl_symbols.specs.Ranges.{Range}
 use Rattle.htl_report.specs.BadReferences.{bad_lines}
 use Rattle.htl_report.specs.Growths.{point_line}
@@ -12,6 +12,7 @@ use Rattle.htl_report.specs.Opens.{open_lines}
 use Rattle.htl_report.specs.Parts.{count_part}
 use Rattle.htl_report.specs.ReferenceStacks.{stacks_lines}
 use Rattle.htl_report.specs.Rows.{first_rows}
+use Rattle.htl_report.specs.Sites.{site_lines}
 use Rattle.htl_report.specs.Summaries.{summary_text}
 use Rattle.htl_report.specs.TagBalances.{tag_row}
 
@@ -25,6 +26,7 @@ rows_text symbols until top (listing rows) = list_text (listed_lines symbols) un
 rows_text symbols until top (tags rows) = list_text tag_row until top rows
 rows_text symbols until top (bad rows) = list_text (bad_lines symbols) until top rows
 rows_text symbols until top (leaks rows) = list_text (leak_lines symbols) until top rows
+rows_text symbols until top (sites rows) = list_text (site_lines symbols) until top rows
 rows_text symbols until top (stacks rows) = list_text (stacks_lines symbols) until top rows
 rows_text symbols until top (points rows) = list_text point_line until top rows
 rows_text symbols until top (summary totals gaps processes objects) = summary_text until top totals gaps processes objects

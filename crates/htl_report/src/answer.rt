@@ -12,6 +12,7 @@ use crate::listing::write_listing;
 use crate::opens::write_opens;
 use crate::parts::write_count;
 use crate::rows::first_rows;
+use crate::sites::write_sites;
 use crate::stacks::write_stacks;
 use crate::summary::write_summary;
 use crate::tags::write_tags;
@@ -74,6 +75,10 @@ fn write_rows(
         Rows::Leaks(rows) => {
             write_count(out, until, rows.len())?;
             write_leaks(out, symbols, first_rows(top, rows))
+        }
+        Rows::Sites(rows) => {
+            write_count(out, until, rows.len())?;
+            write_sites(out, symbols, first_rows(top, rows))
         }
         Rows::Stacks(rows) => {
             write_count(out, until, rows.len())?;

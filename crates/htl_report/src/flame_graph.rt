@@ -2,11 +2,12 @@
 
 ghost use Rattle.std.specs.Prelude.{◌≡◌, ◌++◌, IfOk, OnOk, codes, flat_map, map, reverse};
 ghost use Rattle.htl_report.specs.Folded.{folded_byte, folded_count, folded_frame, folded_line};
+ghost use Rattle.htl_report.specs.Folded.{folded_site, folded_sites as folded_sites_of};
 ghost use Rattle.htl_report.specs.Folded.{folded_stack, folded_text};
 
 use crate::address::write_named;
 use crate::rows::first_rows;
-use htl_event::{NoMemory, SharedStack};
+use htl_event::{NoMemory, SharedStack, Site};
 use htl_symbols::Symbols;
 use std::alloc::{AllocError, Global};
 
@@ -30,6 +31,22 @@ pub fn folded(
     Ok(out)
 }
 
+/// The stacks of an answer `Sites` in the same form, each with the number of its handles in all
+/// processes.
+pub fn folded_sites(
+    alloc: Global,
+    rows: &[Site<SharedStack>],
+    symbols: &Symbols,
+    top: Option<u32>,
+) -> Result<Vec<u8>, NoMemory>
+    ensures { IfOk result (λ bytes. bytes.items ≡ folded_sites_of symbols.now top rows.now) }
+{
+    let mut out = Vec::new(alloc);
+    let mut scratch = String::new(alloc);
+    write_sites(&mut out, &mut scratch, symbols, first_rows(top, rows))?;
+    Ok(out)
+}
+
 fn write_rows(
     out: &mut Vec<u8>,
     scratch: &mut String,
@@ -42,6 +59,22 @@ fn write_rows(
     for (stack, handles) in rows {
         write_stack(out, scratch, symbols, stack.frames())?;
         write_count(out, scratch, *handles)?;
+    }
+    Ok(())
+}
+
+fn write_sites(
+    out: &mut Vec<u8>,
+    scratch: &mut String,
+    symbols: &Symbols,
+    rows: &[Site<SharedStack>],
+) -> Result<(), AllocError>
+    ensures { OnOk result (out.new.items
+        ≡ out.old.items ++ flat_map (folded_site symbols.now) rows.now) }
+{
+    for site in rows {
+        write_stack(out, scratch, symbols, site.stack.frames())?;
+        write_count(out, scratch, site.handles)?;
     }
     Ok(())
 }

@@ -1,16 +1,16 @@
 //! The first line of an answer up to its numbers.
 
 ghost use Rattle.std.specs.Prelude.{◌≡◌, ◌++◌, OnOk, string_bytes};
-ghost use Rattle.htl_report.specs.Heads.{handle_part, head_part, process_part, since_part};
-ghost use Rattle.htl_report.specs.Heads.{subject_part, tag_part};
+ghost use Rattle.htl_report.specs.Heads.{handle_part, head_part, process_part, sequence_part};
+ghost use Rattle.htl_report.specs.Heads.{since_part, subject_part, tag_part};
 
 use crate::parts::{write_object, write_tag};
 use htl_event::base;
 use htl_question::{Question, Subject};
 use std::alloc::AllocError;
 
-/// Writes the word of the question, what it is about, and the sequence after which handles count,
-/// where there is one.
+/// Writes the word of the question, what it is about, and since when handles count, where the
+/// question says it.
 pub(crate) fn write_head(
     out: &mut String,
     question: Question,
@@ -21,7 +21,7 @@ pub(crate) fn write_head(
 {
     out.push_str(question.word())?;
     write_subject(out, question.subject())?;
-    write_since(out, since)
+    write_since(out, question, since)
 }
 
 fn write_subject(out: &mut String, subject: Option<Subject>) -> Result<(), AllocError>
@@ -68,10 +68,21 @@ fn write_handle(out: &mut String, handle: u32) -> Result<(), AllocError>
     write!(out, " handle=0x{base:x}")
 }
 
-#[tactic(auto, unfolding(crate::specs::Heads::since_part))]
-fn write_since(out: &mut String, since: Option<u64>) -> Result<(), AllocError>
+fn write_since(out: &mut String, question: Question, since: Option<u64>) -> Result<(), AllocError>
     ensures { OnOk result (string_bytes out.new
-        ≡ string_bytes out.old ++ since_part since) }
+        ≡ string_bytes out.old ++ since_part question since) }
+{
+    if question.is_since_snapshots() {
+        out.push_str(" since=snapshot")
+    } else {
+        write_sequence(out, since)
+    }
+}
+
+#[tactic(auto, unfolding(crate::specs::Heads::sequence_part))]
+fn write_sequence(out: &mut String, since: Option<u64>) -> Result<(), AllocError>
+    ensures { OnOk result (string_bytes out.new
+        ≡ string_bytes out.old ++ sequence_part since) }
 {
     match since {
         Some(since) => write!(out, " since={since}"),

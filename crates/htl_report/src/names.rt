@@ -5,7 +5,7 @@ ghost use Rattle.htl_report.specs.Names.{has_some, is_named, none_named, shown_a
 ghost use Rattle.std.specs.List.{list_any};
 
 use crate::rows::first_rows;
-use htl_event::{Count, SharedEvent, SharedStack};
+use htl_event::{Count, SharedEvent, SharedStack, Site};
 use htl_question::{Answer, Rows};
 use htl_symbols::Symbols;
 
@@ -44,6 +44,14 @@ impl Stacked for (SharedStack, u64) {
     }
 }
 
+impl Stacked for Site<SharedStack> {
+    ghost stack_of = { λ site. site.stack };
+
+    fn frames(&self) -> &[u64] {
+        self.stack.frames()
+    }
+}
+
 impl Stacked for (SharedStack, Count) {
     ghost stack_of = { λ row. row.0 };
 
@@ -62,6 +70,7 @@ pub fn shows_no_name(answer: &Answer, symbols: &Symbols, top: Option<u32>) -> bo
         Rows::Listing(rows) => have_no_name(first_rows(top, rows), symbols),
         Rows::Bad(rows) => have_no_name(first_rows(top, rows), symbols),
         Rows::Leaks(rows) => have_no_name(first_rows(top, rows), symbols),
+        Rows::Sites(rows) => have_no_name(first_rows(top, rows), symbols),
         Rows::Stacks(rows) => have_no_name(first_rows(top, rows), symbols),
         Rows::Tags(_) | Rows::Points(_) | Rows::Summary { .. } => false,
     }

@@ -2,7 +2,7 @@
 
 use allocation_trials::{Equal, Refusal, Spent, Trials, answered};
 use htl_analyst::Analyst;
-use htl_case::{AnalystAnswer, AnalystQuestion, Case, Step, answer_after, play};
+use htl_case::{AnalystAnswer, AnalystQuestion, Case, Step, answer_after, events_of_handle, play};
 use htl_event::SharedEvent;
 use htl_samples::{SMALL, SampleFault};
 use htl_segment::Segment;
@@ -75,7 +75,8 @@ pub fn case(alloc: Global) -> Result<Case, Refusal> {
 }
 
 fn trace(alloc: Global, case: &Case) -> Result<Equal<Vec<SharedEvent>>, Refusal> {
-    Equal::of(case.trace(alloc, 4, 8, None))
+    let lists = answered(case.until(alloc, None))?;
+    Equal::of(events_of_handle(alloc, &lists, 4, 8))
 }
 
 fn played(alloc: Global, case: &Case) -> Result<Vec<Analyst<Global>>, Refusal> {

@@ -22,6 +22,11 @@ const LEAKS: Question = Question::Leaks {
     at_least: 1,
 };
 
+const SITES: Question = Question::Sites {
+    since: None,
+    at_least: 1,
+};
+
 const GROWTH: Question = Question::Growth {
     process: 4,
     points: 20,
@@ -35,6 +40,7 @@ const TRACE: Question = Question::Trace {
 /// What is tried: a run that answers a question, by so many workers.
 const RUNS: &[(&str, Question, u32)] = &[
     ("run for leaks", LEAKS, 1),
+    ("run for sites", SITES, 1),
     ("run for a trace", TRACE, 1),
     ("run for a growth", GROWTH, 1),
     ("run for a summary by one worker", Question::Summary, 1),

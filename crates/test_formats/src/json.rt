@@ -1,8 +1,9 @@
-//! Lines of JSON that say a moment, and the rows of a growth.
+//! Lines of JSON that say a moment, the rows of a growth, and sites.
 use crate::rows::assert_row;
-use htl_event::Point;
+use htl_event::{Point, SharedStack, Site};
 use htl_json::json_lines;
 use htl_question::{Answer, Question, Rows, Since, Totals};
+use htl_samples::shared_stack;
 use htl_symbols::Symbols;
 use std::alloc::Global;
 use std::process::Abort;
@@ -33,6 +34,10 @@ fn leaks(alloc: Global, since: Option<u64>) -> Answer {
         since,
         rows: Rows::Leaks(Vec::new(alloc)),
     }
+}
+
+fn sites(since: Option<Since>, rows: Vec<Site<SharedStack>>) -> Answer {
+    answer_to(Question::Sites { since, at_least: 1 }, Rows::Sites(rows))
 }
 
 fn summary(alloc: Global) -> Answer {
@@ -72,6 +77,29 @@ fn lines_of_a_growth(rt: HostRuntime) {
 {"sequence":18446744073709551615,"outstanding":2}
 "#;
     assert_lines(&rt, rt.alloc(), &growth, None, wanted);
+}
+
+#[test]
+fn lines_of_sites(rt: HostRuntime) {
+    let alloc = rt.alloc();
+    let site = Site {
+        stack: shared_stack(alloc, &[0x60]).expect(&rt, "a stack"),
+        handles: 31,
+        processes: 7,
+    };
+    let rows = Vec::from_array(alloc, [site]).expect(&rt, "the memory");
+    let wanted = r#"{"answer":"sites","since":"snapshot","count":1}
+{"handles":31,"processes":7,"stack":[{"address":"0x0000000000000060"}]}
+"#;
+    assert_lines(
+        &rt,
+        alloc,
+        &sites(Some(Since::Snapshot), rows),
+        None,
+        wanted,
+    );
+    let wanted = "{\"answer\":\"sites\",\"count\":0}\n";
+    assert_lines(&rt, alloc, &sites(None, Vec::new(alloc)), None, wanted);
 }
 
 #[test]

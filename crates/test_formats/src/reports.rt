@@ -1,6 +1,6 @@
-//! The nine texts, what a moment changes in them, and how addresses print.
+//! The ten texts, what a moment changes in them, and how addresses print.
 use crate::rows::assert_row;
-use htl_event::{Count, ObjectRow, Point, ProcessRow, SharedEvent, SharedStack};
+use htl_event::{Count, ObjectRow, Point, ProcessRow, SharedEvent, SharedStack, Site};
 use htl_question::{Answer, Question, Rows, Since, Totals};
 use htl_report::text;
 use htl_samples::{shared_events, shared_stack};
@@ -146,6 +146,34 @@ fn leaks_since(rt: &impl Abort, alloc: Global) -> (Answer, &'static str) {
         "leaks process=4 since=3 count=1
 LEAK handles=2
   0x0000000000000060
+",
+    )
+}
+
+fn sites_of(since: Option<Since>, rows: Vec<Site<SharedStack>>) -> Answer {
+    answer_to(Question::Sites { since, at_least: 1 }, Rows::Sites(rows))
+}
+
+fn sites(rt: &impl Abort, alloc: Global) -> (Answer, &'static str) {
+    let rows = [
+        Site {
+            stack: stack(rt, alloc, &[0x60, 0x20]),
+            handles: 31,
+            processes: 7,
+        },
+        Site {
+            stack: stack(rt, alloc, &[]),
+            handles: 1,
+            processes: 1,
+        },
+    ];
+    (
+        sites_of(Some(Since::Snapshot), list(rt, alloc, rows)),
+        "sites since=snapshot count=2
+SITE handles=31 processes=7
+  0x0000000000000060
+  0x0000000000000020
+SITE handles=1 processes=1
 ",
     )
 }
@@ -309,6 +337,7 @@ fn texts_of_handles(rt: HostRuntime) {
     assert_text(&rt, rt.alloc(), diff(&rt, rt.alloc()));
     assert_text(&rt, rt.alloc(), leaks(&rt, rt.alloc()));
     assert_text(&rt, rt.alloc(), leaks_since(&rt, rt.alloc()));
+    assert_text(&rt, rt.alloc(), sites(&rt, rt.alloc()));
     assert_text(&rt, rt.alloc(), growth(&rt, rt.alloc()));
     assert_text(&rt, rt.alloc(), bad(&rt, rt.alloc()));
 }
@@ -341,6 +370,8 @@ fn moments_of_handles(rt: HostRuntime) {
     assert_moment(&rt, alloc, diff(&rt, alloc), wanted);
     let wanted = "leaks process=4 since=3 until=12 count=1\n";
     assert_moment(&rt, alloc, leaks_since(&rt, alloc), wanted);
+    let wanted = "sites since=snapshot until=12 count=2\n";
+    assert_moment(&rt, alloc, sites(&rt, alloc), wanted);
     let wanted = "growth process=4 until=12 count=3\n";
     assert_moment(&rt, alloc, growth(&rt, alloc), wanted);
     let wanted = "bad process=4 until=12 count=2\n";

@@ -67,6 +67,20 @@ const QUESTIONS: &[(&str, Question)] = &[
         },
     ),
     (
+        "sites",
+        Question::Sites {
+            since: None,
+            at_least: 1,
+        },
+    ),
+    (
+        "sites|--at-least|2|--since|snapshot",
+        Question::Sites {
+            since: Some(Since::Snapshot),
+            at_least: 2,
+        },
+    ),
+    (
         "diff|--process|4",
         Question::Diff {
             process: 4,
@@ -536,6 +550,7 @@ summary|--top|0|--until|x => 'x' for '--until <N>'
 leaks|--until|x|--at-least|0|--since|y|--process|z => 'z' for '--process <N>'
 leaks|--until|x|--at-least|0|--since|y|--process|4 => 'y' for '--since <N>'
 leaks|--until|x|--at-least|0|--process|4 => '0' for '--at-least <N>'
+sites|--at-least|0|--since|y => 'y' for '--since <N>'
 trace|--process|4|--handle|zz => 'zz' for '--handle <HEX>'
 trace|--process|4|--handle|0x => '0x' for '--handle <HEX>'
 trace|--process|4|--handle|0X44 => '0X44' for '--handle <HEX>'

@@ -19,6 +19,7 @@ Commands:
   tags         References and dereferences of an object, by tag (!obtrace)
   bad          References to invalid handles, by handle and stack (BAD REF)
   leaks        Stacks by how many of their handles are still open, most first
+  sites        Stacks by how many of their handles are open, over all processes
   stacks       Stacks behind one tag of an object (!obtrace)
   trace        Each open, close and bad reference of a handle (!htrace HANDLE)
   growth       How many handles are open as of each of many moments
@@ -146,8 +147,8 @@ Options:
       --process <N>     The process: decimal, at most 4294967295
       --since <N>       Only handles opened after this sequence: decimal, at
                         most 18446744073709551615, or 'snapshot' for that of the
-                        process's last snapshot
-                        [default: snapshot for diff, none for leaks]
+                        last snapshot of their process
+                        [default: snapshot for diff, none for leaks and sites]
       --top <N>         At most N rows: decimal, 1 to 4294967295
       --exit-code       End with status 1 where the answer finds something
       --until <N>       Only events up to this sequence count: decimal, at most
@@ -243,8 +244,8 @@ Options:
       --process <N>     The process: decimal, at most 4294967295
       --since <N>       Only handles opened after this sequence: decimal, at
                         most 18446744073709551615, or 'snapshot' for that of the
-                        process's last snapshot
-                        [default: snapshot for diff, none for leaks]
+                        last snapshot of their process
+                        [default: snapshot for diff, none for leaks and sites]
       --at-least <N>    Only stacks with at least N of the handles: decimal, 1
                         to 4294967295 [default: 1]
       --top <N>         At most N rows: decimal, 1 to 4294967295
@@ -467,6 +468,7 @@ Commands:
   tags         References and dereferences of an object, by tag (!obtrace)
   bad          References to invalid handles, by handle and stack (BAD REF)
   leaks        Stacks by how many of their handles are still open, most first
+  sites        Stacks by how many of their handles are open, over all processes
   stacks       Stacks behind one tag of an object (!obtrace)
   trace        Each open, close and bad reference of a handle (!htrace HANDLE)
   growth       How many handles are open as of each of many moments
@@ -502,8 +504,8 @@ Options:
       --process <N>   The process: decimal, at most 4294967295
       --since <N>     Only handles opened after this sequence: decimal, at
                       most 18446744073709551615, or 'snapshot' for that of the
-                      process's last snapshot
-                      [default: snapshot for diff, none for leaks]
+                      last snapshot of their process
+                      [default: snapshot for diff, none for leaks and sites]
       --at-least <N>  Only stacks with at least N of the handles: decimal, 1
                       to 4294967295 [default: 1]
       --top <N>       At most N rows: decimal, 1 to 4294967295
@@ -737,7 +739,7 @@ For more information, try '--help'.
 const OTHER_OPTION: &str = "\
 error: unexpected argument '--since' found
 
-  tip: --since is an option of diff, leaks
+  tip: --since is an option of diff, leaks, sites
 
 Usage: hleak bad --process <N> [FILES]...
 
@@ -758,7 +760,7 @@ For more information, try '--help'.
 const FOLDED_DIALOGUE: &str = "\
 error: unexpected argument '--folded' found
 
-  tip: --folded is an option of leaks
+  tip: --folded is an option of leaks, sites
 
 Usage: hleak ask --fold <FILES>...
 

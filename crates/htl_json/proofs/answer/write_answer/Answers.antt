@@ -1,10 +1,10 @@
 -- The first line and then the rows are the values.
 use Rattle.std.proofs.Common.{◌≡◌, ◌∙◌, ap, length, refl, rules, subst, sym}
 use Rattle.std.proofs.lemmas.Result.{on_ok_weaker}
-use Rattle.htl_question.specs.Rows.{Found, Listed, bad, leaks, listed, listing, opens, points, stacks, summary, tags}
+use Rattle.htl_question.specs.Rows.{Found, Listed, bad, leaks, listed, listing, opens, points, sites, stacks, summary, tags}
 use Rattle.htl_json.proofs.Added.{AddsValues, list_added, summary_added}
 use Rattle.htl_json.specs.Lines.{summary_values}
-use Rattle.htl_json.specs.Rows.{bad_reference, counted_stack, leak, listed as listed_row, opened, point_row, tag_balance}
+use Rattle.htl_json.specs.Rows.{bad_reference, counted_stack, leak, listed as listed_row, opened, point_row, site_row, tag_balance}
 use Rattle.htl_report.specs.Rows.{first_rows}
 use Rattle.htl_json.proofs.answer.write_answer.Goals as goal
 
@@ -65,6 +65,17 @@ returns-in_ok-write_head-in-Leaks c =
     (list_added (leak c.args.symbols.now) _ _ _ _ _ _ _ _ c.args.lines.now c.write_head-in-Leaks.new.lines c.write_leaks.new.lines are
     refl all first c.in_ok-write_head-in-Leaks.ensures)
     c.write_leaks.ensures
+
+pub returns-in_ok-write_head-in-Sites : goal.returns-in_ok-write_head-in-Sites
+returns-in_ok-write_head-in-Sites c =
+    let items = c.in-Sites.rows.items in
+    let all : c.len-in-Sites.result ≡ length items = search rules in
+    let first : c.first_rows-in-Sites.result.now ≡ first_rows c.args.top items = search rules in
+    let are : c.args.answer.now.rows ≡ sites items = has_rows c.answer.view_is (ap listed c.in-Sites.is) in
+    on_ok_weaker c.write_sites.result
+    (list_added (site_row c.args.symbols.now) _ _ _ _ _ _ _ _ c.args.lines.now c.write_head-in-Sites.new.lines c.write_sites.new.lines are
+    refl all first c.in_ok-write_head-in-Sites.ensures)
+    c.write_sites.ensures
 
 pub returns-in_ok-write_head-in-Stacks : goal.returns-in_ok-write_head-in-Stacks
 returns-in_ok-write_head-in-Stacks c =

@@ -11,7 +11,7 @@ pub returns : goal.returns
 returns c =
     let question = c.args.question in
     let a = subject_fields (subject_of question) in
-    let b = since_fields c.args.since in
+    let b = since_fields question c.args.since in
     let mid = c.write_word.new.lines in
     let about = subst (λ s. AddsFields mid c.write_subject.new.lines (subject_fields s)) c.subject.ensures c.in_ok-write_subject.ensures in
     on_ok_weaker c.write_since.result

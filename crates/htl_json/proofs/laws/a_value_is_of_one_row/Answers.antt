@@ -1,6 +1,6 @@
 -- The law: where two rows of one kind have one value, they agree in all that the value shows.
 use Rattle.htl_json.proofs.OneRow.{one_bad_reference, one_balance, one_counted, one_gap, one_leak, one_listed, one_object, one_opened}
-use Rattle.htl_json.proofs.OneRow.{one_point, one_process}
+use Rattle.htl_json.proofs.OneRow.{one_point, one_process, one_site}
 use Rattle.htl_json.proofs.laws.a_value_is_of_one_row.Goals as goal
 
 pub returns : goal.returns
@@ -9,6 +9,7 @@ returns c = λ symbols. record {
   listing = one_listed symbols;
   bad = one_bad_reference symbols;
   leaks = one_leak symbols;
+  sites = one_site symbols;
   stacks = one_counted symbols;
   tags = one_balance;
   growth = one_point;

@@ -1,5 +1,5 @@
-"""Files of stacks, as tools/compare and tools/report take them: answers of `leaks --json`, and lists of known stacks. A stack is the names
-of its frames, from the innermost call outwards, with or without how far within its function each call is."""
+"""Files of stacks, as tools/check, tools/compare and tools/report take them: answers of `leaks --json` or `sites --json`, and lists of known
+stacks. A stack is the names of its frames, from the innermost call outwards, with or without how far within its function each call is."""
 import collections
 import json
 import re
@@ -8,8 +8,8 @@ from hleaklib import Fault, lines_of, name_of
 
 OFFSET = re.compile(r"\+0x[0-9a-f]+$")
 ADDRESS = re.compile(r"0x[0-9a-f]{1,16}$", re.I)
-STACK_BEGINS = re.compile(r"(LEAK|MORE|LESS) handles=")
-FIRST_LINE = re.compile(r"(leaks process|compare before)=")
+STACK_BEGINS = re.compile(r"(LEAK|SITE|STACK|MORE|LESS) handles=")
+FIRST_LINE = re.compile(r"leaks process=|sites (since=\w+ )?(until=\d+ )?count=|check stacks=|compare before=")
 
 
 def checked(holds, place, why):
@@ -46,21 +46,27 @@ def stack_of(place, row, with_offsets):
     return tuple(name_of(frame, with_offsets) for frame in stack), row["handles"]
 
 
-def leaks_of(path, with_offsets):
-    """How many handles each stack has, in the answers of a file."""
-    handles, head, count, missing = collections.Counter(), None, 0, 0
+def is_head(value):
+    """Whether this is the first line of an answer with stacks: of a process, or of all."""
+    return value["answer"] in ("leaks", "sites") and is_number(value.get("count"))
+
+
+def leaks_in(lines, path, with_offsets):
+    """How many handles each stack has, in the answers of which these are the lines, each with its place."""
+    handles, head, kind, count, missing = collections.Counter(), None, None, 0, 0
 
     def end_answer():
         checked(not missing, head, f"this answer has {count} stacks, and the file {count - missing}: was it asked with --top?")
 
-    for place, text in lines_of(path):
+    for place, text in lines:
         if not text.strip():
             continue
         value = value_of(place, text)
         if "answer" in value:
             end_answer()
-            checked(value["answer"] == "leaks" and is_number(value.get("count")), place, "not an answer of `leaks --json`")
-            head, count, missing = place, value["count"], value["count"]
+            checked(is_head(value), place, "not an answer of `leaks --json`")
+            checked(kind in (None, value["answer"]), place, f"an answer of `{value['answer']}` behind one of `{kind}`")
+            head, kind, count, missing = place, value["answer"], value["count"], value["count"]
         else:
             checked(missing > 0, place, "a row that no answer of `leaks --json` has")
             stack, number = stack_of(place, value, with_offsets)
@@ -69,6 +75,11 @@ def leaks_of(path, with_offsets):
     checked(head, path, "the file has no answer of `leaks --json`")
     end_answer()
     return handles
+
+
+def leaks_of(path, with_offsets):
+    """The same in the answers of a file."""
+    return leaks_in(lines_of(path), path, with_offsets)
 
 
 def frame_of(place, words, with_offsets):

@@ -7,8 +7,8 @@ from .sites import STACK, Rows, Sites
 MOST_HANDLES = 1000  # of a process that are looked at one by one
 POINTS = 100  # of the curve of a process
 
-# Rows before their stacks, of the answers that have most rows.
-LEAK = re.compile(rb'{"handles":(\d+)$')
+# Rows before their stacks, of the answers that have most rows: of a process, and of all.
+LEAK = re.compile(rb'{"handles":(\d+)(?:,"processes":\d+)?$')
 BAD = re.compile(rb'{"event":"BAD REF","handle":"(0x[0-9a-f]+)","times":(\d+)$')
 
 # A question, and what reads the lines of its answer: the first one, and those of its rows, which have all to be taken.
@@ -17,6 +17,10 @@ Question = collections.namedtuple("Question", "text read")
 
 def as_of(moment):
     return "" if moment is None else f" --until {moment}"
+
+
+def after(since):
+    return "" if since is None else f" --since {since}"
 
 
 class Questions:
@@ -48,11 +52,13 @@ class Questions:
     def read_growth(self, _, lines):
         return [(row["sequence"], row["outstanding"]) for row in self.rows.read(lines)]
 
-    def leaks(self, process, until):
-        """The stacks of a process with open handles as of a moment, and how many handles each has."""
-        since = self.since_of(process)
-        after = "" if since is None else f" --since {since}"
-        return Question(f"leaks --process {process['process']}{after}{as_of(until)}", self.read_leaks)
+    def sites(self, moment):
+        """The stacks with open handles in any process as of a moment, and how many handles each has."""
+        return Question(f"sites{after(self.since)}{as_of(moment)}", self.read_leaks)
+
+    def leaks(self, process, moment):
+        """The same in a process."""
+        return Question(f"leaks --process {process['process']}{after(self.since_of(process))}{as_of(moment)}", self.read_leaks)
 
     def read_leaks(self, _, lines):
         parted = (line.partition(STACK) for line in lines)
@@ -60,8 +66,8 @@ class Questions:
 
     def handles(self, process):
         """The open handles of a process by the names of the calls that opened them, those with the least numbers where there are many."""
-        number, since = process["process"], self.since_of(process)
-        words = f"outstanding --process {number}" if since is None else f"diff --process {number} --since {since}"
+        since = self.since_of(process)
+        words = f"{'outstanding' if since is None else 'diff'} --process {process['process']}{after(since)}"
         return self.about(f"{words} --top {MOST_HANDLES}", self.read_handles)
 
     def read_handles(self, _, lines):

@@ -80,6 +80,10 @@ class Site:
     def __init__(self, names):
         self.names, self.count, self.stacks, self.keys = names, 0, {}, {}
 
+    def left(self):
+        """How much of it is told of no key."""
+        return self.count - sum(self.keys.values())
+
     def texts(self):
         """The stacks by their JSON, those that come most often first, and how often each comes."""
         texts = {}
@@ -111,14 +115,18 @@ class Sites:
         site.stacks[stack] = site.stacks.get(stack, 0) + count
         site.keys[key] = site.keys.get(key, 0) + count
 
-    def add_all(self, others):
-        """Adds the sites of another list."""
+    def add_stack(self, stack, count):
+        """Adds a stack that is told of no key."""
+        site = self.site(stack.names)
+        site.count += count
+        site.stacks[stack] = site.stacks.get(stack, 0) + count
+
+    def add_keys(self, others):
+        """Adds of which keys another list tells how much these sites come to."""
         for other in others.sites.values():
-            site = self.site(other.names)
-            for of, its in ((site.stacks, other.stacks), (site.keys, other.keys)):
-                for key, count in its.items():
-                    of[key] = of.get(key, 0) + count
-            site.count += other.count
+            keys = self.site(other.names).keys
+            for key, count in other.keys.items():
+                keys[key] = keys.get(key, 0) + count
 
     def greatest(self, but=frozenset()):
         """All but those of some names, the greatest counts first, and then by their names."""

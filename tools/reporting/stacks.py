@@ -39,7 +39,7 @@ def list_of(material):
 def note_on_asked(trace):
     others = sum(1 for row in trace.processes if row["outstanding"]) - len(trace.asked())
     told = counted(others, "process has", "processes have")
-    return note(f"{told} fewer open handles: their stacks are not among these.") if others else ""
+    return note(f"{told} fewer open handles: which of a stack's handles are theirs is not shown.") if others else ""
 
 
 def note_on_curves(material):
@@ -47,7 +47,8 @@ def note_on_curves(material):
         return ""
     first, middle = material.moments[0][0], material.middle()[0]
     curves = f"Curves have {len(material.moments) + 1} moments from sequence {first:,} to {material.trace.last:,}"
-    return note(f"{curves}; a number with a sign is the difference to sequence {middle:,}. Both are of processes with open handles.")
+    of_some = "" if material.trace.is_by_sites() else " Both are of processes with open handles."
+    return note(f"{curves}; a number with a sign is the difference to sequence {middle:,}.{of_some}")
 
 
 def row_of(material, site, with_curve):
@@ -55,13 +56,18 @@ def row_of(material, site, with_curve):
     growth, numbers = material.growth_of(site), (f"{site.count:,}", share_of(site.count, material.whole))
     difference = element("span", f"{growth:+,}", class_="growth", title="since the middle") if growth else ""
     curve = small_curve_of(material.points_of(site)) if with_curve and material.moments else ""
-    first = site.greatest_keys(MOST_NAMES)
-    more = f" and {len(site.keys) - len(first):,} more" if len(site.keys) > len(first) else ""
-    where = ", ".join(f"{process} ({count:,})" for process, count in first)
-    told = element("p", f"In {'process' if len(site.keys) == 1 else 'processes'} {where}{more}.")
-    inside = told, calls_of_site(site), names_of_handles(material.handles_of(site), material.files.names)
+    inside = element("p", f"In {where_of(site)}."), calls_of_site(site), names_of_handles(material.handles_of(site), material.files.names)
     line = joined(material.lines.of(site.names), difference, curve)
     return stack_of(numbers, line, *inside, data_count=site.count, data_growth=growth)
+
+
+def where_of(site):
+    """The processes that have handles of a site: those that were asked, and how many handles are left for others."""
+    first = site.greatest_keys(MOST_NAMES)
+    told = [f"{'process' if len(site.keys) == 1 else 'processes'} " + ", ".join(f"{process} ({count:,})" for process, count in first)]
+    told += [f"{len(site.keys) - len(first):,} more"] if len(site.keys) > len(first) else []
+    told += [f"other processes ({site.left():,})"] if site.left() else []
+    return " and ".join(told if site.keys else told[1:])
 
 
 def graph_of(material):

@@ -22,7 +22,7 @@ def add_leaks(material):
     for site in material.leaking[:MOST_FINDINGS]:
         if site is material.leaking[0] or 10 * site.count >= material.whole:
             of_all = f"{share_of(site.count, material.whole)} of {material.whole:,}{not_known}"
-            where = counted(len(site.keys), "process", "processes")
+            where = " and ".join([counted(len(site.keys), "process", "processes")] * bool(site.keys) + ["others"] * bool(site.left()))
             growth = material.growth_of(site)
             since = f", {growth:+,} since sequence {material.middle()[0]:,}" if growth else ""
             told = f" left {counted(site.count, 'handle')} open", *told_of_names(material, site), f": {of_all}, in {where}{since}."

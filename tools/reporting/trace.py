@@ -6,8 +6,9 @@ from hleaklib import Fault
 from .questions import MOST_HANDLES, Questions
 from .sites import Sites
 
-MOST_PROCESSES = 1000  # whose stacks are asked for, those with most open handles
-MOST_QUESTIONS = 48  # on how many handles stacks had at moments, while each process is asked by itself
+MOST_ROWS = 1000  # of a summary, where no more are needed
+MOST_PROCESSES = 100  # whose stacks are asked for, those with most open handles
+MOST_MOMENTS, MOST_QUESTIONS = 7, 48  # as of which it is asked how many handles stacks had, and of how many processes each by itself
 
 
 class Trace:
@@ -16,8 +17,8 @@ class Trace:
 
     def __init__(self, dialogues, given):
         self.dialogues, self.questions, self.answers, self.own = dialogues, Questions(given), {}, {}
-        self.since, self.top = given.since, given.top
-        self.head, rows = self.summary(max(MOST_PROCESSES, given.top))
+        self.since, self.top, self.is_over_all = given.since, given.top, not given.process
+        self.head, rows = self.summary(max(MOST_ROWS, given.top))
         self.until = self.questions.until = self.head.get("until")
         dialogues.add()
         before = self.head["gaps"] + self.head["processes"]
@@ -66,7 +67,12 @@ class Trace:
                 yield self.questions.leaks(process, self.until)
 
     def questions_of_moments(self):
+        if self.is_over_all:
+            yield self.questions.sites(self.until)
         for moment in self.moments():
+            if self.is_by_sites():
+                yield self.questions.sites(moment)
+                continue
             for process in self.asked():
                 if self.is_after(process, moment):
                     yield self.questions.leaks(process, moment)
@@ -113,25 +119,39 @@ class Trace:
         return self.own[number]
 
     def sites(self):
-        """Every stack that leaves handles open, over all processes. (A question for each of them, as there is none over all.)"""
-        sites = Sites()
-        for process in self.asked():
-            sites.add_all(self.sites_of(process))
+        """Every stack that leaves handles open in the processes that the page is about, and how many of them those have that were asked."""
+        sites, each = Sites(), [self.sites_of(process) for process in self.asked()]
+        if self.is_over_all:
+            stacks = self.told(self.questions.sites(self.until))
+        else:
+            stacks = [it for its in each for site in its.sites.values() for it in site.stacks.items()]
+        for stack, count in stacks:
+            sites.add_stack(stack, count)
+        for its in each:
+            sites.add_keys(its)
         return sites
 
+    def is_by_sites(self):
+        """Whether one question tells how many handles stacks had as of a moment: not of some processes, and not since snapshots of the
+        end."""
+        return self.is_over_all and self.since != "snapshot"
+
     def moments(self):
-        """Moments between the first sequence and the last one: 11, or as few as make the middle alone where many processes are asked."""
-        processes = max(len(self.asked()), 1)
-        between = next((count for count in (11, 7, 5, 3) if count * processes <= MOST_QUESTIONS), 1)
+        """Moments between the first sequence and the last one: 7, or as few as make the middle alone where many processes are asked."""
+        questions = 1 if self.is_by_sites() else max(len(self.asked()), 1)
+        between = next((count for count in (MOST_MOMENTS, 5, 3) if count * questions <= MOST_QUESTIONS), 1)
         moments = {self.first + at * (self.last - self.first) // (between + 1) for at in range(1, between + 1)}
         return sorted(moments - {self.last})
 
     def counts_at(self, moment):
-        """How many handles the stacks with each names had as of a moment, in the processes that have open handles in the end."""
+        """How many handles the stacks with each names had as of a moment."""
         counts = collections.Counter()
-        for process in self.asked():
-            for stack, handles in self.leaks(process, moment):
-                counts[stack.names] = counts.get(stack.names, 0) + handles
+        if self.is_by_sites():
+            stacks = self.told(self.questions.sites(moment))
+        else:
+            stacks = [it for process in self.asked() for it in self.leaks(process, moment)]
+        for stack, handles in stacks:
+            counts[stack.names] = counts.get(stack.names, 0) + handles
         return counts
 
     def growth(self, process):

@@ -11,6 +11,11 @@ MOST_PROCESSES = 100  # whose stacks are asked for, those with most open handles
 MOST_MOMENTS, MOST_QUESTIONS = 7, 48  # as of which it is asked how many handles stacks had, and of how many processes each by itself
 
 
+def is_before(since, moment):
+    """Whether a moment comes after the one from which on handles count, of which each may be None."""
+    return None in (since, moment) or since < moment
+
+
 class Trace:
     """A trace as of the moment that was given, or of its end. What sections tell is asked for before any is made, in two turns, so that the
     program has always something to answer."""
@@ -70,12 +75,13 @@ class Trace:
         if self.is_over_all:
             yield self.questions.sites(self.until)
         for moment in self.moments():
-            if self.is_by_sites():
-                yield self.questions.sites(moment)
-                continue
-            for process in self.asked():
-                if self.is_after(process, moment):
-                    yield self.questions.leaks(process, moment)
+            yield from self.questions_at(moment)
+
+    def questions_at(self, moment):
+        """The questions that tell how many handles stacks had as of a moment."""
+        if self.is_by_sites():
+            return [self.questions.sites(moment)] if is_before(self.since, moment) else []
+        return [self.questions.leaks(process, moment) for process in self.asked() if self.is_after(process, moment)]
 
     def questions_of_objects(self):
         for row in self.objects:
@@ -98,8 +104,7 @@ class Trace:
 
     def is_after(self, process, moment):
         """Whether a moment comes after the one from which on handles of a process count."""
-        since = self.questions.since_of(process)
-        return None in (since, moment) or since < moment
+        return is_before(self.questions.since_of(process), moment)
 
     def leaks(self, process, moment):
         """The stacks of a process with open handles as of a moment, and how many handles each has."""
@@ -146,12 +151,9 @@ class Trace:
     def counts_at(self, moment):
         """How many handles the stacks with each names had as of a moment."""
         counts = collections.Counter()
-        if self.is_by_sites():
-            stacks = self.told(self.questions.sites(moment))
-        else:
-            stacks = [it for process in self.asked() for it in self.leaks(process, moment)]
-        for stack, handles in stacks:
-            counts[stack.names] = counts.get(stack.names, 0) + handles
+        for question in self.questions_at(moment):
+            for stack, handles in self.told(question):
+                counts[stack.names] = counts.get(stack.names, 0) + handles
         return counts
 
     def growth(self, process):

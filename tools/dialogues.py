@@ -10,10 +10,10 @@ import subprocess
 import sys
 import time
 
-from hleaklib import Ended
+from hleaklib import Ended, workers
 
 PIPE_BYTES, MOST_PIPE_BYTES = 1 << 16, 1 << 20  # that a pipe holds, and that it may be made to hold
-MOST_DIALOGUES, MOST_WORKERS = 2, 4
+MOST_DIALOGUES = 2
 SECONDS_AT_REST = 5  # since a file was written to: a trace that goes on has an event each second
 MOST_AHEAD = 256  # questions that wait for their answers; their lines have to fit into a pipe
 
@@ -70,8 +70,7 @@ class Dialogues:
     """Dialogues over the same files, which share the questions. First there is one."""
 
     def __init__(self, program, options, files):
-        workers = f"--workers={min(os.cpu_count() or 1, MOST_WORKERS)}"
-        self.command, self.files = (program, [workers, *options, "--", *files]), files
+        self.command, self.files = (program, [workers(), *options, "--", *files]), files
         self.dialogues = [Dialogue(*self.command, is_first=True)]
 
     def add(self):

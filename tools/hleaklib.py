@@ -6,9 +6,15 @@ import sys
 
 BAD_INPUT, UNREADABLE = 3, 5  # the statuses of hleak for them
 MOST_DIGITS = 20  # of a sequence
+MOST_WORKERS = 4
 OBJECT = re.compile(r"0x[0-9a-f]{1,16}$", re.I)
 # What a table of names can be by, and what is said of a row that isn't one.
 KINDS_OF_NAMES = {"sequence": "not a sequence in decimal and a name", "object": "not an object, as 0xffffa00000001000, and a name"}
+
+
+def workers():
+    """The option that says how many threads read the files: one for a processor, up to 4."""
+    return f"--workers={min(os.cpu_count() or 1, MOST_WORKERS)}"
 
 
 class Fault(Exception):

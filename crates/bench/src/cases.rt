@@ -3,7 +3,7 @@
 
 use crate::stopwatch::Stopwatch;
 use anyhow::Result;
-use htl_case::Case;
+use htl_case::{Case, events_of_handle};
 use htl_samples::{RandomTrace, SMALL, SampleFault};
 use htl_segment::Segment;
 use std::alloc::Global;
@@ -74,7 +74,8 @@ fn case_of(
 /// Lists the events of a handle.
 fn list(watch: &mut Stopwatch<'_>, case: &Case, events: u64) -> Result<()> {
     watch.restart();
-    let rows = case.trace(watch.alloc(), 4, 8, None)?;
+    let lists = case.until(watch.alloc(), None)?;
+    let rows = events_of_handle(watch.alloc(), &lists, 4, 8)?;
     watch.lap("events gone through for a listing", events);
     watch.print("listed", rows.len());
     Ok(())

@@ -63,20 +63,14 @@ lists_more f until ss i s old new x lt is own so_far pushed =
     ap (flat_map f) pushed ∙ flat_map-append f old (x ∷ []) ∙ ap (λ (l : List Event). flat_map f old ++ l) (append-nil (f x) ∙ own)
     ∙ ap (λ (l : List Event). l ++ counted_events until s.events) so_far ∙ sym (counted_more until ss i s lt is)
 
--- the same of those that pass a test
-pub filter_more : (p : Event → Bool) (until : Option ℕ) (ss : List Content) (i : ℕ) (s : Content) (old own new : List Event) → i < length ss
-    → s ≡ get_or ss i s → own ≡ counted_events until s.events → old ≡ filter p (counted_events until (all_events (take i ss)))
-    → new ≡ old ++ filter p own → new ≡ filter p (counted_events until (all_events (take (i + 1) ss)))
-filter_more p until ss i s old own new lt is own_is so_far pushed =
-    let before = counted_events until (all_events (take i ss)) in
-    pushed ∙ ap (λ (l : List Event). l ++ filter p own) so_far ∙ ap (λ (l : List Event). filter p before ++ filter p l) own_is
-    ∙ sym (ap (filter p) (counted_more until ss i s lt is) ∙ filter-append p before (counted_events until s.events))
+-- where no sequence comes twice, none does among the events that pass a test
+pub own_filtered : (p : Event → Bool) (es : List Event) → HaveOwnSequences es → HaveOwnSequences (filter p es)
+own_filtered p es own = own_from_times (filter p es) (λ n. omega (arith, fewer p n es, times_from_own es own n))
 
--- no sequence comes twice among them
+-- so none comes twice among the events until a moment
 pub own_until : (until : Option ℕ) (es : List Event) → HaveOwnSequences es → HaveOwnSequences (counted_events until es)
 own_until None es own = own
-own_until (Some moment) es own = own_from_times (events_until moment es) (λ n.
-    omega (arith, fewer (λ (e : Event). nat_le e.sequence moment) n es, times_from_own es own n))
+own_until (Some moment) es own = own_filtered (λ (e : Event). nat_le e.sequence moment) es own
 
 -- ---- of those that are asked about
 

@@ -1,8 +1,9 @@
 -- Of the events of lists, one list after another, those that pass a test are gathered or left.
 use Rattle.std.proofs.Common.{◌≡◌, ℕ, ◌+◌, ◌<◌, ◌≤◌, Bool, List, ◌++◌, length, get_or, set, take, Vec, Global}
 use Rattle.std.proofs.Common.{refl, sym, ap, ◌∙◌, arith}
-use Rattle.std.specs.Prelude.{filter}
-use Rattle.std.proofs.lemmas.List.{get_or-set_other, length-set, take_all, take_more, take_more_set}
+use Rattle.std.specs.Prelude.{[], ◌∷◌, filter, flat_map}
+use Rattle.std.proofs.lemmas.Grind.{flat_map-append}
+use Rattle.std.proofs.lemmas.List.{append-nil, get_or-set_other, length-set, take_all, take_more, take_more_set}
 use Rattle.std.proofs.lemmas.List.Elements.{filter-append}
 use Rattle.htl_event.specs.Events.{Event}
 use Rattle.htl_segment.specs.Picks.{events_in}
@@ -14,18 +15,21 @@ list_at : (lists : List (Vec Event Global)) (i : ℕ) (list : Vec Event Global) 
 list_at lists i list lt = ap events_in (take_more lists i list lt) ∙ list_more (take i lists) (get_or lists i list)
 
 -- the events so far that pass a test, and those of the list at the next place
-pub filtered_more : (p : Event → Bool) (lists : List (Vec Event Global)) (i : ℕ) (list : Vec Event Global) (old new : List Event)
-    → i < length lists → list ≡ get_or lists i list → old ≡ filter p (events_in (take i lists)) → new ≡ old ++ filter p list.items
-    → new ≡ filter p (events_in (take (i + 1) lists))
-filtered_more p lists i list old new lt is so_far pushed =
-    pushed ∙ ap (λ (es : List Event). es ++ filter p list.items) so_far
-    ∙ ap (λ (l : Vec Event Global). filter p (events_in (take i lists)) ++ filter p l.items) is
-    ∙ sym (ap (filter p) (list_at lists i list lt) ∙ filter-append p (events_in (take i lists)) (get_or lists i list).items)
+pub filtered_more : {X : Type 0} (f : X → List Event) (p : Event → Bool) (lists : List X) (i : ℕ) (list : X) (old new : List Event)
+    → i < length lists → list ≡ get_or lists i list → old ≡ filter p (flat_map f (take i lists)) → new ≡ old ++ filter p (f list)
+    → new ≡ filter p (flat_map f (take (i + 1) lists))
+filtered_more {X = X} f p lists i list old new lt is so_far pushed =
+    let before = flat_map f (take i lists) in
+    let more : flat_map f (take (i + 1) lists) ≡ before ++ f (get_or lists i list) =
+    ap (flat_map f) (take_more lists i list lt) ∙ flat_map-append f (take i lists) (get_or lists i list ∷ [])
+    ∙ ap (λ (es : List Event). before ++ es) (append-nil (f (get_or lists i list))) in
+    pushed ∙ ap (λ (es : List Event). es ++ filter p (f list)) so_far ∙ ap (λ (x : X). filter p before ++ filter p (f x)) is
+    ∙ sym (ap (filter p) more ∙ filter-append p before (f (get_or lists i list)))
 
 -- after the last list, the events gathered are those of all lists that pass
-pub filtered_all : (p : Event → Bool) (lists : List (Vec Event Global)) (i : ℕ) (rows : List Event) → length lists ≤ i
-    → rows ≡ filter p (events_in (take i lists)) → rows ≡ filter p (events_in lists)
-filtered_all p lists i rows past so_far = so_far ∙ ap (λ (ls : List (Vec Event Global)). filter p (events_in ls)) (take_all i lists past)
+pub filtered_all : {X : Type 0} (f : X → List Event) (p : Event → Bool) (lists : List X) (i : ℕ) (rows : List Event) → length lists ≤ i
+    → rows ≡ filter p (flat_map f (take i lists)) → rows ≡ filter p (flat_map f lists)
+filtered_all f p lists i rows past so_far = so_far ∙ ap (λ (ls : List _). filter p (flat_map f ls)) (take_all i lists past)
 
 -- of the lists below a place the events that pass a test are left, and the others are as they were
 pub record AreFiltered (p : Event → Bool) (old new : List (Vec Event Global)) (place : ℕ) : Type 0 where

@@ -13,7 +13,7 @@
 //! Files, in reading order: `case.rt` (a case), `fault.rt` (why a list is refused), `picked.rt` (a
 //! case of which only what is asked about is in hand), `ordering.rt`, `sequences.rt`, `outlines.rt`
 //! and `rising.rt` (the tests that make a list of segments a case), `spans.rt` (the first and the
-//! last sequence), `listing.rt` (the events of a handle), `step.rt` and `question.rt` (steps,
+//! last sequence), `listing.rt` (the events of a handle in lists), `step.rt` and `question.rt` (steps,
 //! questions and answers), `asking.rt` (an analyst's answer after steps), `playing.rt` (lists of
 //! steps), `laws.rt`.
 //!
@@ -52,6 +52,7 @@ mod step;
 pub use asking::{answer_after, ask};
 pub use case::Case;
 pub use fault::{CaseFault, PlayFault};
+pub use listing::events_of_handle;
 pub use picked::PickedCase;
 pub use playing::play;
 pub use question::{AnalystAnswer, AnalystQuestion};

@@ -1,67 +1,32 @@
 //! The listing of one handle.
 
-ghost use Rattle.std.specs.Prelude.{◌≡◌, ◌++◌, filter, IfOk, OnOk, Contains};
+ghost use Rattle.std.specs.Prelude.{◌≡◌, ◌++◌, filter, flat_map, IfOk, OnOk, Contains};
 ghost use Rattle.std.specs.List.Sorted.{IsPermutation};
+ghost use Rattle.htl_event.specs.Handles.{HaveOwnSequences, IsListing};
 ghost use Rattle.htl_case.specs.Listed.{is_of_handle, IsNewestFirst};
 
-use crate::case::Case;
-use crate::picked::PickedCase;
-use htl_event::{EventList, Kind, NoMemory, SharedEvent, Until, base};
+use htl_event::{EventList, Kind, NoMemory, SharedEvent, base};
 use std::alloc::Global;
 use std::cmp::Reverse;
 
-impl Case {
-    ghost use Rattle.std.specs.Prelude.{Contains, IfOk};
-    ghost use Rattle.htl_event.specs.Handles.{IsListing};
-    ghost use Rattle.htl_event.specs.Moments.{counted_events};
-    ghost use Rattle.htl_segment.specs.Traces.{all_events};
-
-    /// The opens, closes and bad references of a process with the same base handle, the newest
-    /// first. Where a moment is given, those until then. Only the events that are listed are copied.
-    pub fn trace(
-        &self,
-        alloc: Global,
-        process: u32,
-        handle: u32,
-        until: Option<u64>,
-    ) -> Result<Vec<SharedEvent>, NoMemory>
-        ensures { IfOk result (λ rows.
-            IsListing (Contains (counted_events until (all_events self.now.segments)))
-            process handle rows.items) }
-    {
-        let base = base(handle);
-        let mut rows = Vec::new(alloc);
-        for segment in self.segments() {
-            let counted = Until::new(segment.events(), until);
-            push_rows(&mut rows, counted.events(), process, base)?;
-        }
-        newest_first(&mut rows);
-        Ok(rows)
+/// The opens, closes and bad references of a process with the same base handle, the newest first.
+/// Only the events that are listed are copied.
+pub fn events_of_handle<E: EventList>(
+    alloc: Global,
+    lists: &[E],
+    process: u32,
+    handle: u32,
+) -> Result<Vec<SharedEvent>, NoMemory>
+    ensures { IfOk result (λ rows. HaveOwnSequences (flat_map E.events_of lists.now)
+        → IsListing (Contains (flat_map E.events_of lists.now)) process handle rows.items) }
+{
+    let base = base(handle);
+    let mut rows = Vec::new(alloc);
+    for list in lists {
+        push_rows(&mut rows, list.events(), process, base)?;
     }
-}
-
-impl PickedCase {
-    ghost use Rattle.std.specs.Prelude.{Contains, IfOk};
-    ghost use Rattle.htl_event.specs.Handles.{HaveOwnSequences, IsListing};
-
-    /// The same listing, from the picked events.
-    pub fn trace(
-        &self,
-        alloc: Global,
-        process: u32,
-        handle: u32,
-    ) -> Result<Vec<SharedEvent>, NoMemory>
-        ensures { HaveOwnSequences self.now.events → IfOk result (λ rows.
-            IsListing (Contains self.now.events) process handle rows.items) }
-    {
-        let mut rows = Vec::new(alloc);
-        let base = base(handle);
-        for events in self.lists() {
-            push_rows(&mut rows, events, process, base)?;
-        }
-        newest_first(&mut rows);
-        Ok(rows)
-    }
+    newest_first(&mut rows);
+    Ok(rows)
 }
 
 // The handle is compared first, since few events have it.

@@ -3,3 +3,4 @@ pub mod OfProcessor
 pub mod Outlined
 pub mod OneAnswer
 pub mod TellLaws
+pub mod FoundByBytes

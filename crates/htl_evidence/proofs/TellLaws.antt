@@ -1,12 +1,16 @@
 -- What is kept in each way tells the answers.
-use Rattle.std.proofs.Common.{◌≡◌, ◌∙◌, ◌<◌, ℕ, Bool, true, false, cond, List, [], ◌∷◌, Option, length, refl, sym, ap, subst, inl}
-use Rattle.std.proofs.Common.{arith, map}
+use Rattle.std.proofs.Common.{◌≡◌, ◌∙◌, ◌<◌, ℕ, Bool, true, false, cond, List, [], ◌∷◌, Option, None, Some, length, refl, sym, ap, subst, inl}
+use Rattle.std.proofs.Common.{IsPermutation, arith, inr, map}
+use mathlib.Core.List.{map-id}
 use Rattle.std.specs.Prelude.{Contains, ◌↔◌, count_by}
 use Rattle.std.proofs.lemmas.List.{append-nil}
+use Rattle.std.proofs.lemmas.List.Sorted.{IsPermutation-refl}
 use Rattle.std.proofs.lemmas.List.Sums.{sum_by-cons}
 use Rattle.htl_event.specs.Events.{Event}
-use Rattle.htl_event.specs.Handles.{IsGreatestSequence}
+use Rattle.htl_event.specs.Handles.{HaveOwnSequences, IsGreatestSequence}
+use Rattle.htl_event.specs.Interests.{wanted, wants}
 use Rattle.htl_event.specs.Moments.{counted_events}
+use Rattle.htl_event.specs.declared.growth.Span.{Span}
 use Rattle.htl_event.proofs.Members.{Contains-here, Contains-there}
 use Rattle.htl_segment.specs.Content.{Content}
 use Rattle.htl_segment.specs.Traces.{Trace, HasKey, all_events, key_is_in}
@@ -26,15 +30,19 @@ use Rattle.htl_analyst.proofs.EventNumbers.{number_kept}
 use Rattle.htl_analyst.proofs.KeyEvents.{taken_keys}
 use Rattle.htl_case.specs.Cases.{IsCase}
 use Rattle.htl_case.specs.Complete.{IsCompleteTo, IsFirstMissing}
-use Rattle.htl_case.proofs.Counted.{own_until}
+use Rattle.htl_case.proofs.Counted.{own_filtered, own_until}
 use Rattle.htl_case.proofs.Pickings.{picked_own}
 use Rattle.htl_case.proofs.Sizes.{size_is}
-use Rattle.htl_question.specs.Bases.{basis, extent}
+use Rattle.htl_question.specs.Answers.{Suffice}
+use Rattle.htl_question.specs.Bases.{Extent, basis, extent}
+use Rattle.htl_question.specs.Subjects.{interest_in}
 use Rattle.htl_question.specs.declared.question.Question.{Question}
+use Rattle.htl_question.specs.declared.subject.Subject.{Subject}
+use Rattle.htl_question.specs.declared.subject.Subject.TheVariants.{Process, Object, Tag, Handle}
 use Rattle.htl_question.proofs.Wanted.{wanted_suffice}
 use Rattle.htl_evidence.specs.Bases.{IsExtentOf}
 use Rattle.htl_evidence.specs.Kept.{Tells, one_by_one, unfolded}
-use Rattle.htl_evidence.specs.Told.{AreFoldsOf, ArePicksFor, HasFolded, PicksUntil, folds}
+use Rattle.htl_evidence.specs.Told.{AreEnough, AreFoldsOf, ArePicksFor, AsOf, HasFolded, IsOfCase, PicksUntil, counted_own, folds, own_events}
 use Rattle.htl_evidence.proofs.Covered.{one_first}
 
 -- ---- events as a part of which nothing was folded
@@ -48,19 +56,43 @@ are_events_of part events is = rw is ([], [], nothing_folded events, refl, sym (
 
 -- ---- each way of keeping
 
--- the events of a case up to a moment
-pub told_as_of : (T : Trace) (until : Option ℕ) (question : Question) → IsCase T
-    → Tells true (one_by_one (counted_events until (all_events T.segments))) question T until
-told_as_of T until question case = (
-  counted_events until (all_events T.segments),
-  record {
-    are = are_events_of _ _ refl;
-    number = refl;
-    ordered = λ latest. own_until until (all_events T.segments) case.trace.sequences;
-    one_part = λ keeps. refl;
-    enough = λ span extent answer over. over;
-  },
-)
+-- nothing is left out of the events of a process or an object
+all_needed : (subject : Subject) (es : List Event) → wanted (interest_in (Some subject)) es ≡ own_events (Some subject) es
+all_needed (Process process) es = map-id _
+all_needed (Handle process handle) es = map-id _
+all_needed (Object object) es = map-id _
+all_needed (Tag object tag) es = map-id _
+
+-- no two of them have one sequence, where no two of all have
+own_sequences : (subject : Option Subject) (es : List Event) → HaveOwnSequences es → HaveOwnSequences (own_events subject es)
+own_sequences None es own = own
+own_sequences (Some subject) es own = own_filtered (wants (interest_in (Some subject))) es own
+
+-- they are enough where they are all, or all that can tell the answer
+own_suffice : (subject : Option Subject) (question : Question) (es : List Event) (span : Option Span) (extent : Extent)
+    → AreEnough subject question → HaveOwnSequences es → Suffice (own_events subject es) question (basis es span extent)
+own_suffice None question es span extent enough own = λ answer over. over
+own_suffice (Some subject) question es span extent enough own =
+    let all : IsPermutation (wanted (interest_in (Some subject)) es) (own_events (Some subject) es) = subst (IsPermutation _)
+    (all_needed subject es) (IsPermutation-refl _) in
+    wanted_suffice question (interest_in (Some subject)) (basis es span extent) (own_events (Some subject) es) (inr enough) all own
+
+-- the events of a case up to a moment, or those of the question's process or object
+pub told_as_of : (e : AsOf) (question : Question) (T : Trace) (until : Option ℕ) → IsCase e.trace → IsOfCase e question T until
+    → Tells true (one_by_one (counted_own e)) question T until
+told_as_of e question T until case of =
+    let counted = counted_events e.until (all_events e.trace.segments) in
+    let own = own_until e.until (all_events e.trace.segments) case.trace.sequences in
+    rw (of.trace, of.moment) (
+      counted_own e,
+      record {
+        are = are_events_of _ _ refl;
+        number = refl;
+        ordered = λ latest. own_sequences e.subject counted own;
+        one_part = λ keeps. refl;
+        enough = λ span extent. own_suffice e.subject question counted span extent of.enough own;
+      },
+    )
 
 -- the events that were picked for a question
 pub told_picks : (picks : PicksUntil) (question : Question) (T : Trace) (until : Option ℕ) → ArePicksFor picks question T until

@@ -3,3 +3,5 @@ pub mod Bases
 pub mod Kept
 pub mod Told
 pub mod Outlines
+-- What only private ones cite.
+pub mod Columns

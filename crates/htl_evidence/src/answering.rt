@@ -17,9 +17,10 @@ ghost use Rattle.htl_evidence.specs.Outlines.{extent_of};
 use crate::evidence::Evidence;
 use crate::extent::Extent;
 use htl_answers::{Part, bad, diff, growth, leaks, mark, outstanding, stacks, tags};
+use htl_case::events_of_handle;
 use htl_event::{NoMemory, Span};
 use htl_question::{Answer, Question, Rows, Since, Totals};
-use htl_summary::{Objects, Summary, summarize};
+use htl_summary::{Objects, Summary, sites, summarize};
 use std::alloc::Global;
 use std::thread::Threads;
 
@@ -87,7 +88,7 @@ fn extent<E: Evidence>(alloc: Global, evidence: &E, question: Question) -> Resul
     }
 }
 
-/// The sequence after which handles count, where the question says since when.
+/// The sequence after which handles count, where the question says since when, and there is one.
 fn since<P: Part>(parts: &[P], question: Question) -> Option<u64>
     ensures { (own : List Event) → AreEventsOf (map P.contents parts.now) own
         → IsSinceIfGiven own (process_of question) (asks_since question) result }
@@ -99,6 +100,10 @@ fn since<P: Part>(parts: &[P], question: Question) -> Option<u64>
             since: Some(since),
             ..
         } => Some(sequence_of(parts, process, since)),
+        Question::Sites {
+            since: Some(Since::Sequence(sequence)),
+            ..
+        } => Some(sequence),
         _ => None,
     }
 }
@@ -148,9 +153,13 @@ where
             at_least,
             ..
         } => Rows::Leaks(leaks(alloc, parts, process, since, u64::from(at_least))?),
+        Question::Sites {
+            since: asked,
+            at_least,
+        } => Rows::Sites(sites(alloc, &alloc, parts, asked, u64::from(at_least))?),
         Question::Stacks { object, tag } => Rows::Stacks(stacks(alloc, parts, object, tag)?),
         Question::Trace { process, handle } => {
-            Rows::Listing(evidence.listing(alloc, process, handle)?)
+            Rows::Listing(events_of_handle(alloc, one_by_one(parts), process, handle)?)
         }
         Question::Growth { process, points } => {
             Rows::Points(growth(alloc, one_by_one(parts), process, given.span, points)?)

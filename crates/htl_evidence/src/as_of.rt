@@ -8,78 +8,84 @@ use crate::extent::Extent;
 use crate::unfolded::Unfolded;
 use htl_answers::Part;
 use htl_case::Case;
-use htl_event::{EventList, NoMemory, SharedEvent, Span, Until, number_of_events};
+use htl_event::{EventList, NoMemory, Span, number_of_events};
+use htl_question::Subject;
 use std::alloc::Global;
 use std::marker::Model;
 use std::slice::from_ref;
 
-/// A case of which events count up to a moment, or all where none is given.
+/// A case of which events count up to a moment, or all where none is given: all of these, or those of
+/// one process or object.
 #[derive(Drop)]
-pub struct AsOf<'a> {
+pub struct AsOf<'a, E: EventList> {
     case: &'a Case,
     until: Option<u64>,
-    part: Unfolded<'a, Until<'a>>,
+    /// Of what the events are, where they aren't all.
+    subject: Option<Subject>,
+    part: Unfolded<'a, E>,
 }
 
-impl<'a> Model for AsOf<'a> {
-    ghost use Rattle.std.specs.Prelude.{◌≡◌};
+impl<'a, E: EventList> Model for AsOf<'a, E> {
+    ghost use Rattle.std.specs.Prelude.{◌≡◌, flat_map};
     ghost use Rattle.htl_event.specs.Moments.{counted_events};
     ghost use Rattle.htl_segment.specs.Traces.{all_events};
     ghost use Rattle.htl_case.specs.Cases.{IsCase};
-    ghost use Rattle.htl_evidence.specs.Kept.{unfolded};
-    ghost use Rattle.htl_evidence.specs.Told.{AsOf, as_of};
+    ghost use Rattle.htl_evidence.specs.Kept.{contents_of, unfolded};
+    ghost use Rattle.htl_evidence.specs.Told.{AsOf, as_of, own_events};
 
     ghost Value = { AsOf };
 
-    ghost view = { λ e. as_of e.case.now e.until };
+    ghost view = { λ e. as_of e.case.now e.until e.subject };
 
-    ghost invariant = { λ e. IsCase e.case.now
-        × (⟦<Unfolded<'static, Until<'static>> as Part>⟧.contents e.part
-        ≡ unfolded (counted_events e.until (all_events e.case.now.segments))) };
+    ghost invariant = { λ e. IsCase e.case.now × (contents_of e.part.tree e.part.latest
+        e.part.marks e.part.exits (flat_map E.events_of e.part.held.now) ≡ unfolded
+        (own_events e.subject (counted_events e.until (all_events e.case.now.segments)))) };
 }
 
-impl<'a> AsOf<'a> {
+impl<'a, E: EventList> AsOf<'a, E> {
     ghost use Rattle.std.specs.Prelude.{◌≡◌, flat_map};
-    ghost use Rattle.htl_evidence.specs.Told.{as_of};
+    ghost use Rattle.htl_evidence.specs.Told.{as_of, own_events};
     ghost use Rattle.htl_event.specs.Moments.{counted_events};
     ghost use Rattle.htl_segment.specs.Traces.{all_events};
 
-    /// The case with its lists of the events until the moment (`Case::until`).
+    /// The case with lists of the events until the moment (`Case::until`), or of those of the
+    /// subject's process or object.
     pub fn new(
         alloc: Global,
         case: &'a Case,
         until: Option<u64>,
-        lists: &'a [Until<'a>],
-    ) -> AsOf<'a>
-        requires { flat_map ⟦<Until<'a> as EventList>⟧.events_of lists.now
-            ≡ counted_events until (all_events case.now.segments) }
-        ensures { result ≡ as_of case.now until }
+        subject: Option<Subject>,
+        lists: &'a [E],
+    ) -> AsOf<'a, E>
+        requires { flat_map E.events_of lists.now
+            ≡ own_events subject (counted_events until (all_events case.now.segments)) }
+        ensures { result ≡ as_of case.now until subject }
     {
         // For the proof: what every case is.
         let _segments = case.segments();
         AsOf {
             case,
             until,
+            subject,
             part: Unfolded::new(alloc, lists),
         }
     }
 }
 
-impl<'a> Evidence for AsOf<'a> {
+impl<'a, E: EventList> Evidence for AsOf<'a, E> {
     ghost use Rattle.std.specs.Prelude.{◌≡◌, true};
-    ghost use Rattle.htl_event.specs.Moments.{counted_events};
-    ghost use Rattle.htl_segment.specs.Traces.{all_events};
     ghost use Rattle.htl_evidence.specs.Kept.{one_by_one};
+    ghost use Rattle.htl_evidence.specs.Told.{IsOfCase, counted_own};
 
-    type Part = Unfolded<'a, Until<'a>>;
+    type Part = Unfolded<'a, E>;
 
     ghost keeps_events = { true };
 
-    ghost kept = { λ e. one_by_one (counted_events e.until (all_events e.trace.segments)) };
+    ghost kept = { λ e. one_by_one (counted_own e) };
 
-    ghost tells = { λ e question T until. (T ≡ e.trace) × (until ≡ e.until) };
+    ghost tells = { λ e question T until. IsOfCase e question T until };
 
-    fn parts(&self) -> &[Unfolded<'a, Until<'a>>] {
+    fn parts(&self) -> &[Unfolded<'a, E>] {
         from_ref(&self.part)
     }
 
@@ -88,15 +94,6 @@ impl<'a> Evidence for AsOf<'a> {
             Some(number) => Ok(number as u64),
             None => Err(NoMemory),
         }
-    }
-
-    fn listing(
-        &self,
-        alloc: Global,
-        process: u32,
-        handle: u32,
-    ) -> Result<Vec<SharedEvent>, NoMemory> {
-        self.case.trace(alloc, process, handle, self.until)
     }
 
     fn span(&self) -> Option<Span> {

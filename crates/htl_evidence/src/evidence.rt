@@ -2,22 +2,19 @@
 
 use crate::extent::Extent;
 use htl_answers::Part;
-use htl_event::{NoMemory, SharedEvent, Span};
+use htl_event::{NoMemory, Span};
 use std::alloc::Global;
 
 /// What is kept of a trace, from which questions are answered: its events in parts, and how much
 /// there is of it.
 pub trait Evidence {
-    ghost use Rattle.std.specs.Prelude.{◌≡◌, ◌<◌, ◌^◌, ◌∷◌, [], ℕ, Bool, true, map, IfOk, OnOk};
-    ghost use Rattle.std.specs.Prelude.{Contains, List, Option};
-    ghost use Rattle.htl_event.specs.Events.{Event};
-    ghost use Rattle.htl_event.specs.Handles.{HaveOwnSequences, IsListing};
+    ghost use Rattle.std.specs.Prelude.{◌≡◌, ◌<◌, ◌^◌, ℕ, Bool, true, map, IfOk, OnOk, Option};
     ghost use Rattle.htl_answers.specs.Parts.{size_of_all};
     ghost use Rattle.htl_segment.specs.Traces.{Trace};
     ghost use Rattle.htl_question.specs.declared.question.Question.{Question};
     ghost use Rattle.htl_question.specs.declared.question.Question.TheVariants as questions;
     ghost use Rattle.htl_evidence.specs.Bases.{IsExtentOf, IsSpanUntil};
-    ghost use Rattle.htl_evidence.specs.Kept.{Kept, Tells, unfolded};
+    ghost use Rattle.htl_evidence.specs.Kept.{Kept, Tells};
     ghost use Rattle.htl_evidence.specs.Outlines.{extent_of};
 
     /// What is kept of some of the events.
@@ -42,17 +39,6 @@ pub trait Evidence {
     fn events(&self) -> Result<u64, NoMemory>
         ensures value { IfOk result (λ number. number ≡ (kept self.now).number) }
         ensures few { OnOk result (size_of_all (kept self.now).parts < 2 ^ 64) };
-
-    /// The events of a handle, the newest first, where all events are kept. Only these are copied.
-    fn listing(
-        &self,
-        alloc: Global,
-        process: u32,
-        handle: u32,
-    ) -> Result<Vec<SharedEvent>, NoMemory>
-        ensures { IfOk result (λ rows. (own : List Event) → keeps_events ≡ true
-            → (kept self.now).parts ≡ unfolded own ∷ [] → HaveOwnSequences own
-            → IsListing (Contains own) process handle rows.items) };
 
     /// The moments from the first event of the trace to the last one that counts, where all events
     /// are kept.

@@ -3,7 +3,7 @@
 use crate::evidence::Evidence;
 use crate::extent::Extent;
 use htl_analyst::{Analyst, Part};
-use htl_event::{NoMemory, SharedEvent, Span};
+use htl_event::{NoMemory, Span};
 use std::alloc::Global;
 
 /// What an analyst folded of the segments that it took.
@@ -33,16 +33,6 @@ impl Evidence for Folds<'_> {
         // For the proof: the counts of its parts fit.
         let _parts = self.analyst.parts();
         Ok(self.analyst.events())
-    }
-
-    /// Events that were folded aren't kept, so none is listed.
-    fn listing(
-        &self,
-        alloc: Global,
-        _process: u32,
-        _handle: u32,
-    ) -> Result<Vec<SharedEvent>, NoMemory> {
-        Ok(Vec::new(alloc))
     }
 
     fn span(&self) -> Option<Span> {

@@ -73,15 +73,6 @@ impl<'a> Evidence for Picks<'a> {
         }
     }
 
-    fn listing(
-        &self,
-        alloc: Global,
-        process: u32,
-        handle: u32,
-    ) -> Result<Vec<SharedEvent>, NoMemory> {
-        self.case.trace(alloc, process, handle)
-    }
-
     fn span(&self) -> Option<Span> {
         span_until(self.until, self.case.span())
     }

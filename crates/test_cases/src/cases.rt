@@ -1,7 +1,7 @@
 //! Worked cases, conflicts and listings.
 
 use crate::rows::{assert_code, assert_row};
-use htl_case::{Case, CaseFault};
+use htl_case::{Case, CaseFault, events_of_handle};
 use htl_event::{EventList, SharedEvent};
 use htl_samples::{TRACE, Trace};
 use htl_segment::Segment;
@@ -166,9 +166,11 @@ const LISTINGS: &[(&[&str], u32, u32, Option<u64>, &[u64])] = &[
 fn listings_of_handles(rt: HostRuntime) {
     for (lines, process, handle, until, sequences) in LISTINGS {
         let case = case_of(&rt, rt.alloc(), lines);
-        let rows = case
-            .trace(rt.alloc(), *process, *handle, *until)
-            .expect(&rt, "the memory");
+        let lists = case.until(rt.alloc(), *until).expect(&rt, "the memory");
+        let rows = events_of_handle(rt.alloc(), &lists, *process, *handle).expect(
+            &rt,
+            "the memory",
+        );
         are_sequences(&rt, &rows, sequences);
     }
 }

@@ -3,8 +3,9 @@ use Rattle.std.proofs.Common.{rules}
 use Rattle.htl_evidence.proofs.answering.rows.Goals as goal
 use Rattle.htl_evidence.proofs.answering.rows.Goals.{in-Summary+in_ok-summary-in-Summary, in-Outstanding+in_ok-outstanding-in-Outstanding}
 use Rattle.htl_evidence.proofs.answering.rows.Goals.{in-Diff+in_ok-diff-in-Diff, in-Tags+in_ok-tags-in-Tags, in-Bad+in_ok-bad-in-Bad}
-use Rattle.htl_evidence.proofs.answering.rows.Goals.{in-Leaks+in_ok-leaks-in-Leaks, in-Stacks+in_ok-stacks-in-Stacks}
-use Rattle.htl_evidence.proofs.answering.rows.Goals.{in-Trace+in_ok-listing-in-Trace, in-Growth+in_ok-growth-in-Growth}
+use Rattle.htl_evidence.proofs.answering.rows.Goals.{in-Leaks+in_ok-leaks-in-Leaks, in-Sites+in_ok-sites-in-Sites}
+use Rattle.htl_evidence.proofs.answering.rows.Goals.{in-Stacks+in_ok-stacks-in-Stacks}
+use Rattle.htl_evidence.proofs.answering.rows.Goals.{in-Trace+in_ok-events_of_handle-in-Trace, in-Growth+in_ok-growth-in-Growth}
 
 pub returns : goal.returns
 returns g c = elim c.match-question.branch [
@@ -14,7 +15,8 @@ returns g c = elim c.match-question.branch [
   | in-Tags+in_ok-tags-in-Tags w ↦ rw (w.result-is, w.in-Tags.is) (search rules)
   | in-Bad+in_ok-bad-in-Bad w ↦ rw (w.result-is, w.in-Bad.is) (search rules)
   | in-Leaks+in_ok-leaks-in-Leaks w ↦ rw (w.result-is, w.in-Leaks.is) (search rules)
+  | in-Sites+in_ok-sites-in-Sites w ↦ rw (w.result-is, w.in-Sites.is) (search rules)
   | in-Stacks+in_ok-stacks-in-Stacks w ↦ rw (w.result-is, w.in-Stacks.is) (search rules)
-  | in-Trace+in_ok-listing-in-Trace w ↦ rw (w.result-is, w.in-Trace.is) (search rules)
+  | in-Trace+in_ok-events_of_handle-in-Trace w ↦ rw (w.result-is, w.in-Trace.is) (search rules)
   | in-Growth+in_ok-growth-in-Growth w ↦ rw (w.result-is, w.in-Growth.is) (search rules)
 ]

@@ -1,0 +1,124 @@
+//! A case of which many questions are asked.
+
+ghost use Rattle.std.specs.Prelude.{◌≡◌, Some, flat_map, IfOk};
+ghost use Rattle.htl_segment.specs.Traces.{all_events};
+ghost use Rattle.htl_event.specs.Moments.{counted_events};
+ghost use Rattle.htl_evidence.specs.Columns.{HaveColumns};
+ghost use Rattle.htl_evidence.specs.Told.{own_events};
+
+use crate::answering::answer;
+use crate::as_of::AsOf;
+use crate::columns::{Columns, columns_of};
+use crate::one::One;
+use htl_case::Case;
+use htl_event::{EventList, NoMemory, Span};
+use htl_question::{Answer, Question, Subject};
+use htl_segment::Segment;
+use std::alloc::Global;
+use std::marker::Model;
+use std::thread::Threads;
+
+/// A case, which may have an index: then a question about a process or an object looks at little
+/// more than its own events.
+#[derive(Drop)]
+pub struct Indexed {
+    case: Case,
+    columns: Option<Vec<Columns>>,
+}
+
+impl Model for Indexed {
+    ghost use Rattle.std.specs.Prelude.{IfSome};
+    ghost use Rattle.htl_segment.specs.Traces.{Trace};
+    ghost use Rattle.htl_evidence.specs.Columns.{HaveColumns};
+
+    ghost Value = { Trace };
+
+    ghost view = { λ i. i.case };
+
+    ghost invariant = { λ i. IfSome i.columns (λ all. HaveColumns i.case.segments all.items) };
+}
+
+impl Indexed {
+    ghost use Rattle.std.specs.Prelude.{◌≡◌, IfOk};
+    ghost use Rattle.htl_segment.specs.Traces.{all_events};
+    ghost use Rattle.htl_case.specs.Cases.{IsCase};
+    ghost use Rattle.htl_case.specs.Spans.{IsSpan};
+    ghost use Rattle.htl_evidence.specs.Bases.{IsAnswer};
+
+    /// The case without an index, which is enough for one question.
+    pub fn without(case: Case) -> Indexed
+        ensures { result ≡ case }
+    {
+        Indexed {
+            case,
+            columns: None,
+        }
+    }
+
+    /// The same case with an index, which takes two bytes an event. Where memory for it is refused,
+    /// the case has none.
+    pub fn with_index(self, alloc: Global) -> Indexed
+        ensures { result ≡ self }
+    {
+        let case = self.case;
+        let columns = columns_of(alloc, case.segments()).ok();
+        Indexed { case, columns }
+    }
+
+    /// The segments by processor, then by number, each once.
+    pub fn segments(&self) -> &[Segment]
+        ensures value { result.now ≡ self.now.segments }
+        // What every case keeps, so that callers have it too.
+        ensures is_case { IsCase self.now }
+    {
+        self.case.segments()
+    }
+
+    /// The first and the last sequence of all events, or none where there is no event.
+    pub fn span(&self) -> Option<Span>
+        ensures { IsSpan (all_events self.now.segments) result }
+    {
+        self.case.span()
+    }
+
+    /// The answer to a question over the events of the case up to a moment. It is made from the
+    /// segments where they lie, without folding any.
+    pub fn answer<Rt: Threads + Sync>(
+        &self,
+        rt: &Rt,
+        alloc: Global,
+        workers: u32,
+        until: Option<u64>,
+        question: Question,
+    ) -> Result<Answer, NoMemory>
+        ensures { IfOk result (IsAnswer self.now until question) }
+    {
+        if let (Some(columns), Some(subject)) = (&self.columns, question.subject()) {
+            let lists = own_lists(alloc, self.case.segments(), columns, subject, until)?;
+            let own = AsOf::new(alloc, &self.case, until, Some(subject), &lists);
+            return answer(rt, alloc, workers, &own, question);
+        }
+        let lists = self.case.until(alloc, until)?;
+        let all = AsOf::new(alloc, &self.case, until, None, &lists);
+        answer(rt, alloc, workers, &all, question)
+    }
+}
+
+/// The events of the subject's process or object, up to a moment.
+fn own_lists<'a>(
+    alloc: Global,
+    segments: &'a [Segment],
+    columns: &[Columns],
+    subject: Subject,
+    until: Option<u64>,
+) -> Result<Vec<One<'a>>, NoMemory>
+    requires { HaveColumns segments.now columns.now }
+    ensures { IfOk result (λ lists. flat_map ⟦<One<'a> as EventList>⟧.events_of lists.items
+        ≡ own_events (Some subject) (counted_events until (all_events segments.now))) }
+{
+    let mut lists = Vec::new(alloc);
+    for (place, segment) in segments.iter().enumerate() {
+        columns[place].push_own(&mut lists, segment.events(), subject, until)?;
+    }
+    Ok(lists)
+}

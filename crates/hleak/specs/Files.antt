@@ -1,8 +1,16 @@
--- What is left of a file.
-use Rattle.std.specs.Prelude.{◌≡◌, ◌<◌, ◌^◌, ◌-◌, ℕ, List, [], Option, Some, length}
+-- What a file holds, and what is left of it.
+use Rattle.std.specs.Prelude.{◌≡◌, ◌<◌, ◌^◌, ◌-◌, ℕ, List, [], Option, Some, length, string_bytes}
 use Rattle.htl_device.specs.Devices.{tail_of}
+use Rattle.htl_program.specs.Worlds.{Known}
+use Rattle.hleak.specs.declared.file.Place.{Place}
+use Rattle.hleak.specs.declared.file.Place.TheVariants.{Named, Standard}
 use Rattle.hleak.specs.declared.file.Stage.{Stage}
 use Rattle.hleak.specs.declared.file.Stage.TheVariants.{Found, Open, Ended}
+
+-- what is known of the bytes of the file that is opened by a name, or as standard input
+abbrev pub held_by : Known → Place → Option (List ℕ)
+held_by known (Named name) = known.holds (string_bytes name)
+held_by known Standard = known.standard
 
 -- what is left of a file that holds these bytes, of which so many in front aren't read
 abbrev pub left_of : {F : Type 0} → (F → Option (List ℕ)) → Option (List ℕ) → ℕ → Stage F → Option (List ℕ)

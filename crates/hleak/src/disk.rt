@@ -3,7 +3,8 @@
 //! known, and the machine is a disk of which nothing is known. Each body of it here is a line or two,
 //! to be read; `.ci/statuses`, `.ci/picks` and `.ci/ask` test them.
 
-ghost use Rattle.std.specs.Prelude.{◌≡◌, ℕ, Bool, IfOk, IfSome, List, None, Option, false, true};
+ghost use Rattle.std.specs.Prelude.{◌≡◌, ℕ, Bool, IfOk, IfSome, List, None, Option, false, is_some};
+ghost use Rattle.std.specs.Prelude.{length, true};
 ghost use Rattle.htl_device.specs.Devices.{tail_of};
 ghost use Rattle.htl_program.specs.Worlds.{Known};
 ghost use Rattle.hleak.specs.Disks.{IsAnswered, IsFound};
@@ -52,12 +53,22 @@ pub trait Disk: Copy {
         ensures bytes { IfOk result (λ read. IfSome ((known self.now).holds name.now)
             (λ bytes. read.items ≡ bytes)) };
 
-    /// Standard input.
+    /// Standard input, to be read from where it stands.
     fn standard(&self) -> Self::File
         ensures { Self.File.remaining result ≡ (known self.now).standard };
 
-    /// The number of bytes of standard input, where it is a regular file.
-    fn standard_len(&self) -> Option<u64>;
+    /// The number of bytes of standard input, where it is a regular file of which nothing was read
+    /// and that can be opened again.
+    fn standard_len(&self) -> Option<u64>
+        ensures len { IfSome result (λ len. IfSome (known self.now).standard
+            (λ bytes. length bytes ≡ len)) }
+        ensures again { is_some result ≡ true
+            → (known self.now).standard_can_be_read_again ≡ true };
+
+    /// The regular file that is standard input, opened again, to be read from an offset on.
+    fn open_standard(&self, offset: u64) -> io::Result<Self::File>
+        ensures { IfOk result (λ file.
+            Self.File.remaining file ≡ tail_of offset (known self.now).standard) };
 
     /// Whether a name gives the same bytes, as fast, when it is opened again.
     fn can_be_read_again(&self, name: &str) -> bool
@@ -66,6 +77,9 @@ pub trait Disk: Copy {
     /// Whether the name is that of a pipe.
     fn is_pipe(&self, name: &str) -> bool;
 }
+
+/// What standard input is, as the system names it.
+const STANDARD: &str = "/dev/stdin";
 
 /// A file of the machine, or its standard input.
 #[derive(Drop)]
@@ -91,6 +105,7 @@ impl Disk for HostRuntime {
       is_absent = λ _. false;
       can_be_read_again = λ _. true;
       standard = None;
+      standard_can_be_read_again = true;
     } };
 
     ghost is_stream = { λ _ _. None };
@@ -119,8 +134,18 @@ impl Disk for HostRuntime {
         MachineFile::Standard(self.stdin())
     }
 
+    /// Where the system doesn't say how far it was read, it isn't opened again.
     fn standard_len(&self) -> Option<u64> {
-        known_len(&fs::metadata(self, "/dev/stdin"))
+        let len = known_len(&fs::metadata(self, STANDARD))?;
+        let position = fs::read_to_string(self, "/proc/self/fdinfo/0").ok()?;
+        if !position.starts_with("pos:\t0\n") || File::open(self, STANDARD).is_err() {
+            return None;
+        }
+        Some(len)
+    }
+
+    fn open_standard(&self, offset: u64) -> io::Result<MachineFile> {
+        self.open(STANDARD, offset)
     }
 
     fn can_be_read_again(&self, name: &str) -> bool {

@@ -1,11 +1,10 @@
 //! A file that is open only while it is read.
 
 ghost use Rattle.std.specs.Prelude.{◌≡◌, ◌≤◌, ◌↔◌, IfOk, IfSome, OnErr, OnOk, false, length, true};
-ghost use Rattle.std.specs.Prelude.{string_bytes};
 ghost use Rattle.std.specs.Io.KnownBytes.{ReadConsumes};
 ghost use Rattle.htl_device.specs.Devices.{tail_of};
 ghost use Rattle.hleak.specs.Disks.{IsAnswered};
-ghost use Rattle.hleak.specs.Files.{IsLenBehind, left_of};
+ghost use Rattle.hleak.specs.Files.{IsLenBehind, held_by, left_of};
 ghost use Rattle.hleak.specs.Stages.{IsBegun, IsStageAfter, is_unread};
 
 use crate::disk::{Disk, Found};
@@ -23,18 +22,39 @@ pub enum Stage<F> {
     Ended,
 }
 
-/// A file of a name, which is opened at its first read and closed once its end is found. Or standard
-/// input, which is open from the first.
+/// What a file is opened by.
+#[derive(Drop)]
+pub enum Place {
+    Named(String),
+    /// Standard input, where it is a regular file.
+    Standard,
+}
+
+impl Place {
+    /// The file from an offset on.
+    fn open<D: Disk>(&self, disk: D, offset: u64) -> io::Result<D::File>
+        ensures { IfOk result (λ file.
+            D.File.remaining file ≡ tail_of offset (held_by (D.known disk) self.now)) }
+    {
+        match self {
+            Place::Named(name) => disk.open(name, offset),
+            Place::Standard => disk.open_standard(offset),
+        }
+    }
+}
+
+/// A regular file, which is opened at its first read and closed once its end is found. Or a stream,
+/// which is open from the first.
 #[derive(Drop)]
 pub struct InputFile<D: Disk> {
     disk: D,
-    name: String,
+    place: Place,
     /// The length of a regular file as it was found, less the skipped bytes.
     len: Option<u64>,
     /// How many bytes in front aren't read.
     skipped: u64,
     stage: Stage<D::File>,
-    ghost fits: { IsLenBehind len skipped ((D.known disk).holds (string_bytes name)) },
+    ghost fits: { IsLenBehind len skipped (held_by (D.known disk) place) },
 }
 
 impl<D: Disk> InputFile<D> {
@@ -52,7 +72,7 @@ impl<D: Disk> InputFile<D> {
             len,
             is_stream,
         } = disk.find(name)?;
-        let name = String::from_str(alloc, name)?;
+        let place = Place::Named(String::from_str(alloc, name)?);
         let stage = if is_stream {
             Stage::Open(file)
         } else {
@@ -60,20 +80,36 @@ impl<D: Disk> InputFile<D> {
         };
         Ok(InputFile {
             disk,
-            name,
+            place,
             len,
             skipped: 0,
             stage,
         })
     }
 
-    /// Standard input.
-    pub fn standard(disk: D, alloc: Global) -> InputFile<D>
+    /// Standard input. It is opened again where it is a regular file of which nothing was read.
+    pub fn standard(disk: D) -> InputFile<D>
+        ensures { ⟦<InputFile<D> as Read>⟧.remaining result ≡ (D.known disk).standard }
+    {
+        match disk.standard_len() {
+            Some(len) => InputFile {
+                disk,
+                place: Place::Standard,
+                len: Some(len),
+                skipped: 0,
+                stage: Stage::Found,
+            },
+            None => InputFile::standard_stream(disk),
+        }
+    }
+
+    /// Standard input as a stream, read from where it stands.
+    pub fn standard_stream(disk: D) -> InputFile<D>
         ensures { ⟦<InputFile<D> as Read>⟧.remaining result ≡ (D.known disk).standard }
     {
         InputFile {
             disk,
-            name: String::new(alloc),
+            place: Place::Standard,
             len: None,
             skipped: 0,
             stage: Stage::Open(disk.standard()),
@@ -100,8 +136,8 @@ impl<D: Disk> InputFile<D> {
         ensures { IfOk result (λ file. D.File.remaining file
             ≡ tail_of offset (⟦<InputFile<D> as Read>⟧.remaining self.now)) }
     {
-        self.disk
-            .open(&self.name, self.skipped.saturating_add(offset))
+        self.place
+            .open(self.disk, self.skipped.saturating_add(offset))
     }
 
     /// Skips bytes of a regular file of which nothing was read: reading begins behind them.
@@ -122,11 +158,11 @@ impl<D: Disk> InputFile<D> {
             × (self.new.stage ≡ Stage.Found)) }
         ensures bytes { ⟦<InputFile<D> as Read>⟧.remaining self.new
             ≡ ⟦<InputFile<D> as Read>⟧.remaining self.old }
-        ensures same { (self.new.name ≡ self.old.name) × (self.new.len ≡ self.old.len)
+        ensures same { (self.new.place ≡ self.old.place) × (self.new.len ≡ self.old.len)
             × (self.new.skipped ≡ self.old.skipped) }
     {
         if let Stage::Found = self.stage {
-            self.stage = Stage::Open(self.disk.open(&self.name, self.skipped)?);
+            self.stage = Stage::Open(self.place.open(self.disk, self.skipped)?);
         }
         Ok(())
     }
@@ -140,7 +176,7 @@ impl<D: Disk> InputFile<D> {
             (⟦<InputFile<D> as Read>⟧.remaining self.new) result buffer.new }
         ensures stage { IfOk result (λ count.
             IsStageAfter self.old.stage (length buffer.old) count self.new.stage) }
-        ensures same { (self.new.name ≡ self.old.name) × (self.new.len ≡ self.old.len)
+        ensures same { (self.new.place ≡ self.old.place) × (self.new.len ≡ self.old.len)
             × (self.new.skipped ≡ self.old.skipped) }
     {
         self.begin()?;
@@ -156,7 +192,7 @@ impl<D: Disk> InputFile<D> {
 }
 
 impl<D: Disk> Read for InputFile<D> {
-    ghost remaining = { λ s. left_of D.File.remaining ((D.known s.disk).holds (string_bytes s.name))
+    ghost remaining = { λ s. left_of D.File.remaining (held_by (D.known s.disk) s.place)
         s.skipped s.stage };
 
     fn read(&mut self, buffer: &mut [u8]) -> io::Result<usize> {

@@ -15,6 +15,7 @@ use crate::voice::Voice;
 use htl_device::Source;
 use htl_program::{OpenFault, World};
 use std::io;
+use std::io::Read;
 
 /// What the program opens. What is read of it is counted where somebody watches, and why something is
 /// refused is noted.
@@ -53,14 +54,13 @@ impl<'p, D: Disk> Machine<'p, D> {
         }
     }
 
-    /// Standard input, which is counted where somebody watches. What a person types is not.
-    fn standard(&self, progress: Option<&'p Progress>) -> InputSource<'p, D>
+    /// A source of a file that was just opened.
+    fn source(&self, file: InputFile<D>, progress: Option<&'p Progress>) -> InputSource<'p, D>
         ensures { ⟦<InputSource<'p, D> as Source>⟧.state result
-            ≡ fresh (D.known self.now.disk).standard }
+            ≡ fresh (⟦<InputFile<D> as Read>⟧.remaining file) }
     {
-        let progress = progress.filter(|_| !self.is_typed);
-        let file = InputFile::standard(self.disk, self.voice.rt.alloc());
-        InputSource::new(Input::new(file, self.disk.standard_len(), progress, self.voice.refusal))
+        let len = file.len();
+        InputSource::new(Input::new(file, len, progress, self.voice.refusal))
     }
 }
 
@@ -76,8 +76,7 @@ where
     fn open(&mut self, name: &str) -> Result<InputSource<'p, D>, OpenFault> {
         self.await_writer(name);
         let file = self.opened(InputFile::find(self.disk, self.voice.rt.alloc(), name))?;
-        let len = file.len();
-        Ok(InputSource::new(Input::new(file, len, self.voice.progress, self.voice.refusal)))
+        Ok(self.source(file, self.voice.progress))
     }
 
     fn read(&mut self, name: &str) -> Result<Vec<u8>, OpenFault> {
@@ -85,16 +84,22 @@ where
         self.opened(self.disk.read(name))
     }
 
+    /// It is counted where somebody watches. What a person types is not.
     fn standard_input(&mut self) -> InputSource<'p, D> {
-        self.standard(self.voice.progress)
+        let progress = self.voice.progress.filter(|_| !self.is_typed);
+        self.source(InputFile::standard(self.disk), progress)
     }
 
     fn questions(&mut self) -> InputSource<'p, D> {
-        self.standard(None)
+        self.source(InputFile::standard_stream(self.disk), None)
     }
 
     fn can_be_read_again(&self, name: &str) -> bool {
         self.disk.can_be_read_again(name)
+    }
+
+    fn standard_can_be_read_again(&self) -> bool {
+        self.disk.standard_len().is_some()
     }
 }
 

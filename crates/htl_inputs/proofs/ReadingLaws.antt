@@ -1,6 +1,6 @@
 -- Sources are read one after another to their ends, up to the one at which a run ends.
-use Rattle.std.proofs.Common.{◌≡◌, ◌<◌, ◌≤◌, ◌+◌, ℕ, Bool, false, List, length, map, take, All, refl, sym, ap, ◌∙◌, arith, inl, inr}
-use Rattle.std.proofs.Common.{IfSome, Option, Some, Result, Ok, Err, get_or, length-set}
+use Rattle.std.proofs.Common.{◌≡◌, ◌<◌, ◌≤◌, ◌+◌, ℕ, Bool, false, List, length, map, take, All, refl, sym, ap, ◌∙◌, arith, inl, inr, IfSome, Option, Some}
+use Rattle.std.proofs.Common.{Result, Ok, Err, get_or, length-set}
 use Rattle.std.specs.Prelude.{IfErr, option_map, slice_get}
 use Rattle.std.proofs.Math.ListN.{set}
 use Rattle.std.proofs.lemmas.Bool.{false_from_ne_true}
@@ -10,18 +10,19 @@ use Rattle.std.proofs.lemmas.Option.{slice_get-get_or, slice_get-map, slice_get_
 use Rattle.htl_device.specs.States.{AreOpen, IsOpen, SourceState, ends, good_reads, has_ended, has_failed, lefts, remaining}
 use Rattle.htl_device.specs.declared.whole.TheConstants.{MAX_READS}
 use Rattle.htl_device.specs.declared.source.TheConstants.{MAX_READ_LEN}
+use Rattle.htl_reading.specs.Sources.{AsksReaders}
 use Rattle.htl_segment.specs.Content.{Content}
 use Rattle.htl_segment.proofs.Spans.{at_place}
 use Rattle.htl_command.specs.declared.question.InputForm.{InputForm}
 use Rattle.htl_inputs.specs.Inputs.{DecodeAll, StopsAtInput}
 use Rattle.htl_inputs.specs.Reads.{IsRead, NeverRead}
-use Rattle.htl_inputs.specs.Readings.{AreRead}
+use Rattle.htl_inputs.specs.Readings.{AreRead, AskForReaders, readers_of}
 use Rattle.htl_inputs.specs.Sources.{AreReadToFault, AreReadWithin, EndsBefore, IsReportedAt, IsReportedOfSource, IsTrueAt}
 use Rattle.htl_inputs.specs.declared.fault.RunFault.{RunFault}
 use Rattle.htl_inputs.specs.declared.fault.RunFault.TheVariants.{Memory, Read, Workers}
 use Rattle.htl_inputs.proofs.SourceLaws.{at_known, ended_next, endless_at, known_now, knows_now, none_read, none_read_within, one_read, one_read_within}
 use Rattle.htl_inputs.proofs.SourceLaws.{other_value, read_no_fault, slice_get-set_other, stopped_at, stopped_before, true_nowhere, true_of_all, true_of_new}
-use Rattle.htl_inputs.proofs.SourceLaws.{true_there, value_there}
+use Rattle.htl_inputs.proofs.SourceLaws.{true_there, value_there, one_asked}
 
 -- a run that ends well, with a value
 abbrev pub well : {S : Type 0} → S → Result S RunFault
@@ -290,6 +291,13 @@ module _ {R : Type 0} {state : R → SourceState} {is_text : Bool} {first now : 
         → AreRead is_text (map state first) (map state (set now place y)) (ill {S = T} Memory)
     refused_there value is = rw (map-set state now place y) (refused_after is_text (map state first) (map state now) place (state x) (state y)
         next.before within_now here_now value is)
+
+    -- other readers of it were asked for, as of those before it
+    pub asks_more : (workers : ℕ) → AskForReaders is_text workers (map state first) (map state now)
+        → AsksReaders (readers_of is_text workers) (remaining (state x)) (state x) (state y)
+        → AskForReaders is_text workers (map state first) (map state (set now place y))
+    asks_more workers before one = rw (map-set state now place y) (one_asked is_text workers (map state first) (map state now) place (state x)
+        (state y) within_now left_now here_now before one)
 
     -- what is left of it, and whether its end was found
     pub left_there : slice_get (lefts (map state (set now place y))) place ≡ Some (remaining (state y))

@@ -1,17 +1,20 @@
 -- Of sources that are read one after another, what is known and reported follows from those before and from the last one read.
-use Rattle.std.proofs.Common.{◌≡◌, ◌⊎◌, ◌<◌, ◌≤◌, ◌+◌, ℕ, zero, suc, Bool, true, false, List, [], ◌∷◌, length, map, All, refl, sym, ap, ◌∙◌}
-use Rattle.std.proofs.Common.{Option, Some, None, IfSome, arith, inl, inr}
+use Rattle.std.proofs.Common.{◌≡◌, ◌⊎◌, ◌<◌, ◌≤◌, ◌+◌, ℕ, zero, suc, Bool, true, false, List, [], ◌∷◌, length, map, All, refl, sym, ap, ◌∙◌, Option, Some, None}
+use Rattle.std.proofs.Common.{IfSome, arith, inl, inr}
 use Rattle.std.specs.Prelude.{slice_get, option_map}
 use Rattle.std.proofs.Math.ListN.{set}
 use Rattle.std.proofs.KnownBytes.{Consumes-nil}
 use Rattle.std.proofs.lemmas.Bool.{cases_lt}
 use Rattle.std.proofs.lemmas.List.Elements.{All-cons, All-head, All-nil, All-tail}
 use Rattle.std.proofs.lemmas.Option.{slice_get-map}
+use Rattle.htl_device.specs.States.{SourceState}
 use Rattle.htl_device.specs.declared.whole.TheConstants.{MAX_READS}
 use Rattle.htl_segment.specs.Content.{Fits}
 use Rattle.htl_inputs.specs.Sources.{AreReadInOrder, AreReadToFault, AreReadWithin, IsEndless, IsTrueAt, ReadsNoFault}
-use Rattle.htl_reading.specs.Sources.{IsReadToFault}
+use Rattle.htl_reading.specs.Sources.{IsReadToFault, AsksReaders}
+use Rattle.htl_inputs.specs.Readings.{AskForReaders, readers_of}
 use Rattle.htl_reading.proofs.FaultLaws.{read_without_fault}
+use Rattle.htl_reading.proofs.ReadLaws.{asks_none}
 
 -- setting one place of a list leaves each other as it is
 pub slice_get-set_other : {X : Type 0} (xs : List X) (i k : ℕ) (y : X) → (k ≡ i → ⊥) → slice_get (set xs i y) k ≡ slice_get xs k
@@ -205,3 +208,26 @@ one_read_within reads first now i x y within before here few place old new is af
           rw (old_is, new_is) few
       | inr other ↦ before place old new is (sym (other_value reads now i place y other) ∙ after)
     ]
+
+-- ---- other readers
+
+module _ (is_text : Bool) (workers : ℕ) where
+  -- where no source was read, no other reader was asked for
+  pub none_asked : (states : List SourceState) → AskForReaders is_text workers states states
+  none_asked states place before after here there =
+      let same : before ≡ after = cc (here, there) in rw same (asks_none (readers_of is_text workers) after.remaining after after refl)
+
+  -- one source more was read
+  pub one_asked : (first now : List SourceState) (i : ℕ) (x y : SourceState) → i < length now → slice_get now i ≡ slice_get first i
+      → slice_get now i ≡ Some x → AskForReaders is_text workers first now → AsksReaders (readers_of is_text workers) x.remaining x y
+      → AskForReaders is_text workers first (set now i y)
+  one_asked first now i x y within left here so_far one place before after was is =
+      elim (same_or_other place i) [
+        | inl same ↦
+            let there : slice_get (set now i y) place ≡ Some y = rw same (slice_get-set_same now i y within) in
+            let begun : slice_get first place ≡ Some x = rw same (sym left ∙ here) in
+            let before_is : before ≡ x = cc (was, begun) in
+            let after_is : after ≡ y = cc (is, there) in
+            rw (before_is, after_is) one
+        | inr other ↦ so_far place before after was (sym (slice_get-set_other now i place y other) ∙ is)
+      ]

@@ -1,13 +1,13 @@
 -- For the clauses of steps of a run: how the reading of the source at a place may end, and that of all sources.
-use Rattle.std.specs.Prelude.{◌≡◌, ◌≢◌, ◌<◌, ◌≤◌, ◌+◌, ◌⊎◌, ℕ, Bool, true, false, List, length}
-use Rattle.std.specs.Prelude.{Option, IfSome, IfErr, OnOk, MatchResult, Result, Err}
+use Rattle.std.specs.Prelude.{◌≡◌, ◌≢◌, ◌<◌, ◌≤◌, ◌+◌, ◌⊎◌, ℕ, Bool, true, false, List, length, Option, IfSome, IfErr, OnOk, MatchResult}
+use Rattle.std.specs.Prelude.{Result, Err}
 use Rattle.htl_device.specs.States.{IfKnown, SourceState, ends, good_reads, has_ended, has_failed, lefts, remaining}
 use Rattle.htl_device.specs.declared.source.TheConstants.{MAX_READ_LEN}
 use Rattle.htl_reading.specs.Sources.{IsReadToFault}
 use Rattle.htl_segment.specs.declared.hexadecimal.HexFault.{HexFault}
 use Rattle.htl_command.specs.declared.question.InputForm.{InputForm}
 use Rattle.htl_inputs.specs.Inputs.{StopsAtInput}
-use Rattle.htl_inputs.specs.Readings.{AreRead}
+use Rattle.htl_inputs.specs.Readings.{AreRead, AskForReaders}
 use Rattle.htl_inputs.specs.Sources.{EndsBefore, IsReportedAt}
 use Rattle.htl_inputs.specs.declared.fault.RunFault.{RunFault}
 use Rattle.htl_inputs.specs.declared.fault.RunFault.TheVariants.{Hex, Memory, Read, Write}
@@ -46,11 +46,12 @@ pub record IsRead {S : Type 0} (is_text : Bool) (most : ℕ) (place : ℕ) (old 
   pub named : NamesOnly place result
   pub to_fault : is_text ≡ false → IsReadToFault MAX_READ_LEN (remaining old) (remaining new)
 
--- How all sources are read, and what they give, or why the reading stops, where their bytes are known.
-pub record ReadsAll {S : Type 0} (is_text : Bool) (old new : List SourceState) (Gives : List (List ℕ) → S → Type 0)
+-- How all sources are read by so many workers, and what they give, or why the reading stops, where their bytes are known.
+pub record ReadsAll {S : Type 0} (is_text : Bool) (workers : ℕ) (old new : List SourceState) (Gives : List (List ℕ) → S → Type 0)
     (Stops : List (List ℕ) → RunFault → Type 0) (result : Result S RunFault) : Type 0 where
   pub outcome : IfKnown old (λ texts. MatchResult result (Gives texts) (Stops texts))
   pub reading : AreRead is_text old new result
+  pub readers : AskForReaders is_text workers old new
 
 -- the sources before one are decoded, and this is reported of that one
 abbrev pub StopsIn : InputForm → List SourceState → List (List ℕ) → RunFault → Type 0

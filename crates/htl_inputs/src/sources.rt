@@ -6,6 +6,8 @@ ghost use Rattle.htl_inputs.specs.Ends.{IsInput};
 ghost use Rattle.htl_inputs.specs.Spans.{AreDecoded};
 ghost use Rattle.htl_inputs.specs.Reads.{IsRead, NeverWrite, ReadsAll, StopsIn};
 ghost use Rattle.htl_inputs.specs.Sources.{IsReportedOfSource};
+ghost use Rattle.htl_reading.specs.Sources.{AsksReaders};
+ghost use Rattle.htl_inputs.specs.Readings.{readers_of};
 
 use crate::cuts::{Accepted, accept};
 use crate::decoded::Decoded;
@@ -28,7 +30,7 @@ pub fn read_all<Rt: Threads + Sync, R: Parted>(
     sources: &mut [R],
 ) -> Result<Decoded, RunFault>
     requires ready { AreOpen (map R.state sources.old) }
-    ensures reads { ReadsAll form.hex (map R.state sources.old) (map R.state sources.new)
+    ensures reads { ReadsAll form.hex workers (map R.state sources.old) (map R.state sources.new)
         (AreDecoded form) (StopsIn form (map R.state sources.new)) result }
     ensures no_write { NeverWrite result }
 {
@@ -58,6 +60,8 @@ fn read_input<Rt: Threads + Sync, R: Parted>(
         place bytes fault)) }
     ensures reading { IsRead form.hex MAX_READS place (R.state source.old)
         (R.state source.new) result }
+    ensures readers { AsksReaders (readers_of form.hex workers) (R.state source.old).remaining
+        (R.state source.old) (R.state source.new) }
     ensures no_write { NeverWrite result }
 {
     if form.hex {

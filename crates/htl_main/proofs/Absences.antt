@@ -13,6 +13,7 @@ use Rattle.htl_event.specs.Events.{Event}
 use Rattle.htl_event.specs.Handles.{IsDiff, IsListing, IsOfHandle, IsOpen}
 use Rattle.htl_event.specs.Members.{Lists}
 use Rattle.htl_event.specs.Moments.{counted_events}
+use Rattle.htl_event.specs.Sites.{Site, AreOpenAnywhere, CountsSince, IsSite, IsSites}
 use Rattle.htl_event.specs.Slots.{base_of, is_counted, is_slot, slot_by_kind}
 use Rattle.htl_event.specs.Summaries.{IsObjectRow, IsProcessRow, IsProcesses, IsUnbalanced, is_unbalanced}
 use Rattle.htl_event.specs.Tallies.{AreOpenSince, IsBad, IsLeaksSince, IsPositive, IsStacks, IsTags, balance, count_where, has_stack, tally, times}
@@ -25,19 +26,19 @@ use Rattle.htl_event.specs.declared.slot.Slot.{Slot}
 use Rattle.htl_event.specs.declared.slot.Slot.TheVariants.{Bad as bad_of, Tagged}
 use Rattle.htl_event.specs.declared.summary.ObjectRow.{ObjectRow}
 use Rattle.htl_event.specs.declared.summary.ProcessRow.{ProcessRow}
+use Rattle.htl_event.specs.declared.since.Since.{Since}
+use Rattle.htl_event.specs.declared.since.Since.TheVariants.{Sequence, Snapshot}
 use Rattle.htl_segment.specs.Traces.{Trace, all_events}
 use Rattle.htl_question.specs.Answers.{AreRows, IsSinceIfGiven, after, process_of}
 use Rattle.htl_question.specs.Bases.{Basis}
-use Rattle.htl_question.specs.Questions.{asks_since, subject_of}
+use Rattle.htl_question.specs.Questions.{asks_since}
 use Rattle.htl_question.specs.Rows.{Found, Listed, has_finding, has_rows}
-use Rattle.htl_question.specs.Subjects.{is_about, is_of, names_handle, names_object}
+use Rattle.htl_question.specs.Subjects.{is_of, names_handle, names_object}
 use Rattle.htl_question.specs.declared.question.Question.{Question}
 use Rattle.htl_question.specs.declared.question.Question.TheVariants as questions
-use Rattle.htl_question.specs.declared.question.Since.{Since}
-use Rattle.htl_question.specs.declared.question.Since.TheVariants.{Sequence, Snapshot}
 use Rattle.htl_question.specs.declared.subject.Subject.TheVariants as subjects
 use Rattle.htl_evidence.specs.Bases.{IsAnswer}
-use Rattle.htl_main.specs.Subjects.{absence_by, absence_in, is_below_last, is_growth, given_sequence, later_absence, since_of}
+use Rattle.htl_main.specs.Subjects.{absence_by, absence_in, has_subject, is_below_last, is_growth, given_sequence, later_absence, since_of}
 use Rattle.htl_main.specs.declared.completed.Absence.{Absence}
 
 -- ---- lists without elements
@@ -93,6 +94,22 @@ no_leaks events p since least rows none is =
     lists_none (λ (row : List ℕ × ℕ). (row.1 ≡ count_by (has_stack row.0) is.handles) × ((0 < row.1) × (least ≤ row.1))) rows is.stacks (λ row h.
     let number = h.0 in let some = h.1.0 in
     let zero : count_by (has_stack row.0) is.handles ≡ 0 = ap (λ (es : List Event). count_by (has_stack row.0) es) empty in
+    omega (arith, number, some, zero))
+
+-- nor of any process
+no_handles_anywhere : (events : List Event) (since : ℕ) (rows : List Event)
+    → ((e : Event) → Contains events e → since < e.sequence → ⊥) → AreOpenAnywhere (Contains events) (Some (Sequence since)) rows → rows ≡ []
+no_handles_anywhere events since rows none are =
+    lists_none (λ e. IsOpen (Contains events) e.process e × CountsSince (Contains events) (Some (Sequence since)) e) rows are
+    (λ e h. none e h.0.latest.here h.1)
+
+no_sites : (events : List Event) (since : ℕ) (least : ℕ) (rows : List Site)
+    → ((e : Event) → Contains events e → since < e.sequence → ⊥) → IsSites (Contains events) (Some (Sequence since)) least rows → rows ≡ []
+no_sites events since least rows none is =
+    let empty = no_handles_anywhere events since is.handles none is.are in
+    lists_none (λ (site : Site). IsSite is.handles site × ((0 < site.handles) × (least ≤ site.handles))) rows is.stacks (λ site h.
+    let number = (h.0).opened in let some = h.1.0 in
+    let zero : count_by (has_stack site.stack) is.handles ≡ 0 = ap (λ (es : List Event). count_by (has_stack site.stack) es) empty in
     omega (arith, number, some, zero))
 
 -- since a moment that is given or not
@@ -223,7 +240,7 @@ in_summary : (processes : List ProcessRow) (objects : List ObjectRow) → proces
 in_summary processes objects p o = rw (p, o) refl
 
 no_subject : (B : Basis) (question : Question) (since : Option ℕ) (rows : Listed) → is_growth question ≡ false
-    → list_any (is_about (subject_of question)) B.events ≡ false → AreRows B question since rows → has_finding rows ≡ false
+    → has_subject question B.events ≡ false → AreRows B question since rows → has_finding rows ≡ false
 no_subject B questions.Summary since rows other none is =
     let empty : B.events ≡ [] = none_there B.events (λ e h. not_there (λ x. true) B.events none e h refl) in
     ap has_finding is.4 ∙ in_summary is.2 is.3
@@ -239,6 +256,7 @@ no_subject B (questions.Tags o) since rows other none is =
 no_subject B (questions.Bad p) since rows other none is = ap has_finding is.1 ∙ rows_found is.0 (no_bad p B.events is.0 none is.2)
 no_subject B (questions.Leaks p from least) since rows other none is =
     ap has_finding is.1 ∙ rows_found is.0 (no_leaks B.events p since least is.0 (none_since p B.events none since) is.2)
+no_subject B (questions.Sites from least) since rows other none is = absurd (cc none)
 no_subject B (questions.Stacks o t) since rows other none is = ap has_finding is.1 ∙ rows_found is.0 (no_stacks o t B.events is.0 none is.2)
 no_subject B (questions.Trace p handle) since rows other none is =
     ap has_finding is.1 ∙ rows_found is.0 (no_listing p handle B.events is.0 none is.2)
@@ -270,6 +288,11 @@ nothing_later B (questions.Diff p from) since rows n given at none is =
 nothing_later B (questions.Leaks p from least) since rows n given at none is =
     ap has_finding is.1 ∙ rows_found is.0 (no_leaks B.events p (Some n) least is.0 (none_later B.events p n none)
     (subst (λ (m : Option ℕ). IsLeaksSince (Contains B.events) p m least is.0) at is.2))
+nothing_later B (questions.Sites (Some (Sequence m)) least) since rows n given at none is =
+    let since_n : m ≡ n = some_is m n given in
+    ap has_finding is.1 ∙ rows_found is.0 (no_sites B.events m least is.0 (λ e here later. none e here (subst (λ (k : ℕ). k < e.sequence) since_n later)) is.2)
+nothing_later B (questions.Sites (Some Snapshot) least) since rows n given at none is = absurd (cc given)
+nothing_later B (questions.Sites None least) since rows n given at none is = absurd (cc given)
 nothing_later B questions.Summary since rows n given at none is = absurd (cc given)
 nothing_later B (questions.Outstanding p) since rows n given at none is = absurd (cc given)
 nothing_later B (questions.Tags o) since rows n given at none is = absurd (cc given)
@@ -306,11 +329,10 @@ pub nothing_found : (T : Trace) (until : Option ℕ) (question : Question) (answ
     → absence_in question until (all_events T.segments) ≡ Some absence → IsAnswer T until question answer → has_finding answer.rows ≡ false
 nothing_found T until question answer absence other absent is =
     let B = is.0 in let counted = is.1.events in let over = is.2 in
-    elim (absence_is (list_any (is_about (subject_of question)) (counted_events until (all_events T.segments))) question until
+    elim (absence_is (has_subject question (counted_events until (all_events T.segments))) question until
     (all_events T.segments) absence absent) [
       | inl none ↦
-          let here : list_any (is_about (subject_of question)) B.events ≡ false =
-          ap (λ (es : List Event). list_any (is_about (subject_of question)) es) counted ∙ none in
+          let here : has_subject question B.events ≡ false = ap (λ (es : List Event). has_subject question es) counted ∙ none in
           no_subject B question answer.since answer.rows other here over.rows
       | inr later ↦
           let at = since_given B.events (process_of question) (asks_since question) answer.since later.0 later.1 over.since in

@@ -17,13 +17,14 @@ use Rattle.htl_segment.specs.Traces.{Trace, all_events}
 use Rattle.htl_case.specs.Cases.{IsCaseOf}
 use Rattle.htl_case.specs.Picked.{Picked, IsPickedUntil}
 use Rattle.htl_command.specs.declared.question.Job.{Job}
-use Rattle.htl_question.specs.Questions.{Serves, subject_of}
+use Rattle.htl_question.specs.Questions.{Serves, is_of_all_handles, subject_of}
 use Rattle.htl_question.specs.Subjects.{is_about}
 use Rattle.htl_question.specs.declared.question.Question.{Question}
 use Rattle.htl_question.proofs.About.{about_is_wanted, all_of_subject, unseen_stack, wanted_is_about}
 use Rattle.htl_symbols.proofs.Searches.{list_any-true, list_any-false}
 use Rattle.htl_main.specs.Picked.{TellsOfNoHandle}
 use Rattle.htl_main.specs.Picking.{is_of_open_handles, IsPickedAsOf}
+use Rattle.htl_main.specs.Subjects.{has_subject}
 use Rattle.htl_main.specs.Moments.{IsNamedMoment}
 
 -- ---- what the question is about
@@ -33,10 +34,10 @@ empty [] none = refl
 empty (x ∷ xs) none = absurd (none x (Contains-here x xs))
 
 -- an event that the question is about is wanted, unless only open handles are
-is_wanted : (question : Question) (interest : Interest) (e : Event) → Serves question interest
+is_wanted : (question : Question) (interest : Interest) (e : Event) → Serves question interest → is_of_all_handles question ≡ false
     → is_of_open_handles interest ≡ false → is_about (subject_of question) e ≡ true → wants interest e ≡ true
-is_wanted question interest e serves other about =
-    let all = all_of_subject question interest serves (λ p opens. cc (sym (ap is_of_open_handles opens) ∙ other)) in
+is_wanted question interest e serves some other about =
+    let all = all_of_subject question interest serves some (λ p opens. cc (sym (ap is_of_open_handles opens) ∙ other)) in
     rw all (about_is_wanted (subject_of question) e about)
 
 handles_of : (interest : Interest) → is_of_open_handles interest ≡ true → (p : ℕ) × (interest ≡ OpenHandles p)
@@ -64,10 +65,11 @@ module _ (question : Question) (interest : Interest) (es own : List Event) (serv
       list_any-true about es e here (sym same ∙ some.4)
 
   -- and where none in hand is, none of all is, unless only open handles are wanted
-  pub none_among_all : is_of_open_handles interest ≡ false → list_any about own ≡ false → list_any about es ≡ false
-  none_among_all other none = list_any-false about es (λ e here. elim (cases_Bool (about e)) [
+  pub none_among_all : is_of_all_handles question ≡ false → is_of_open_handles interest ≡ false → list_any about own ≡ false
+      → list_any about es ≡ false
+  none_among_all some other none = list_any-false about es (λ e here. elim (cases_Bool (about e)) [
     | inl passes ↦
-        let kept = Contains-filter (wants interest) es e here (is_wanted question interest e serves other passes) in
+        let kept = Contains-filter (wants interest) es e here (is_wanted question interest e serves some other passes) in
         let there = Contains-permutation (wanted interest es) own (as_needed interest e) moved
         (Contains-map (as_needed interest) (filter (wants interest) es) e kept) in
         let found = list_any-true about own (as_needed interest e) there (unseen about (unseen_stack (subject_of question)) interest e ∙ passes) in
@@ -85,26 +87,48 @@ module _ (question : Question) (interest : Interest) (es own : List Event) (serv
       absurd cc)
 
 -- one of the picked events is of what the question is about where one of all is, unless none is found and only open handles are wanted
-pub subject_among : (question : Question) (interest : Interest) (es own : List Event) (found : Bool) → Serves question interest
-    → IsPermutation (wanted interest es) own → found ≡ list_any (is_about (subject_of question)) own
+about_among : (question : Question) (interest : Interest) (es own : List Event) (found : Bool) → Serves question interest
+    → is_of_all_handles question ≡ false → IsPermutation (wanted interest es) own → found ≡ list_any (is_about (subject_of question)) own
     → (found ≡ true) ⊎ (is_of_open_handles interest ≡ false) → found ≡ list_any (is_about (subject_of question)) es
-subject_among question interest es own found serves moved is told =
+about_among question interest es own found serves not_all moved is told =
     elim (cases_Bool found) [
       | inl some ↦ some ∙ sym (found_among_all question interest es own serves moved (sym is ∙ some))
       | inr none ↦ elim told [
         | inl some ↦ absurd cc
-        | inr other ↦ none ∙ sym (none_among_all question interest es own serves moved other (sym is ∙ none))
+        | inr other ↦ none ∙ sym (none_among_all question interest es own serves moved not_all other (sym is ∙ none))
       ]
+    ]
+
+-- and so is what the question asks about, which for the open handles of all processes it always is
+pub subject_among : (question : Question) (interest : Interest) (es own : List Event) (found : Bool) → Serves question interest
+    → IsPermutation (wanted interest es) own → found ≡ has_subject question own
+    → (found ≡ true) ⊎ (is_of_open_handles interest ≡ false) → found ≡ has_subject question es
+subject_among question interest es own found serves moved is told =
+    elim (cases_Bool (is_of_all_handles question)) [
+      | inl all ↦ let there : found ≡ true = rw all at is in rw all there
+      | inr not_all ↦
+          let about : found ≡ list_any (is_about (subject_of question)) own = rw not_all at is in
+          rw not_all (about_among question interest es own found serves not_all moved about told)
+    ]
+
+-- where what a question asks about isn't among events, none is about it
+no_event : (question : Question) (events : List Event) → has_subject question events ≡ false
+    → list_any (is_about (subject_of question)) events ≡ false
+no_event question events absent =
+    elim (cases_Bool (is_of_all_handles question)) [
+      | inl all ↦ let never : true ≡ false = rw all at absent in absurd (cc never)
+      | inr not_all ↦ rw not_all at absent
     ]
 
 -- where none of the picked events up to a moment is found, and only open handles are wanted, no event that counts tells of them
 pub tells_of_no_handle : (job : Job) (segments : List Content) (T : Trace) (until : Option ℕ) (interest : Interest) (own : List Event)
     → IsCaseOf segments T → IsNamedMoment T job.until until → Serves job.question interest
     → IsPermutation (wanted interest (counted_events until (all_events T.segments))) own
-    → list_any (is_about (subject_of job.question)) own ≡ false → is_of_open_handles interest ≡ true → TellsOfNoHandle interest segments job
-tells_of_no_handle job segments T until interest own case named serves moved none opens =
+    → has_subject job.question own ≡ false → is_of_open_handles interest ≡ true → TellsOfNoHandle interest segments job
+tells_of_no_handle job segments T until interest own case named serves moved absent opens =
     let es = counted_events until (all_events T.segments) in
     let of = handles_of interest opens in
+    let none = no_event job.question own absent in
     record {
       trace = T;
       case_of = case;

@@ -1,5 +1,6 @@
 -- For the clauses of private functions: how an analyst takes one segment after another, and what it keeps of them.
-use Rattle.std.specs.Prelude.{◌≡◌, ◌≢◌, ◌≤◌, ◌<◌, ◌-◌, ◌⊎◌, ◌++◌, ◌∷◌, [], ⊤, ℕ, Bool, true, List, Contains, Option, None, Some}
+use Rattle.std.specs.Prelude.{◌≡◌, ◌≢◌, ◌≤◌, ◌<◌, ◌-◌, ◌⊎◌, ◌++◌, ◌∷◌, [], ⊤, ℕ, Bool, true, List, Contains, Option, None, Some, IfErr}
+use Rattle.std.specs.Prelude.{IfOk, OnErr, OnOk, Result}
 use Rattle.std.specs.List.Sorted.{IsNonDecreasingBy}
 use Rattle.htl_analyst.specs.Keys.{HasTaken, number_taken}
 use Rattle.htl_analyst.specs.Refusals.{TakeAccepted}
@@ -21,14 +22,16 @@ use Rattle.htl_inputs.specs.declared.fault.RunFault.{RunFault}
 use Rattle.htl_inputs.specs.declared.fault.RunFault.TheVariants.{Segment, Hex, Read, Case, Memory, Symbols}
 use Rattle.htl_main.specs.Completeness.{IsComplete, ReportsMissing}
 use Rattle.htl_main.specs.Coverages.{IsCoverage}
-use Rattle.htl_main.specs.Printed.{HasSymbolFault}
+use Rattle.htl_main.specs.Printed.{HasSymbolFault, WorkersFit}
 use Rattle.htl_taken.specs.Numbers.{front_at}
 use Rattle.htl_command.specs.declared.question.InputForm.{InputForm}
 use Rattle.htl_main.specs.Picking.{NamesMissing}
 use Rattle.htl_main.specs.Folding.{AreAccepted, AreFolded, AreGiven, AreTaken, Fall, GaveBefore, IsCollectionOf, IsOfPlace, IsUnfit}
-use Rattle.htl_main.specs.Folding.{StandBefore, TakesUpTo, counted}
+use Rattle.htl_main.specs.Folding.{StandBefore, TakesUpTo, counted, AsksFoldsMemory, Folding, IsFoldingRefused}
 use Rattle.htl_main.specs.declared.loading.adding.Added.{Added}
 use Rattle.htl_main.specs.declared.folding.folder.Folder.{Folder}
+use Rattle.htl_main.specs.declared.refused.Refused.{Refused}
+use Rattle.htl_main.specs.declared.folding.taking.Taken.{Taken}
 
 -- No front falls and no key is lost from the one state to the other.
 pub record Keeps (old new : State) : Type 0 where
@@ -198,3 +201,10 @@ pub record AreAllTaken (form : InputForm) (before : List Content) (inputs : List
   pub number : segments ≡ counted given
   pub cut_ends : AreCutEnds form.hex inputs cuts
   pub keeps : KeepsAll old new
+
+-- What a reading that folds comes to. `read` says what it took or why it ended, and `far` whether memory was refused for the fold after it.
+pub record TakesAll {S E : Type 0} (of : Folding) (old new : Option State) (read : Result Taken Refused) (far : Result S E) : Type 0 where
+  pub ok : IfOk read (λ taken. OnOk far (AreAllTaken of.setting.form of.before of.inputs old new taken.segments taken.cuts.items))
+  pub err : WorkersFit of.setting.workers
+      → IfErr read (λ refused. IsFoldingRefused of (λ taken. OnOk far (AreFolded new taken)) refused.fault)
+  pub memory : WorkersFit of.setting.workers → OnErr far (AsksFoldsMemory of)

@@ -11,7 +11,7 @@ use Rattle.htl_segment.specs.Content.{Content}
 use Rattle.htl_segment.specs.Traces.{Trace}
 use Rattle.htl_inputs.specs.CutInputs.{AreCut}
 use Rattle.htl_inputs.specs.Reads.{NeverWrite}
-use Rattle.htl_inputs.specs.Readings.{AreRead}
+use Rattle.htl_inputs.specs.Readings.{AreRead, AskForReaders}
 use Rattle.htl_inputs.specs.declared.fault.RunFault.{RunFault}
 use Rattle.htl_inputs.specs.declared.fault.RunFault.TheVariants.{Write}
 use Rattle.htl_main.specs.Adding.{IsAdded, IsAddingRefused}
@@ -60,6 +60,7 @@ pub record IsRun (job : Job) (table : Option (List ℕ)) (old new : List SourceS
   pub outcome : IfKnown old (λ texts. Ends (IsSourcesCause job texts (lefts new) (ends new) table) job texts table
       before.contents after.contents result)
   pub reading : AreRead job.setting.form.hex old new (by_fault result)
+  pub readers : AskForReaders job.setting.form.hex job.setting.workers old new
   pub sink : LeavesSink before after (by_fault result)
 
 -- The same of a run that keeps only events of this interest. It may lack something to tell its outcome, and names no two segments.
@@ -75,6 +76,7 @@ pub record IsPicked (interest : Interest) (job : Job) (table : Option (List ℕ)
   pub outcome : IfKnown old (λ texts. EndsPicking (IsSourcesCause job texts (lefts new) (ends new) table) interest job texts table
       before.contents after.contents result)
   pub reading : AreRead false old new result
+  pub readers : AskForReaders false job.setting.workers old new
   pub sink : LeavesSink before after result
   -- Where something is lacking, nothing was written.
   pub unwritten : IfOk result (λ ended. IfErr ended (λ lack. after ≡ before))
@@ -94,7 +96,9 @@ pub record LoadsAs (setting : Setting) (until : Option Moment) (table : Option (
   pub outcome : IfKnown old (λ texts. EndsLoading setting until table texts new result)
   pub case : IfOk result (λ loaded. IsCase loaded.case)
   pub coverage : IfOk result (λ loaded. IsCoverage loaded.case loaded.coverage)
+  pub workers : OnOk result (WorkersFit setting.workers)
   pub reading : AreRead setting.form.hex old new (by_fault result)
+  pub readers : AskForReaders setting.form.hex setting.workers old new
   pub no_write : NeverWrite (by_fault result)
 
 -- Sources of these texts were added to the segments of a case; or there is a reason why not.
@@ -111,6 +115,7 @@ pub record AddsAs (setting : Setting) (old new : List SourceState) (before after
   pub symbols : after.symbols ≡ before.symbols
   pub cut : after.cut ≡ before.cut
   pub reading : AreRead setting.form.hex old new (by_fault result)
+  pub readers : AskForReaders setting.form.hex setting.workers old new
   pub no_write : NeverWrite (by_fault result)
 
 -- ---- readings that fold
@@ -127,6 +132,7 @@ pub record FoldsAs (setting : Setting) (old new : List SourceState) (before afte
   pub symbols : after.symbols ≡ before.symbols
   -- Where memory was refused after a read that failed, that is reported, and not the read.
   pub reading : AreReadToFold setting.form.hex old new (by_fault result)
+  pub readers : AskForReaders setting.form.hex setting.workers old new
   pub no_write : NeverWrite (by_fault result)
 
 -- A dialogue that forgets begins with what inputs of these texts come to; or there is a reason why not.
@@ -138,6 +144,8 @@ pub record BeginsAs (setting : Setting) (table : Option (List ℕ)) (old new : L
     : Type 0 where
   pub outcome : IfKnown old (λ texts. EndsBeginning setting table texts new result)
   pub symbols : IfOk result (λ begun. HasSymbols table begun.0.symbols)
+  pub workers : OnOk result (WorkersFit setting.workers)
   pub between : IfErr result (λ refused. IsHalfKnown refused.fault refused.between)
   pub reading : AreRead setting.form.hex old new (by_fault result)
+  pub readers : AskForReaders setting.form.hex setting.workers old new
   pub no_write : NeverWrite (by_fault result)

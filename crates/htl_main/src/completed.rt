@@ -1,10 +1,11 @@
 //! What a run reports beside the answer that it printed.
 
-ghost use Rattle.std.specs.Prelude.{◌≡◌, List, nat_lt};
+ghost use Rattle.std.specs.Prelude.{◌≡◌, ◌||◌, List, nat_lt};
 ghost use Rattle.std.specs.List.{list_any};
 ghost use Rattle.htl_event.specs.Events.{Event};
 ghost use Rattle.htl_event.specs.Moments.{counted_events};
 ghost use Rattle.htl_case.specs.Spans.{IsSpan};
+ghost use Rattle.htl_question.specs.Questions.{is_of_all_handles, subject_of};
 ghost use Rattle.htl_question.specs.Subjects.{is_about};
 ghost use Rattle.htl_main.specs.Coverages.{IsCoverage};
 ghost use Rattle.htl_main.specs.Subjects.{HasAbsence, absence_by, is_before, is_below_last};
@@ -37,7 +38,8 @@ pub struct Completed {
 pub enum Absence {
     /// The question's subject has no event that counts: its process has none of any kind; its
     /// object, or its tag of the object, no reference or dereference; its handle no open, close or
-    /// bad reference. A summary is about all events.
+    /// bad reference. A summary is about all events. Sites are about the open handles of all
+    /// processes, which are there also where there is none.
     Subject,
     /// The sequence since which is asked isn't below the last one of the trace, or isn't below the
     /// moment: no event that counts comes later.
@@ -51,7 +53,7 @@ pub fn absence_of(job: &Job, loaded: &Loaded) -> Option<Absence>
         → HasAbsence loaded.now.case job.now result }
 {
     let until = loaded.moment(job.until);
-    let has_subject = any_about(job.question.subject(), until, loaded.case.segments());
+    let has_subject = has_subject(job.question, until, loaded.case.segments());
     absence_by(has_subject, job.question, until, loaded.case.span())
 }
 
@@ -114,6 +116,15 @@ fn is_before(until: Option<u64>, sequence: u64) -> bool
     }
 }
 
+/// Whether what the question asks about is among the events of the segments, up to a moment.
+fn has_subject(question: Question, until: Option<u64>, segments: &[Segment]) -> bool
+    ensures { result ≡ (is_of_all_handles question || list_any
+        (λ s. list_any (is_about (subject_of question)) (counted_events until s.events))
+        segments.now) }
+{
+    question.is_of_all_handles() || any_about(question.subject(), until, segments)
+}
+
 /// Whether a segment has an event of the subject, up to a moment.
 fn any_about(subject: Option<Subject>, until: Option<u64>, segments: &[Segment]) -> bool
     ensures { result ≡ list_any
@@ -131,8 +142,16 @@ fn has_event_until(subject: Option<Subject>, until: Option<u64>, segment: &Segme
     has_event_about(subject, Until::new(segment.events(), until).events())
 }
 
+/// Whether what the question asks about is among the events of the lists.
+pub(crate) fn is_subject_in<E: EventList>(question: Question, lists: &[E]) -> bool
+    ensures { result ≡ (is_of_all_handles question || list_any
+        (λ list. list_any (is_about (subject_of question)) (E.events_of list)) lists.now) }
+{
+    question.is_of_all_handles() || any_list_about(question.subject(), lists)
+}
+
 /// Whether one of the lists has an event of the subject.
-pub(crate) fn any_list_about<E: EventList>(subject: Option<Subject>, lists: &[E]) -> bool
+fn any_list_about<E: EventList>(subject: Option<Subject>, lists: &[E]) -> bool
     ensures { result
         ≡ list_any (λ list. list_any (is_about subject) (E.events_of list)) lists.now }
 {

@@ -31,16 +31,17 @@ pub use adding::{Added, add};
 use htl_case::Case;
 use htl_command::{Moment, Setting};
 use htl_device::Parted;
+use htl_evidence::Indexed;
 use htl_inputs::{CutEnd, CutInputs, Decoded, RunFault, cut_inputs, read_all};
 use htl_symbols::Symbols;
 use std::alloc::Global;
 use std::thread::Threads;
 
 /// The case of all segments, how much of its trace it has, which inputs were cut, and the names of
-/// its addresses.
+/// its addresses. For many questions the case has an index.
 #[derive(Drop)]
 pub struct Loaded {
-    pub case: Case,
+    pub case: Indexed,
     pub coverage: Coverage,
     /// The inputs that ended within a segment.
     pub cut: Option<CutInputs>,
@@ -48,6 +49,7 @@ pub struct Loaded {
 }
 
 impl Loaded {
+    ghost use Rattle.std.specs.Prelude.{◌≡◌};
     ghost use Rattle.htl_main.specs.Coverages.{IsCoverage};
     ghost use Rattle.htl_main.specs.Moments.{IsNamedMoment};
 
@@ -57,6 +59,24 @@ impl Loaded {
             → IsNamedMoment self.now.case named result }
     {
         self.coverage.moment(named)
+    }
+
+    /// The same with an index of the case, where there is memory for one.
+    fn with_index(self, alloc: Global) -> Loaded
+        ensures { result ≡ self }
+    {
+        let Loaded {
+            case,
+            coverage,
+            cut,
+            symbols,
+        } = self;
+        Loaded {
+            case: case.with_index(alloc),
+            coverage,
+            cut,
+            symbols,
+        }
     }
 }
 
@@ -77,7 +97,7 @@ pub fn load<Rt: Threads + Sync, R: Parted>(
     check_workers(setting.workers)?;
     let decoded = read_all(rt, alloc, setting.form, setting.workers, inputs)?;
     let loaded = load_decoded(alloc, setting.complete, until, decoded, symbols)?;
-    Ok(loaded)
+    Ok(loaded.with_index(alloc))
 }
 
 /// The case of decoded segments, with the symbols. A case that isn't complete up to the moment is
@@ -135,7 +155,7 @@ fn with_symbols(
     let symbols = read_symbols(alloc, symbols)?;
     let coverage = missed.coverage();
     Ok(Loaded {
-        case,
+        case: Indexed::without(case),
         coverage,
         cut: cut_inputs(cuts),
         symbols,

@@ -4,7 +4,6 @@ ghost use Rattle.std.specs.Prelude.{◌≡◌, ◌⊎◌, false, true, map, IfOk
 ghost use Rattle.std.specs.Prelude.{None, Some};
 ghost use Rattle.std.specs.Option.{option_copied};
 ghost use Rattle.htl_segment.specs.Traces.{Trace};
-ghost use Rattle.htl_evidence.specs.Bases.{IsAnswer};
 ghost use Rattle.htl_main.specs.Runs.{IsRunOver};
 ghost use Rattle.htl_main.specs.CaseOutlines.{IsMissed};
 ghost use Rattle.htl_main.specs.Completeness.{ReportsMissing};
@@ -21,15 +20,13 @@ use crate::coverage::{Missed, is_above};
 use crate::loading::{Loaded, load_decoded};
 use crate::refused::Refused;
 use crate::remarks::{Remarks, remarks_on};
-use htl_case::Case;
 use htl_command::{Format, Job, Moment};
 use htl_device::Sink;
 use htl_event::NoMemory;
-use htl_evidence::{AsOf, answer};
 use htl_inputs::{CutEnd, RunFault, decode_all, write_lines};
 use htl_json::json_lines;
-use htl_question::{Answer, Question, Rows};
-use htl_report::{folded, text};
+use htl_question::{Answer, Rows};
+use htl_report::{folded, folded_sites, text};
 use htl_symbols::{SymbolFault, Symbols};
 use std::alloc::Global;
 use std::thread::Threads;
@@ -75,6 +72,7 @@ pub(crate) fn print_answer<Rt: Threads + Sync, W: Sink>(
     out: &mut W,
 ) -> Result<Completed, RunFault>
     requires known { IsCoverage loaded.now.case loaded.now.coverage }
+    requires workers { WorkersFit job.now.setting.workers }
     requires out { (W.state out.old).failed ≡ false }
     ensures { PrintsAnswer loaded.now job.now (W.state out.old) (W.state out.new) result }
 {
@@ -140,8 +138,8 @@ impl AnswerText {
 }
 
 /// Answers the job's question over what was loaded. A run over the same inputs prints exactly these
-/// lines, for every number of workers. `workers` counts here, and not the job's own number, which a
-/// line of a dialogue can't give.
+/// lines, for every number of workers that a run takes. `workers` counts here, and not the job's own
+/// number, which a line of a dialogue can't give.
 pub fn answer_text(
     rt: &(impl Threads + Sync),
     alloc: Global,
@@ -149,35 +147,19 @@ pub fn answer_text(
     job: &Job,
     loaded: &Loaded,
 ) -> Result<AnswerText, NoMemory>
+    requires { WorkersFit workers }
     ensures lines { IfOk result (λ text. IsCoverage loaded.now.case loaded.now.coverage
         → IsText loaded.now.case loaded.now.symbols job.now text.lines.items) }
     ensures remarks { IfOk result (λ text. IsCoverage loaded.now.case loaded.now.coverage
         → RemarksOver loaded.now.case loaded.now.symbols job.now text.remarks) }
 {
     let until = loaded.moment(job.until);
-    let answer = answer_as_of(rt, alloc, workers, &loaded.case, until, job.question)?;
+    let answer = loaded.case.answer(rt, alloc, workers, until, job.question)?;
     let lines = lines(alloc, job, until, &answer, &loaded.symbols)?;
     Ok(AnswerText {
         lines,
         remarks: remarks_on(job, &answer, &loaded.symbols),
     })
-}
-
-/// The answer to a question over the events of a case up to a moment. It is made from the segments
-/// where they lie, without folding any.
-fn answer_as_of<Rt: Threads + Sync>(
-    rt: &Rt,
-    alloc: Global,
-    workers: u32,
-    case: &Case,
-    until: Option<u64>,
-    question: Question,
-) -> Result<Answer, NoMemory>
-    ensures { IfOk result (IsAnswer case.now until question) }
-{
-    let lists = case.until(alloc, until)?;
-    let evidence = AsOf::new(alloc, case, until, &lists);
-    answer(rt, alloc, workers, &evidence, question)
 }
 
 /// The lines of an answer in the job's form, where events count up to a moment.
@@ -194,6 +176,7 @@ pub(crate) fn lines(
     match (job.format, &answer.rows) {
         (Format::Json, _) => json_lines(alloc, answer, symbols, until, job.top),
         (Format::Folded, Rows::Leaks(rows)) => folded(alloc, rows, symbols, job.top),
+        (Format::Folded, Rows::Sites(rows)) => folded_sites(alloc, rows, symbols, job.top),
         (Format::Plain | Format::Folded, _) => text(alloc, answer, symbols, until, job.top),
     }
 }

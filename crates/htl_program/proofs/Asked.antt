@@ -1,11 +1,13 @@
 -- A world that is asked for some, and then for more, is asked for all of them: names, then a table of symbols, then what follows.
-use Rattle.std.proofs.Common.{◌≡◌, ◌≢◌, ◌++◌, ◌∷◌, ◌∙◌, [], ℕ, zero, suc, Bool, false, true, List, Option, None, Some, Result, Ok, Err, All}
-use Rattle.std.proofs.Common.{ap, append_assoc, append-nil, inl, inr, map, refl, subst, sym, take}
+use Rattle.std.proofs.Common.{◌≡◌, ◌++◌, ◌∷◌, ◌∙◌, [], ℕ, suc, Bool, false, List, Option, None, Some, Result, Ok, Err, All, ap, append_assoc, append-nil, inl}
+use Rattle.std.proofs.Common.{inr, refl, subst, sym, take}
 use Rattle.std.proofs.lemmas.List.{take-map}
 use Rattle.std.proofs.lemmas.List.Elements.{All-append, All-cons, All-nil}
 use Rattle.htl_inputs.specs.declared.fault.RunFault.{RunFault}
 use Rattle.htl_program.specs.Openings.{AsksFor, AsksForAll, AsksForTable, table_asked}
-use Rattle.htl_program.specs.Rounds.{Asks, EndsEarly, IsOfName, OpensAgain, OpensInputs, OpensOnce, Rounds, Tabled, all_opened, inputs_opened}
+use Rattle.htl_program.specs.Rounds.{Asks, CanBeReadAgain, EndsEarly, IsOfName, OpensAgain, OpensInputs, OpensOnce, Rounds, Tabled, all_opened, inputs_opened}
+use Rattle.htl_program.specs.Rounds.{AsksNames, LineAsks}
+use Rattle.htl_dialogue.specs.Sayings.{Saying, nothing, reads}
 use Rattle.htl_program.specs.Worlds.{Ask, IsAsked, Known, Logs, WorldState, change, to_open, to_read}
 use Rattle.htl_program.proofs.PassedOn.{same_fault}
 
@@ -43,27 +45,23 @@ all_names (name ∷ names) = All-cons IsOfName (to_open name None) (all_opened n
 some_names : (place : ℕ) (names : List (List ℕ)) → All IsOfName (take place (all_opened names))
 some_names place names = subst (All IsOfName) (sym (take-map (λ name. to_open name None) place names)) (all_names (take place names))
 
--- who opens names asks for nothing else
-pub names_only : {S : Type 0} (old new : WorldState) (names : List (List ℕ)) (result : Result S RunFault)
-    → AsksFor (change old new) names (all_opened names) result → Asks (change old new) (All IsOfName)
-names_only old new names (Ok opened) asked = (all_opened names, asked, all_names names)
-names_only old new names (Err fault) (asks, asked, (place, inl memory)) =
-    (asks, asked, subst (All IsOfName) (sym memory.0) (some_names place names))
-names_only old new names (Err fault) (asks, asked, (place, inr (name, why, here, is, told))) = (
-  asks,
-  asked,
-  subst (All IsOfName) (sym is) (All-append IsOfName (take place (all_opened names)) (to_open name (Some why) ∷ []) (some_names place names)
-      (All-cons IsOfName (to_open name (Some why)) [] tt (All-nil IsOfName))),
-)
+-- who opens names asks for them one after the other
+pub names_asked : {S : Type 0} (old new : WorldState) (names : List (List ℕ)) (result : Result S RunFault)
+    → AsksFor (change old new) names (all_opened names) result → Asks (change old new) (AsksNames names)
+names_asked old new names (Ok opened) asked = (all_opened names, asked, inl refl)
+names_asked old new names (Err fault) (asks, asked, ends) = (asks, asked, inr (fault, ends))
 
--- nothing was asked for, or some names and then more of them
-pub no_names : (world : WorldState) → Asks (change world world) (All IsOfName)
-no_names world = ([], asked_none world, All-nil IsOfName)
+-- and for nothing else
+pub only_names : (names : List (List ℕ)) (asks : List Ask) → AsksNames names asks → All IsOfName asks
+only_names names asks (inl all) = subst (All IsOfName) (sym all) (all_names names)
+only_names names asks (inr (fault, (place, inl memory))) = subst (All IsOfName) (sym memory.0) (some_names place names)
+only_names names asks (inr (fault, (place, inr (name, why, here, is, told)))) =
+    subst (All IsOfName) (sym is) (All-append IsOfName (take place (all_opened names)) (to_open name (Some why) ∷ []) (some_names place names)
+    (All-cons IsOfName (to_open name (Some why)) [] tt (All-nil IsOfName)))
 
-pub more_names : (old mid new : WorldState) → Asks (change old mid) (All IsOfName) → Asks (change mid new) (All IsOfName)
-    → Asks (change old new) (All IsOfName)
-more_names old mid new first more =
-    (first.0 ++ more.0, asked_more first.1 more.1, All-append IsOfName first.0 more.0 first.2 more.2)
+-- a line that reads nothing asks for nothing
+pub asks_nothing : (world : WorldState) (said : Saying) → LineAsks said [] → Asks (change world world) (LineAsks said)
+asks_nothing world said none = ([], asked_none world, none)
 
 -- ---- rounds
 
@@ -90,10 +88,9 @@ module _ {S : Type 0} (names : List (List ℕ)) (ended : Result S RunFault) wher
   once_ended old new fault is early = (early.0, early.1, inr (fault, is, early.2))
 
   -- the inputs are opened again where they can be
-  pub again : (known : Known) (is_text : Bool) (old new : WorldState) → is_text ≡ false → names ≢ []
-      → All (λ can. can ≡ true) (map known.can_be_read_again names) → Asks (change old new) (Rounds 2 names ended)
-      → Asks (change old new) (OpensAgain known is_text names ended)
-  again known is_text old new bytes some can asked = (asked.0, asked.1, inr (bytes, some, can, asked.2))
+  pub again : (known : Known) (is_text : Bool) (old new : WorldState) → is_text ≡ false → CanBeReadAgain known names
+      → Asks (change old new) (Rounds 2 names ended) → Asks (change old new) (OpensAgain known is_text names ended)
+  again known is_text old new bytes can asked = (asked.0, asked.1, inr (bytes, can, asked.2))
 
 -- ---- inputs, and then the table of symbols
 

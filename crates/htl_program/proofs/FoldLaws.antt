@@ -19,7 +19,7 @@ use Rattle.htl_program.specs.Openings.{AreOpened}
 use Rattle.htl_program.specs.Readings.{IsUnopenedFor}
 use Rattle.htl_program.specs.Worlds.{Known, WorldChange}
 use Rattle.htl_program.proofs.FirstAbsent.{held_memory, none_is_absent}
-use Rattle.htl_program.proofs.NamesRead.{all_read, none_read}
+use Rattle.htl_program.proofs.NamesRead.{all_read, lefts_of, none_read}
 
 -- What holds of all that were taken holds of a list that these are.
 module _ (setting : Setting) (before : List Content) (texts : List (List ℕ)) (Keeps : List Content → Type 0) where
@@ -101,7 +101,7 @@ module _ (world : WorldChange) (setting : Setting) (before : Folded) (names : Li
       → FoldsFiles known setting before names before (Err refused)
   none_folded refused unopened = record {
     sources = [];
-    reads = λ goes_on. none_read known setting.form.hex names refused.fault unopened;
+    reads = λ goes_on. none_read known setting names refused.fault unopened;
     folds = λ goes_on taken texts folded held.
         absurd (goes_on (held_memory (map known.holds names) (map known.is_absent names) texts refused.fault held unopened));
     unopened = λ absent. refl;
@@ -115,9 +115,9 @@ module _ (world : WorldChange) (setting : Setting) (before : Folded) (names : Li
   opened_and_folded state after sources now ended are is = record {
     sources = map state now;
     reads = λ goes_on.
-        all_read world setting.form.hex names state sources now (by_fault ended) are (as_a_run ended goes_on is.reading);
+        all_read world setting names state sources now (by_fault ended) are (as_a_run ended goes_on is.reading) is.readers;
     folds = λ goes_on taken texts folded held.
-        as_folding ended taken texts (is.outcome taken folded texts (are.bytes ∙ held)) is.between;
+        as_folding ended taken texts (is.outcome taken folded texts (lefts_of are.sources ∙ held)) is.between;
     unopened = λ absent. absurd (none_is_absent known names are.there absent);
     symbols = is.symbols;
   }

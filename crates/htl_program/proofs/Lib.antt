@@ -13,3 +13,4 @@ pub mod KeptLaws
 pub mod StateOutcomes
 pub mod Begun
 pub mod OfForm
+pub mod LinesAsked

@@ -35,7 +35,7 @@ use Rattle.htl_program.specs.Openings.{AreOpened}
 use Rattle.htl_program.specs.Readings.{IsUnopenedFor}
 use Rattle.htl_program.specs.Worlds.{Known, WorldChange}
 use Rattle.htl_program.proofs.FirstAbsent.{held_memory}
-use Rattle.htl_program.proofs.NamesRead.{all_read, none_read}
+use Rattle.htl_program.proofs.NamesRead.{all_read, lefts_of, none_read}
 
 module _ (setting : Setting) (inputs : List (List ℕ)) (symbols : Option (List ℕ)) (T : Trace) (table : List Range)
     (loaded : AreLoadedOf inputs symbols setting None T table) where
@@ -148,7 +148,7 @@ module _ (world : WorldChange) (setting : Setting) (before : Loaded) (names : Li
       → refused.between ≡ Nothing → AddsFiles known setting before names before (Err refused)
   not_opened refused unopened alone = record {
     sources = [];
-    reads = none_read known setting.form.hex names refused.fault unopened;
+    reads = none_read known setting names refused.fault unopened;
     adds = λ texts held. inr (held_memory (map known.holds names) (map known.is_absent names) texts refused.fault held unopened, alone);
     coverage = tt;
     symbols = refl;
@@ -161,8 +161,8 @@ module _ (world : WorldChange) (setting : Setting) (before : Loaded) (names : Li
       → AddsAs setting (map state sources.items) (map state now) before after ended → AddsFiles known setting before names after ended
   opened_and_added state after sources now ended are is = record {
     sources = map state now;
-    reads = all_read world setting.form.hex names state sources now (by_fault ended) are is.reading;
-    adds = λ texts held. inl (is.outcome texts (are.bytes ∙ held));
+    reads = all_read world setting names state sources now (by_fault ended) are is.reading is.readers;
+    adds = λ texts held. inl (is.outcome texts (lefts_of are.sources ∙ held));
     coverage = known_coverage ended is.coverage;
     symbols = is.symbols;
     same = is.same;

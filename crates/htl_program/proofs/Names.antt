@@ -1,10 +1,11 @@
 -- What is said of each name is said of the names, place by place.
-use Rattle.std.proofs.Common.{◌≡◌, ◌≢◌, ◌+◌, ◌<◌, ◌≤◌, ◌++◌, ◌∷◌, ◌∙◌, [], ℕ, false, List, String, ap, arith, length, map, refl, sym, take}
+use Rattle.std.proofs.Common.{◌≡◌, ◌+◌, ◌<◌, ◌≤◌, ◌++◌, ◌∷◌, ◌∙◌, [], ℕ, All, false, true, List, String, ap, arith, length, map, refl, sym, take}
 use Rattle.std.specs.Prelude.{◌==◌, Some, get_or, slice_get, string_bytes}
 use Rattle.std.proofs.lemmas.List.{get_or-map, length-map, take_more, take_all}
+use Rattle.std.proofs.lemmas.Bool.{eqb-true}
 use Rattle.std.proofs.lemmas.Option.{slice_get_read}
-use Rattle.htl_program.specs.Rounds.{all_opened, inputs_opened}
-use Rattle.htl_program.specs.Worlds.{of_each, of_inputs}
+use Rattle.htl_program.specs.Rounds.{CanBeReadAgain, all_opened, inputs_opened}
+use Rattle.htl_program.specs.Worlds.{Known, of_each, of_inputs}
 
 -- there is as much as there are names
 pub as_many : {X A : Type 0} (of : List ℕ → X) (names : List (String A)) → length (of_each of names) ≡ length names
@@ -52,10 +53,16 @@ all_taken of names n le ge =
     let same : n ≡ length (of_each of names) = omega (arith, long, le, ge) in
     ap (λ k. take k (of_each of names)) same ∙ take_all (length (of_each of names)) (of_each of names) (omega arith)
 
--- where there are names, there are their bytes
-pub some_names : {A : Type 0} (names : List (String A)) → (length names == 0) ≡ false → map string_bytes names ≢ []
-some_names [] some none = cc some
-some_names (name ∷ names) some none = cc none
+-- where all files of names can be read again, the inputs can be; and so it is of standard input, where there is no name
+pub names_again : {A : Type 0} (known : Known) (names : List (String A)) → (length names == 0) ≡ false
+    → All (λ can. can ≡ true) (of_each known.can_be_read_again names) → CanBeReadAgain known (map string_bytes names)
+names_again known [] some all = absurd (cc some)
+names_again known (name ∷ more) some all = all
+
+pub standard_again : {A : Type 0} (known : Known) (names : List (String A)) → (length names == 0) ≡ true
+    → known.standard_can_be_read_again ≡ true → CanBeReadAgain known (map string_bytes names)
+standard_again known [] none can = can
+standard_again known (name ∷ more) none can = absurd (omega (arith, eqb-true (length (name ∷ more)) 0 none))
 
 -- where there are names, the inputs are their files, and these are what is opened
 pub inputs_named : {X A : Type 0} (of : List ℕ → X) (standard : X) (names : List (String A)) → (length names == 0) ≡ false

@@ -1,13 +1,14 @@
 -- Names aren't read at all where one could not be opened, and otherwise as any run reads its sources.
-use Rattle.std.proofs.Common.{◌≡◌, ◌⊎◌, ◌∙◌, ℕ, Bool, List, [], ap, inl, inr, map, refl, sym}
+use Rattle.std.proofs.Common.{◌≡◌, ◌⊎◌, ◌∙◌, ◌∷◌, ℕ, Bool, List, [], ap, inl, inr, map, refl, sym}
 use Rattle.std.specs.Prelude.{IfErr, None, OnOk, Option, Some, Result, Ok, Err, String, Vec}
 use Rattle.std.proofs.lemmas.Option.{none-some}
 use Rattle.htl_command.specs.declared.command.Run.{Run}
-use Rattle.htl_device.specs.States.{AreOpen, SinkState, SourceState, lefts}
-use Rattle.htl_inputs.specs.Readings.{AreRead}
+use Rattle.htl_device.specs.States.{SinkState, SourceState, lefts, fresh}
+use Rattle.htl_inputs.specs.Readings.{AreRead, AskForReaders}
 use Rattle.htl_inputs.specs.declared.fault.RunFault.{RunFault}
 use Rattle.htl_inputs.specs.declared.fault.RunFault.TheVariants.{Memory, Read, SymbolsRead}
 use Rattle.htl_main.specs.Origins.{by_fault}
+use Rattle.htl_command.specs.declared.question.Setting.{Setting}
 use Rattle.htl_main.specs.Runs.{IsRun}
 use Rattle.htl_main.specs.declared.completed.Completed.{Completed}
 use Rattle.htl_main.specs.declared.refused.Refused.{Refused}
@@ -15,11 +16,31 @@ use Rattle.htl_program.specs.Asking.{ReadsNames}
 use Rattle.htl_program.specs.Endings.{IsUntabled}
 use Rattle.htl_program.specs.Openings.{AreOpened}
 use Rattle.htl_program.specs.Outcomes.{ReadsInputs}
-use Rattle.htl_program.specs.Readings.{AreUnread, IsUnopenedFor}
+use Rattle.htl_program.specs.Readings.{AreAskedFor, AreUnread, IsUnopenedFor}
 use Rattle.htl_program.specs.Runs.{IsRunOfNames}
 use Rattle.htl_program.specs.Worlds.{IsFirstRefused, IsTable, IsTableAbsent, IsTableUnknown, Known, WorldChange, of_each, of_inputs}
+use Rattle.htl_inputs.proofs.SourceLaws.{none_asked}
 use Rattle.htl_program.proofs.PassedOn.{same_fault}
 use Rattle.htl_program.proofs.FirstAbsent.{first_or_memory, none_absent}
+
+-- sources of which nothing was read have all their bytes left
+left_fresh : (known : List (Option (List ℕ))) → lefts (map fresh known) ≡ known
+left_fresh [] = refl
+left_fresh (bytes ∷ more) = ap (λ l. bytes ∷ l) (left_fresh more)
+
+pub lefts_of : {states : List SourceState} {known : List (Option (List ℕ))} → states ≡ map fresh known → lefts states ≡ known
+lefts_of {states} {known} is = ap (λ l. lefts l) is ∙ left_fresh known
+
+-- of no source another reader was asked for
+none_there : (setting : Setting) (known : List (Option (List ℕ))) → AreAskedFor setting known []
+none_there setting known place before after was is = absurd cc
+
+-- nor of those that were opened alone
+pub unread_asks : (setting : Setting) (known holds : List (Option (List ℕ))) (absences : List Bool) (now : List SourceState) (fault : RunFault)
+    → AreUnread known holds absences now fault → AreAskedFor setting known now
+unread_asks setting known holds absences now fault (inl unopened) = rw (unopened.0) (none_there setting known)
+unread_asks setting known holds absences now fault (inr opened) =
+    rw (opened.0) (none_asked setting.form.hex setting.workers (map fresh known))
 
 same_place : (one other : ℕ) → Read one ≡ Read other → one ≡ other
 same_place one other is = cc is
@@ -34,8 +55,8 @@ first_refused holds absences fault place told (inr (at, is, unopened)) = rw (←
 unread_first : (known holds : List (Option (List ℕ))) (absences : List Bool) (now : List SourceState) (fault : RunFault) (place : ℕ)
     → fault ≡ Read place → AreUnread known holds absences now fault → IsFirstRefused holds absences place
 unread_first known holds absences now fault place told (inl unopened) = first_refused holds absences fault place told unopened.1
-unread_first known holds absences now fault place told (inr (ready, bytes, inl symbols)) = absurd (cc (symbols, told))
-unread_first known holds absences now fault place told (inr (ready, bytes, inr memory)) = absurd (cc (memory, told))
+unread_first known holds absences now fault place told (inr (same, inl symbols)) = absurd (cc (symbols, told))
+unread_first known holds absences now fault place told (inr (same, inr memory)) = absurd (cc (memory, told))
 
 -- a table of symbols wasn't read, whose bytes may be unknown
 pub of_table : {X : Type 0} {fault : RunFault} → (fault ≡ Memory) ⊎ ((fault ≡ SymbolsRead) × X)
@@ -61,31 +82,30 @@ no_table world name (Ok read) there refused gone = absurd (there gone)
 no_table world name (Err fault) there (inl memory) gone = inr (ap Err memory)
 no_table world name (Err fault) there (inr symbols) gone = inl (ap Err symbols.0)
 
-module _ {S : Type 0} (world : Known) (is_text : Bool) (names : List (List ℕ)) where
+module _ {S : Type 0} (world : Known) (setting : Setting) (names : List (List ℕ)) where
   -- where a name could not be opened, no source was read
   pub none_read : (fault : RunFault) → IsUnopenedFor (map world.holds names) (map world.is_absent names) fault
-      → ReadsNames {S = S} world is_text names [] (Err fault)
+      → ReadsNames {S = S} world setting names [] (Err fault)
   none_read fault unopened = record {
     absent = λ place absent. first_or_memory (Err fault) (map world.holds names) (map world.is_absent names) fault place refl unopened absent;
     reading = inr (fault, refl, inl (refl, unopened));
+    readers = none_there setting (map world.holds names);
     read = λ place told.
         inl (first_refused (map world.holds names) (map world.is_absent names) fault place (same_fault fault (Read place) _ refl told) unopened);
   }
 
 -- where all names were opened, they were read as the sources of a run
-pub all_read : {S R A : Type 0} (world : WorldChange) (is_text : Bool) (names : List (List ℕ)) (state : R → SourceState) (sources : Vec R A)
+pub all_read : {S R A : Type 0} (world : WorldChange) (setting : Setting) (names : List (List ℕ)) (state : R → SourceState) (sources : Vec R A)
     (now : List R) (result : Result S RunFault) → AreOpened state world names (Ok sources)
-    → AreRead is_text (map state sources.items) (map state now) result → ReadsNames world.old.known is_text names (map state now) result
-all_read world is_text names state sources now result are read = record {
+    → AreRead setting.form.hex (map state sources.items) (map state now) result
+    → AskForReaders setting.form.hex setting.workers (map state sources.items) (map state now)
+    → ReadsNames world.old.known setting names (map state now) result
+all_read world setting names state sources now result are read readers = record {
   absent = λ place absent.
       absurd (none_absent (map world.old.known.holds names) (map world.old.known.is_absent names) place are.there absent);
-  reading = inl (record {
-    opened = map state sources.items;
-    are = are.ready;
-    hold = are.bytes;
-    read = read;
-  });
-  read = λ place told. inr (rw are.bytes at read.read place told);
+  reading = inl (rw (are.sources) at read);
+  readers = rw (are.sources) at readers;
+  read = λ place told. inr (rw (lefts_of are.sources) at read.read place told);
 }
 
 -- The same of the inputs of a command's names.
@@ -102,22 +122,23 @@ module _ {S A : Type 0} (world : Known) (is_text : Bool) (names : List (String A
   }
 
   -- all of them were opened, and read as the sources of a run
-  pub inputs_read : {R : Type 0} (state : R → SourceState) (opened now : List R) (result : Result S RunFault) → AreOpen (map state opened)
-      → lefts (map state opened) ≡ of_inputs world.holds world.standard names
+  pub inputs_read : {R : Type 0} (state : R → SourceState) (opened now : List R) (result : Result S RunFault)
+      → map state opened ≡ map fresh (of_inputs world.holds world.standard names)
       → AreRead is_text (map state opened) (map state now) result → ReadsInputs world is_text names (map state now) result
-  inputs_read state opened now result ready bytes read = record {
-    reading = inl (record { opened = map state opened; are = ready; hold = bytes; read = read });
-    read = λ place told. inr (rw bytes at read.read place told);
+  inputs_read state opened now result sources read = record {
+    reading = inl (rw sources at read);
+    read = λ place told. inr (rw (lefts_of sources) at read.read place told);
   }
 
 -- a run over opened inputs is one over their names
 pub run_of_names : {R : Type 0} (state : R → SourceState) (world : Known) (run : Run) (table : Option (List ℕ)) (opened now : List R)
-    (before after : SinkState) (result : Result Completed Refused) → AreOpen (map state opened)
-    → lefts (map state opened) ≡ of_inputs world.holds world.standard run.files.items
+    (before after : SinkState) (result : Result Completed Refused)
+    → map state opened ≡ map fresh (of_inputs world.holds world.standard run.files.items)
     → IsRun run.job table (map state opened) (map state now) before after result
     → IsRunOfNames world (map state now) run table before after result
-run_of_names state world run table opened now before after result ready bytes is = record {
-  ends = λ texts held. inl (is.outcome texts (bytes ∙ held));
-  reads = inputs_read world run.job.setting.form.hex run.files.items state opened now (by_fault result) ready bytes is.reading;
+run_of_names state world run table opened now before after result sources is = record {
+  ends = λ texts held. inl (is.outcome texts (lefts_of sources ∙ held));
+  reads = inputs_read world run.job.setting.form.hex run.files.items state opened now (by_fault result) sources is.reading;
+  readers = rw sources at is.readers;
   sink = is.sink;
 }

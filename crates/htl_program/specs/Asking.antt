@@ -40,7 +40,7 @@ use Rattle.htl_segment.specs.Content.{Content}
 use Rattle.htl_segment.specs.Traces.{Trace}
 use Rattle.htl_symbols.specs.Ranges.{Range}
 use Rattle.htl_program.specs.Endings.{IsUnopened, RunsOut}
-use Rattle.htl_program.specs.Readings.{AreInputs}
+use Rattle.htl_program.specs.Readings.{AreAskedFor, AreInputs}
 use Rattle.htl_program.specs.Worlds.{Known, IsFirstAbsent, IsFirstRefused}
 use Rattle.htl_program.specs.declared.conversing.ask_fault.AskFault.{AskFault}
 use Rattle.htl_program.specs.declared.conversing.ask_fault.AskFault.TheVariants.{Run, Dialogue}
@@ -105,10 +105,11 @@ IsAbsenceOver setting (Some (segments taken)) job absence = absence ≡ None
 
 -- The names were opened and read as any run reads its sources, which these are by now. The first name for which there is nothing is
 -- reported by its place, and a failed read of a name that was refused, or of a source whose read failed or gave bytes too often.
-pub record ReadsNames {S : Type 0} (world : Known) (is_text : Bool) (names : List (List ℕ)) (sources : List SourceState)
+pub record ReadsNames {S : Type 0} (world : Known) (setting : Setting) (names : List (List ℕ)) (sources : List SourceState)
     (result : Result S RunFault) : Type 0 where
   pub absent : (place : ℕ) → IsFirstAbsent (map world.holds names) (map world.is_absent names) place → IsUnopened place result
-  pub reading : AreInputs is_text (map world.holds names) (map world.holds names) (map world.is_absent names) sources result
+  pub reading : AreInputs setting.form.hex (map world.holds names) (map world.holds names) (map world.is_absent names) sources result
+  pub readers : AreAskedFor setting (map world.holds names) sources
   pub read : (place : ℕ) → result ≡ Err (Read place)
       → IsFirstRefused (map world.holds names) (map world.is_absent names) place
       ⊎ (IsTrueAt (map has_failed sources) place ⊎ IsEndless (map good_reads sources) (map world.holds names) place)
@@ -181,7 +182,7 @@ LeadsTo setting (Some (segments before)) (all_hold texts) sources after ended =
 pub record ReadsMore (world : Known) (setting : Setting) (before : Option Taken) (names : List (List ℕ))
     (after : Option Taken) (ended : Result Added Refused) : Type 0 where
   pub sources : List SourceState
-  pub reads : ReadsNames world setting.form.hex names sources (by_fault ended)
+  pub reads : ReadsNames world setting names sources (by_fault ended)
   pub leads : LeadsTo setting before (found world names) sources after ended
 
 -- Who answers from what was read so far.

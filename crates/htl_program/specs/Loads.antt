@@ -1,9 +1,9 @@
 -- For the clauses of private functions: what is kept answers the lines of a dialogue, before files are read and after.
-use Rattle.std.specs.Prelude.{◌≡◌, ◌⊎◌, [], ⊤, ℕ, Bool, true, false, List, IfErr, IfOk, None, Some, Option, Result, Ok, Err, map}
+use Rattle.std.specs.Prelude.{◌≡◌, ◌⊎◌, [], ⊤, ℕ, Bool, true, false, List, IfErr, IfOk, OnOk, None, Some, Option, Result, Ok, Err, map}
 use Rattle.htl_command.specs.Needs.{needs_events}
 use Rattle.htl_command.specs.declared.question.Job.{Job}
 use Rattle.htl_command.specs.declared.question.Setting.{Setting}
-use Rattle.htl_device.specs.States.{SourceState}
+use Rattle.htl_device.specs.States.{SourceState, IfKnown}
 use Rattle.htl_inputs.specs.declared.fault.RunFault.{RunFault}
 use Rattle.htl_inputs.specs.declared.fault.RunFault.TheVariants.{Incomplete, Memory}
 use Rattle.htl_dialogue.specs.Dialogues.{Answers, answers_by}
@@ -14,7 +14,8 @@ use Rattle.htl_main.specs.Coverages.{IsCoverage}
 use Rattle.htl_main.specs.Folding.{AreFolded, IsAskedOver, IsCollectionOf, folding}
 use Rattle.htl_main.specs.Loading.{AreLoadedOf}
 use Rattle.htl_main.specs.Origins.{by_fault}
-use Rattle.htl_main.specs.Printed.{HasSymbols}
+use Rattle.htl_main.specs.Printed.{HasSymbols, WorkersFit}
+use Rattle.htl_inputs.specs.Readings.{AreRead, AskForReaders}
 use Rattle.htl_main.specs.Runs.{EndsAdding}
 use Rattle.htl_main.specs.Subjects.{HasAbsence}
 use Rattle.htl_main.specs.declared.loading.adding.Added.{Added}
@@ -25,7 +26,7 @@ use Rattle.htl_main.specs.declared.printing.AnswerText.{AnswerText}
 use Rattle.htl_main.specs.declared.refused.Refused.{Refused}
 use Rattle.htl_segment.specs.Content.{Content}
 use Rattle.htl_segment.specs.Traces.{Trace}
-use Rattle.htl_program.specs.Asking.{Begins, GoesOn, IsAnswerText, IsFolding, ReadsNames, Taken, found}
+use Rattle.htl_program.specs.Asking.{Begins, GoesOn, IsAnswerText, IsBeginsBetween, IsBeginsCause, IsFolding, ReadsNames, Taken, found}
 use Rattle.htl_program.specs.Asking.{inputs, one_is_absent, segments}
 use Rattle.htl_program.specs.Endings.{RunsOut}
 use Rattle.htl_program.specs.Worlds.{Known}
@@ -79,7 +80,7 @@ AreKept setting symbols kept read = ⊥
 pub record AddsFiles (world : Known) (setting : Setting) (before : Loaded) (names : List (List ℕ)) (after : Loaded)
     (ended : Result Added Refused) : Type 0 where
   pub sources : List SourceState
-  pub reads : ReadsNames world setting.form.hex names sources (by_fault ended)
+  pub reads : ReadsNames world setting names sources (by_fault ended)
   pub adds : (texts : List (List ℕ)) → map world.holds names ≡ map Some texts
       → EndsAdding setting before.case.segments texts sources after.case ended ⊎ RunsOut ended
   pub coverage : IfOk ended (λ added. IsCoverage after.case after.coverage)
@@ -90,7 +91,7 @@ pub record AddsFiles (world : Known) (setting : Setting) (before : Loaded) (name
 pub record FoldsFiles (world : Known) (setting : Setting) (before : Folded) (names : List (List ℕ)) (after : Folded)
     (ended : Result Added Refused) : Type 0 where
   pub sources : List SourceState
-  pub reads : GoesOn ended → ReadsNames world setting.form.hex names sources (by_fault ended)
+  pub reads : GoesOn ended → ReadsNames world setting names sources (by_fault ended)
   pub folds : GoesOn ended → (taken : List Content) (texts : List (List ℕ)) → AreFolded before.analyst taken
       → map world.holds names ≡ map Some texts
       → IsFolding (folding setting taken texts sources) (AreFolded after.analyst) ended
@@ -119,3 +120,19 @@ pub record IsBegun (folds : Bool) (setting : Setting) (symbols : Option (List �
 abbrev pub IsCovered : Kept → Type 0
 IsCovered (Case loaded) = IsCoverage loaded.case loaded.coverage
 IsCovered (State folded) = ⊤
+
+-- A dialogue has something before its first line; or there is a reason why not, and two segments that it is about.
+abbrev pub EndsKeeping : Bool → Setting → Option (List ℕ) → List (List ℕ) → List SourceState → Result Begun Refused → Type 0
+EndsKeeping folds setting symbols texts new (Ok begun) = IsBegun folds setting symbols texts begun
+EndsKeeping folds setting symbols texts new (Err refused) =
+    IsBeginsCause folds setting symbols texts new refused.fault × IsBeginsBetween folds setting texts refused.fault refused.between
+
+-- Inputs were read, and their segments kept or folded.
+pub record KeepsAs (folds : Bool) (setting : Setting) (symbols : Option (List ℕ)) (old new : List SourceState)
+    (result : Result Begun Refused) : Type 0 where
+  pub outcome : IfKnown old (λ texts. EndsKeeping folds setting symbols texts new result)
+  pub form : IfOk result (λ begun. is_state begun.kept ≡ folds)
+  pub coverage : IfOk result (λ begun. IsCovered begun.kept)
+  pub workers : OnOk result (WorkersFit setting.workers)
+  pub reading : AreRead setting.form.hex old new (by_fault result)
+  pub readers : AskForReaders setting.form.hex setting.workers old new

@@ -1,7 +1,7 @@
 -- For the clauses of private functions: how inputs and a table of symbols are opened, all of them or none.
 use Rattle.std.specs.Prelude.{◌≡◌, ◌++◌, ◌∷◌, ◌⊎◌, [], ℕ, false, List, All, IfErr, IfOk, OnErr, OnOk, Option, Some, None, Result, Ok, Err}
 use Rattle.std.specs.Prelude.{String, Vec, map, option_map, string_bytes}
-use Rattle.htl_device.specs.States.{AreOpen, SourceState, lefts}
+use Rattle.htl_device.specs.States.{AreOpen, SourceState, fresh}
 use Rattle.htl_inputs.specs.declared.fault.RunFault.{RunFault}
 use Rattle.htl_inputs.specs.declared.fault.RunFault.TheVariants.{Memory, SymbolsRead}
 use Rattle.htl_program.specs.Endings.{IsUnopened, IsUntabled}
@@ -20,7 +20,7 @@ AsksFor world names all (Err fault) = Asks world (EndsEarly names all fault)
 pub record AreOpened {R A : Type 0} (state : R → SourceState) (world : WorldChange) (names : List (List ℕ))
     (result : Result (Vec R A) RunFault) : Type 0 where
   pub ready : IfOk result (λ files. AreOpen (map state files.items))
-  pub bytes : IfOk result (λ files. lefts (map state files.items) ≡ map world.old.known.holds names)
+  pub sources : IfOk result (λ files. map state files.items ≡ map fresh (map world.old.known.holds names))
   pub there : OnOk result (All (λ absent. absent ≡ false) (map world.old.known.is_absent names))
   pub refused : IfErr result (IsUnopenedFor (map world.old.known.holds names) (map world.old.known.is_absent names))
   pub asked : AsksFor world names (all_opened names) result
@@ -29,7 +29,7 @@ pub record AreOpened {R A : Type 0} (state : R → SourceState) (world : WorldCh
 pub record OpensInputsOf {A : Type 0} (world : WorldChange) (names : List (String A)) (inputs : List SourceState)
     (result : Result (Unit {0}) RunFault) : Type 0 where
   pub ready : OnOk result (AreOpen inputs)
-  pub bytes : OnOk result (lefts inputs ≡ of_inputs world.old.known.holds world.old.known.standard names)
+  pub sources : OnOk result (inputs ≡ map fresh (of_inputs world.old.known.holds world.old.known.standard names))
   pub there : OnOk result (All (λ absent. absent ≡ false) (of_each world.old.known.is_absent names))
   pub none : OnErr result (inputs ≡ [])
   pub refused : IfErr result (IsUnopenedFor (of_each world.old.known.holds names) (of_each world.old.known.is_absent names))
@@ -66,7 +66,7 @@ AsksForAll world names table (Err fault) = Asks world (OpensInputs {S = Unit {0}
 pub record OpensAll {A B C : Type 0} (world : WorldChange) (names : List (String A)) (symbols : Option (String B))
     (inputs : List SourceState) (result : Result (Option (Vec ℕ C)) RunFault) : Type 0 where
   pub ready : OnOk result (AreOpen inputs)
-  pub bytes : OnOk result (lefts inputs ≡ of_inputs world.old.known.holds world.old.known.standard names)
+  pub sources : OnOk result (inputs ≡ map fresh (of_inputs world.old.known.holds world.old.known.standard names))
   pub unread : IfErr result (AreUnread (of_inputs world.old.known.holds world.old.known.standard names)
       (of_each world.old.known.holds names) (of_each world.old.known.is_absent names) inputs)
   pub read : IfOk result (λ read. (table : Option (List ℕ)) → IsTable world.old.known.holds symbols table

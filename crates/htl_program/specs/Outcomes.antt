@@ -21,7 +21,7 @@ use Rattle.htl_main.specs.declared.refused.Refused.{Refused}
 use Rattle.htl_program.specs.Asking.{Begins, BeginsAndGets, IsBeginsBetween, IsBeginsCause, Opening, ReportsDevices, Taken, answers_over}
 use Rattle.htl_program.specs.Asking.{before_dialogue}
 use Rattle.htl_program.specs.Endings.{EndsRun, IsUnopened, IsUntabled, RunsOut}
-use Rattle.htl_program.specs.Readings.{AreInputs, ReportsRead}
+use Rattle.htl_program.specs.Readings.{AreAskedFor, AreInputs, ReportsRead}
 use Rattle.htl_program.specs.Rounds.{Asks, AsksLater, OpensAgain, OpensInputs, OpensOnce}
 use Rattle.htl_program.specs.Worlds.{IsFirstAbsent, IsTable, IsTableAbsent, Known, WorldChange, of_each, of_inputs}
 use Rattle.htl_program.specs.declared.conversing.ask_fault.AskFault.{AskFault}
@@ -54,6 +54,7 @@ pub record IsAnswered (world : WorldChange) (inputs : List SourceState) (run : R
   pub untabled : (texts : List (List ℕ)) → HaveTexts world.old.known run.files.items texts
       → IsTableAbsent world.old.known.is_absent run.symbols → IsUntabled (by_fault ended)
   pub reads : ReadsInputs world.old.known run.job.setting.form.hex run.files.items inputs (by_fault ended)
+  pub readers : AreAskedFor run.job.setting (of_inputs world.old.known.holds world.old.known.standard run.files.items) inputs
   pub sink : LeavesSink old new (by_fault ended)
   pub asked : Asks world (OpensInputs (map string_bytes run.files.items) (option_map string_bytes run.symbols) (by_fault ended)
       (OpensAgain world.old.known run.job.setting.form.hex (map string_bytes run.files.items) (by_fault ended)))
@@ -130,7 +131,7 @@ EndsConversing world inputs of talk texts table (Err (asks.Run refused)) =
     IsBeginsCause of.folds of.setting table texts inputs refused.fault ⊎ (refused.fault ≡ Memory)
 
 -- A dialogue was held over the names of its files. What comes before the first line ends as any run does, which is said of the fault alone.
--- Each file was opened once, in order, and then the table of symbols was read; later the lines name files.
+-- Each file was opened once, in order, and then the table of symbols was read; later each line's files were, once and in order.
 pub record IsConversed {S : Type 0} (world : WorldChange) (inputs : List SourceState) (of : Dialogue) (talk : Talk S)
     (ended : Result Conversed AskFault) : Type 0 where
   pub outcome : (texts : List (List ℕ)) → (table : Option (List ℕ)) → HaveTexts world.old.known of.files.items texts
@@ -142,5 +143,6 @@ pub record IsConversed {S : Type 0} (world : WorldChange) (inputs : List SourceS
   pub untabled : (texts : List (List ℕ)) → HaveTexts world.old.known of.files.items texts
       → IsTableAbsent world.old.known.is_absent of.symbols → IsUntabled (by_fault (before_dialogue ended))
   pub reads : ReadsInputs world.old.known of.setting.form.hex of.files.items inputs (by_fault (before_dialogue ended))
+  pub readers : AreAskedFor of.setting (of_inputs world.old.known.holds world.old.known.standard of.files.items) inputs
   pub asked : Asks world (OpensInputs (map string_bytes of.files.items) (option_map string_bytes of.symbols)
-      (by_fault (before_dialogue ended)) (AsksLater (before_dialogue ended)))
+      (by_fault (before_dialogue ended)) (AsksLater of.folds talk.questions.remaining (before_dialogue ended)))

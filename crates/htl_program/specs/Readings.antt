@@ -1,19 +1,12 @@
 -- How the inputs of a run were read in a world (this project's own).
 use Rattle.std.specs.Prelude.{◌≡◌, ◌⊎◌, ℕ, Bool, List, [], map, Option, String, Result, Err}
-use Rattle.htl_device.specs.States.{AreOpen, SourceState, good_reads, has_failed, lefts}
-use Rattle.htl_inputs.specs.Readings.{AreRead}
+use Rattle.htl_device.specs.States.{SourceState, good_reads, has_failed, fresh}
+use Rattle.htl_inputs.specs.Readings.{AreRead, AskForReaders}
 use Rattle.htl_inputs.specs.Sources.{IsEndless, IsTrueAt}
 use Rattle.htl_inputs.specs.declared.fault.RunFault.{RunFault}
 use Rattle.htl_inputs.specs.declared.fault.RunFault.TheVariants.{Memory, Read, SymbolsRead}
+use Rattle.htl_command.specs.declared.question.Setting.{Setting}
 use Rattle.htl_program.specs.Worlds.{IsFirstRefused, Known, of_each, of_inputs}
-
--- They were opened, have these bytes as far as they are known, and were read as any run reads its sources.
-pub record WereRead {S : Type 0} (is_text : Bool) (known : List (Option (List ℕ))) (now : List SourceState) (result : Result S RunFault)
-    : Type 0 where
-  pub opened : List SourceState
-  pub are : AreOpen opened
-  pub hold : lefts opened ≡ known
-  pub read : AreRead is_text opened now result
 
 -- why not all were opened: memory was refused, or a name was, and the first one is given
 abbrev pub IsUnopenedFor : List (Option (List ℕ)) → List Bool → RunFault → Type 0
@@ -25,14 +18,13 @@ IsUnopenedFor holds absences fault =
 -- is nothing to open.
 abbrev pub AreUnread : List (Option (List ℕ)) → List (Option (List ℕ)) → List Bool → List SourceState → RunFault → Type 0
 AreUnread known holds absences now fault =
-    ((now ≡ []) × IsUnopenedFor holds absences fault)
-    ⊎ (AreOpen now × (lefts now ≡ known) × ((fault ≡ SymbolsRead) ⊎ (fault ≡ Memory)))
+    ((now ≡ []) × IsUnopenedFor holds absences fault) ⊎ ((now ≡ map fresh known) × ((fault ≡ SymbolsRead) ⊎ (fault ≡ Memory)))
 
--- They were read so, or the run ended before any was.
+-- They were read as any run reads its sources, or the run ended before any was.
 abbrev pub AreInputs : {S : Type 0} → Bool → List (Option (List ℕ)) → List (Option (List ℕ)) → List Bool → List SourceState
     → Result S RunFault → Type 0
 AreInputs is_text known holds absences now result =
-    WereRead is_text known now result ⊎ ((fault : RunFault) × (result ≡ Err fault) × AreUnread known holds absences now fault)
+    AreRead is_text (map fresh known) now result ⊎ ((fault : RunFault) × (result ≡ Err fault) × AreUnread known holds absences now fault)
 
 -- A failed read is reported of a name that was refused, or of an input whose read failed or gave bytes too often.
 abbrev pub ReportsRead : {A S : Type 0} → Known → List (String A) → List SourceState → Result S RunFault → Type 0
@@ -40,3 +32,7 @@ ReportsRead world names now result =
     (place : ℕ) → result ≡ Err (Read place)
     → IsFirstRefused (of_each world.holds names) (of_each world.is_absent names) place
     ⊎ (IsTrueAt (map has_failed now) place ⊎ IsEndless (map good_reads now) (of_inputs world.holds world.standard names) place)
+
+-- How often other readers of inputs that hold this were asked for since they were opened, in this setting.
+abbrev pub AreAskedFor : Setting → List (Option (List ℕ)) → List SourceState → Type 0
+AreAskedFor setting known now = AskForReaders setting.form.hex setting.workers (map fresh known) now

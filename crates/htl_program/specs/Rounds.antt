@@ -1,8 +1,10 @@
 -- What a world is asked for where names are opened (this project's own): each name once a round, in their order.
-use Rattle.std.specs.Prelude.{◌≡◌, ◌≢◌, ◌++◌, ◌∷◌, ◌⊎◌, [], ⊤, ℕ, zero, suc, Bool, true, false, List, All, Option, Some, None}
-use Rattle.std.specs.Prelude.{Result, Ok, Err, map, slice_get, take}
+use Rattle.std.specs.Prelude.{◌≡◌, ◌++◌, ◌∷◌, ◌⊎◌, [], ⊤, ℕ, zero, suc, Bool, true, false, List, All, Option, Some, None, Result, Ok, Err}
+use Rattle.std.specs.Prelude.{map, slice_get, take}
 use Rattle.htl_inputs.specs.declared.fault.RunFault.{RunFault}
 use Rattle.htl_inputs.specs.declared.fault.RunFault.TheVariants.{Memory, Read, SymbolsRead}
+use Rattle.htl_dialogue.specs.Dialogues.{asked_lines}
+use Rattle.htl_dialogue.specs.Sayings.{Saying, reads, saying_in}
 use Rattle.htl_program.specs.Worlds.{Ask, IsAsked, Known, WorldChange, for_standard, to_open, to_read}
 use Rattle.htl_program.specs.declared.world.OpenFault.{OpenFault}
 use Rattle.htl_program.specs.declared.world.OpenFault.TheVariants.{NoMemory, Refused}
@@ -64,18 +66,44 @@ abbrev pub Rounds : {S : Type 0} → ℕ → List (List ℕ) → Result S RunFau
 Rounds zero names ended asks = asks ≡ []
 Rounds (suc count) names ended asks = (asks ≡ []) ⊎ Round names ended (Rounds count names ended) asks
 
--- Files of bytes that can all be read again were opened at most two times more; other inputs weren't.
+-- all inputs can be read again: the files of the names, or standard input where there is none
+abbrev pub CanBeReadAgain : Known → List (List ℕ) → Type 0
+CanBeReadAgain known [] = known.standard_can_be_read_again ≡ true
+CanBeReadAgain known (name ∷ more) = All (λ can. can ≡ true) (map known.can_be_read_again (name ∷ more))
+
+-- Inputs of bytes that can all be read again were opened at most two times more; other inputs weren't.
 abbrev pub OpensAgain : {S : Type 0} → Known → Bool → List (List ℕ) → Result S RunFault → List Ask → Type 0
 OpensAgain known is_text names ended asks =
     (asks ≡ [])
-    ⊎ ((is_text ≡ false) × (names ≢ []) × All (λ can. can ≡ true) (map known.can_be_read_again names) × Rounds 2 names ended asks)
+    ⊎ ((is_text ≡ false) × CanBeReadAgain known names × Rounds 2 names ended asks)
 
 -- a name was asked for: not standard input, and no table of symbols
 abbrev pub IsOfName : Ask → Type 0
 IsOfName (to_open name why) = ⊤
 IsOfName other = ⊥
 
--- Once a dialogue began, only names were asked for; where it didn't begin, nothing more was.
-abbrev pub AsksLater : {S E : Type 0} → Result S E → List Ask → Type 0
-AsksLater (Ok began) asks = All IsOfName asks
-AsksLater (Err why) asks = asks ≡ []
+-- Names were asked for one after the other, each once: all of them, or those up to one at which that ended.
+abbrev pub AsksNames : List (List ℕ) → List Ask → Type 0
+AsksNames names asks = (asks ≡ all_opened names) ⊎ ((fault : RunFault) × EndsEarly names (all_opened names) fault asks)
+
+-- what is asked for by what a line says: the names that it reads
+abbrev pub LineAsks : Saying → List Ask → Type 0
+LineAsks (reads names) asks = AsksNames names asks
+LineAsks other asks = asks ≡ []
+
+-- The same by lines, one after the other, in a dialogue that forgets events or keeps them.
+abbrev pub LinesAsk : Bool → List (List ℕ) → List Ask → Type 0
+LinesAsk forgets [] asks = asks ≡ []
+LinesAsk forgets (line ∷ more) asks =
+    (own later : List Ask) × LineAsks (saying_in forgets line) own × LinesAsk forgets more later × (asks ≡ own ++ later)
+
+-- The lines of a text asked for what they read, up to one of them. Where the text isn't known, only names were asked for.
+abbrev pub DialogueAsks : Bool → Option (List ℕ) → List Ask → Type 0
+DialogueAsks forgets None asks = All IsOfName asks
+DialogueAsks forgets (Some text) asks =
+    (earlier later : List (List ℕ)) × (asked_lines text ≡ earlier ++ later) × LinesAsk forgets earlier asks
+
+-- Once a dialogue began, its lines asked; where it didn't begin, nothing more was asked for.
+abbrev pub AsksLater : {S E : Type 0} → Bool → Option (List ℕ) → Result S E → List Ask → Type 0
+AsksLater forgets text (Ok began) asks = DialogueAsks forgets text asks
+AsksLater forgets text (Err why) asks = asks ≡ []

@@ -8,7 +8,8 @@ use Rattle.htl_main.specs.declared.completed.Completed.{Completed}
 use Rattle.htl_main.specs.declared.refused.Refused.{Refused}
 use Rattle.htl_program.specs.Endings.{EndsRun, RunsOut}
 use Rattle.htl_program.specs.Outcomes.{HaveTexts, ReadsInputs}
-use Rattle.htl_program.specs.Worlds.{Known}
+use Rattle.htl_program.specs.Readings.{AreAskedFor}
+use Rattle.htl_program.specs.Worlds.{Known, of_inputs}
 
 -- `inputs` are those of the last time.
 pub record IsRunOfNames (world : Known) (inputs : List SourceState) (run : Run) (table : Option (List ℕ)) (before after : SinkState)
@@ -16,4 +17,5 @@ pub record IsRunOfNames (world : Known) (inputs : List SourceState) (run : Run) 
   pub ends : (texts : List (List ℕ)) → HaveTexts world run.files.items texts
       → EndsRun run.job texts table inputs before.contents after.contents result ⊎ RunsOut result
   pub reads : ReadsInputs world run.job.setting.form.hex run.files.items inputs (by_fault result)
+  pub readers : AreAskedFor run.job.setting (of_inputs world.holds world.standard run.files.items) inputs
   pub sink : LeavesSink before after (by_fault result)

@@ -6,13 +6,14 @@ use Rattle.htl_device.specs.States.{SourceState, fresh}
 use Rattle.htl_program.specs.declared.world.OpenFault.{OpenFault}
 use Rattle.htl_program.specs.declared.world.OpenFault.TheVariants.{Refused}
 
--- What is known of a world: what each name holds, whether there is nothing to open for it, whether it may be read again, and what standard
--- input holds.
+-- What is known of a world: what each name holds, whether there is nothing to open for it, and whether it may be read again; what standard
+-- input holds, and whether that may be read again.
 pub record Known : Type 0 where
   pub holds : List ℕ → Option (List ℕ)
   pub is_absent : List ℕ → Bool
   pub can_be_read_again : List ℕ → Bool
   pub standard : Option (List ℕ)
+  pub standard_can_be_read_again : Bool
 
 -- One thing that a world was asked for: to open a name, or to read all of one, and why that was refused, if it was; standard input; or
 -- standard input as the lines of a dialogue.

@@ -1,15 +1,15 @@
 //! Answers a question in a world: opens its files, runs it, and reads files again if it has to.
 
-ghost use Rattle.std.specs.Prelude.{◌≡◌, ◌≢◌, [], All, IfErr, IfOk, false, map};
+ghost use Rattle.std.specs.Prelude.{◌≡◌, IfErr, IfOk, false, map};
 ghost use Rattle.std.specs.Prelude.{option_copied, string_bytes, true};
-ghost use Rattle.htl_device.specs.States.{AreOpen, lefts};
+ghost use Rattle.htl_device.specs.States.{AreOpen, fresh};
 ghost use Rattle.htl_main.specs.Origins.{by_fault};
 ghost use Rattle.htl_question.specs.Questions.{Serves};
 ghost use Rattle.htl_main.specs.Runs.{IsRun};
 ghost use Rattle.htl_program.specs.Outcomes.{IsAnswered};
-ghost use Rattle.htl_program.specs.Rounds.{Asks, OpensAgain, Rounds};
+ghost use Rattle.htl_program.specs.Rounds.{Asks, CanBeReadAgain, OpensAgain, Rounds};
 ghost use Rattle.htl_program.specs.Runs.{IsRunOfNames};
-ghost use Rattle.htl_program.specs.Worlds.{change, of_each, of_inputs};
+ghost use Rattle.htl_program.specs.Worlds.{change, of_inputs};
 
 use crate::opening::{as_bytes, open_all, open_inputs};
 use crate::world::World;
@@ -22,9 +22,9 @@ use std::thread::Threads;
 /// Answers a question from the files and the table of symbols that its command names, or from
 /// standard input if it names no file.
 ///
-/// The first file that can't be opened is reported, or else the table. Of files that can be read
+/// The first file that can't be opened is reported, or else the table. Of inputs that can be read
 /// again only the events that the question asks about are kept: should these not tell the outcome,
-/// the files are opened once more and more of them is kept.
+/// the inputs are opened once more and more of them is kept.
 ///
 /// Afterwards `inputs` has what was opened, as far as it was read.
 pub fn answer<Rt: Threads + Sync, W: World, O: Sink>(
@@ -55,9 +55,9 @@ fn run_inputs<Rt: Threads + Sync, W: World, O: Sink>(
     out: &mut O,
 ) -> Result<Completed, Refused>
     requires ready { AreOpen (map W.Input.state inputs.old.items) }
-    requires bytes { lefts (map W.Input.state inputs.old.items)
-        ≡ of_inputs (W.state world.old).known.holds (W.state world.old).known.standard
-        run.now.files.items }
+    requires sources { map W.Input.state inputs.old.items
+        ≡ map fresh (of_inputs (W.state world.old).known.holds (W.state world.old).known.standard
+        run.now.files.items) }
     requires out { (O.state out.old).failed ≡ false }
     ensures run { IsRunOfNames (W.state world.old).known (map W.Input.state inputs.new.items)
         run.now (option_copied symbols.entry) (O.state out.old) (O.state out.new) result }
@@ -137,23 +137,22 @@ fn run_again<Rt: Threads + Sync, W: World, O: Sink>(
     run_from(rt, alloc, &run.job, inputs, symbols, out)
 }
 
-/// Whether a first reading may keep only what the question asks about: if its inputs are bytes of files
-/// that can be read again.
+/// Whether a first reading may keep only what the question asks about: if its inputs are bytes that can
+/// be read again.
 fn can_pick<W: World>(world: &W, run: &Run) -> bool
     ensures { result ≡ true → (run.now.job.setting.form.hex ≡ false)
-        × (map string_bytes run.now.files.items ≢ []) × All (λ can. can ≡ true)
-        (of_each (W.state world.now).known.can_be_read_again run.now.files.items) }
+        × CanBeReadAgain (W.state world.now).known (map string_bytes run.now.files.items) }
 {
     !run.job.setting.form.hex && can_be_read_again(world, &run.files)
 }
 
-/// Whether all of the files can be read again. Standard input can't.
+/// Whether all inputs can be read again: the files, or standard input where there is none.
 fn can_be_read_again<W: World>(world: &W, files: &[String]) -> bool
-    ensures { result ≡ true → (map string_bytes files.now ≢ []) × All (λ can. can ≡ true)
-        (of_each (W.state world.now).known.can_be_read_again files.now) }
+    ensures { result ≡ true
+        → CanBeReadAgain (W.state world.now).known (map string_bytes files.now) }
 {
     if files.is_empty() {
-        return false;
+        return world.standard_can_be_read_again();
     }
     for name in files {
         if !world.can_be_read_again(name) {

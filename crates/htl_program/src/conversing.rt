@@ -12,7 +12,7 @@ mod speaker;
 
 ghost use Rattle.std.specs.Prelude.{◌≡◌, IfErr, false, map, option_copied};
 ghost use Rattle.htl_device.specs.States.{AreOpen, IfKnown, IsOpen};
-ghost use Rattle.htl_inputs.specs.Readings.{AreRead};
+ghost use Rattle.htl_inputs.specs.Readings.{AreRead, AskForReaders};
 ghost use Rattle.htl_main.specs.Origins.{by_fault};
 ghost use Rattle.htl_program.specs.Asking.{IsBeginsBetween, ReportsDevices, before_dialogue};
 ghost use Rattle.htl_program.specs.Outcomes.{EndsConversing, IsConversed, talk};
@@ -97,8 +97,12 @@ fn ask_opened<Rt: Threads + Sync, W: World, Q: Source, O: Sink, H: Speaker>(
     ensures reading { AreRead files.now.dialogue.now.setting.form.hex
         (map W.Input.state inputs.old.items) (map W.Input.state inputs.new.items)
         (by_fault (before_dialogue result)) }
+    ensures readers { AskForReaders files.now.dialogue.now.setting.form.hex
+        files.now.dialogue.now.setting.workers (map W.Input.state inputs.old.items)
+        (map W.Input.state inputs.new.items) }
     ensures asked { Asks (change (W.state world.old) (W.state world.new))
-        (AsksLater (before_dialogue result)) }
+        (AsksLater files.now.dialogue.now.folds (Q.state questions.old).remaining
+        (before_dialogue result)) }
     ensures untouched { IfErr (before_dialogue result)
         (λ _. (questions.new ≡ questions.old) × (out.new ≡ out.old)
         × (speaker.new ≡ speaker.old)) }

@@ -43,4 +43,9 @@ pub trait World {
     /// a pipe or a device doesn't.
     fn can_be_read_again(&self, name: &str) -> bool
         ensures { result ≡ true → (state self.now).known.can_be_read_again name.now ≡ true };
+
+    /// Whether standard input gives the same bytes, as fast, when it is asked for again. A regular
+    /// file does.
+    fn standard_can_be_read_again(&self) -> bool
+        ensures { result ≡ true → (state self.now).known.standard_can_be_read_again ≡ true };
 }

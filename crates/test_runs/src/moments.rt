@@ -21,6 +21,11 @@ const SINCE_SNAPSHOT: Question = Question::Leaks {
     at_least: 1,
 };
 
+const SITES: Question = Question::Sites {
+    since: Some(Since::Snapshot),
+    at_least: 1,
+};
+
 const OFTEN: Question = Question::Leaks {
     process: 4,
     since: None,
@@ -52,6 +57,11 @@ const ANSWERS: &[(Question, Option<Moment>, &str)] = &[
         "leaks process=4 since=2 until=3 count=1\nLEAK handles=1\n",
     ),
     (OFTEN, None, "leaks process=4 count=0\n"),
+    (
+        SITES,
+        Some(Moment::Complete),
+        "sites since=snapshot until=3 count=1\nSITE handles=1 processes=1\n",
+    ),
     (
         GROWTH,
         None,

@@ -45,6 +45,7 @@ impl<'a> World for Memory<'a> {
         is_absent = λ name. is_none (find (λ file. bytes_eq file.name.now name) world.files.now);
         can_be_read_again = λ name. true;
         standard = Some world.standard.now;
+        standard_can_be_read_again = true;
       };
       asked = None;
     } };
@@ -75,6 +76,10 @@ impl<'a> World for Memory<'a> {
     }
 
     fn can_be_read_again(&self, _name: &str) -> bool {
+        true
+    }
+
+    fn standard_can_be_read_again(&self) -> bool {
         true
     }
 }

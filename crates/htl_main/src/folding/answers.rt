@@ -9,7 +9,7 @@ ghost use Rattle.htl_evidence.specs.Bases.{IsAnswer};
 ghost use Rattle.htl_main.specs.Asked.{IsUnasked};
 ghost use Rattle.htl_main.specs.Completeness.{IsComplete};
 ghost use Rattle.htl_main.specs.Folding.{AreFolded, IsAskedOver, IsCollectionOf};
-ghost use Rattle.htl_main.specs.Printed.{IsText};
+ghost use Rattle.htl_main.specs.Printed.{IsText, WorkersFit};
 ghost use Rattle.htl_main.specs.Remarks.{RemarksOver};
 
 use crate::coverage::Missed;
@@ -36,7 +36,8 @@ pub fn folded_text(
     job: &Job,
     folded: &Folded,
 ) -> Result<AnswerText, RunFault>
-    requires { needs_events job.now ≡ false }
+    requires workers { WorkersFit setting.workers }
+    requires asked { needs_events job.now ≡ false }
     ensures text { IfOk result (λ text. (segments : List Content) (T : Trace)
         → AreFolded folded.now.analyst segments → IsAskedOver job.now.question segments T
         → IsText T folded.now.symbols job.now text.lines.items) }

@@ -1,7 +1,7 @@
 //! Takes the segments of sources into a folder, up to the first fault.
 
-ghost use Rattle.std.specs.Prelude.{◌≡◌, ◌≢◌, [], ℕ, List, Option, true, map};
-ghost use Rattle.std.specs.Prelude.{IfErr, IfOk, IfSome, OnErr, OnOk};
+ghost use Rattle.std.specs.Prelude.{◌≡◌, ◌≢◌, [], ℕ, List, Option, true, map, IfErr, IfOk, IfSome};
+ghost use Rattle.std.specs.Prelude.{OnOk};
 ghost use Rattle.htl_segment.specs.Content.{Content};
 ghost use Rattle.htl_device.specs.declared.whole.TheConstants.{MAX_READS};
 ghost use Rattle.htl_segment.specs.Keepers.{Took};
@@ -9,15 +9,14 @@ ghost use Rattle.htl_device.specs.States.{AreOpen, IfKnown, IsOpen};
 ghost use Rattle.htl_inputs.specs.Ends.{IsInput};
 ghost use Rattle.htl_inputs.specs.Inputs.{HasBytes, IsReportedOfInput, SameDigits};
 ghost use Rattle.htl_inputs.specs.Faults.{of_case};
-ghost use Rattle.htl_inputs.specs.Readings.{AreRead};
+ghost use Rattle.htl_inputs.specs.Readings.{AreRead, AskForReaders, readers_of};
 ghost use Rattle.htl_inputs.specs.Reads.{IsRead, NamesOnly, NeverRead, NeverWrite, ReadsAll};
 ghost use Rattle.htl_inputs.specs.Sources.{IsReportedOfSource};
-ghost use Rattle.htl_main.specs.Folders.{AreAllTaken, GaveOwn, IsOfInput, TookInputs};
-ghost use Rattle.htl_main.specs.Folders.{TookToFault, folds_of};
-ghost use Rattle.htl_main.specs.Folding.{AreFolded, AsksFoldsMemory};
-ghost use Rattle.htl_main.specs.Folding.{IsFoldingRefused, IsHalfKnown, folding};
+ghost use Rattle.htl_main.specs.Folders.{GaveOwn, IsOfInput, TookInputs, TookToFault, folds_of};
+ghost use Rattle.htl_main.specs.Folders.{TakesAll};
+ghost use Rattle.htl_reading.specs.Sources.{AsksReaders};
+ghost use Rattle.htl_main.specs.Folding.{AreFolded, IsHalfKnown, folding};
 ghost use Rattle.htl_main.specs.Origins.{by_fault};
-ghost use Rattle.htl_main.specs.Printed.{WorkersFit};
 
 use crate::folding::Folded;
 use crate::folding::folder::Folder;
@@ -53,23 +52,16 @@ pub(crate) fn take_all<Rt: Threads + Sync, R: Parted>(
     inputs: &mut [R],
 ) -> (Result<Taken, Refused>, Result<(), NoMemory>)
     requires ready { AreOpen (map R.state inputs.old) }
-    ensures ok { (before : List Content) → AreFolded folded.old.analyst before
-        → IfKnown (map R.state inputs.old) (λ texts. OnOk result.1 (IfOk result.0 (λ taken.
-        AreAllTaken setting.form before texts folded.old.analyst folded.new.analyst
-        taken.segments taken.cuts.items))) }
-    ensures err { (before : List Content) → AreFolded folded.old.analyst before
-        → IfKnown (map R.state inputs.old) (λ texts. WorkersFit setting.workers
-        → IfErr result.0 (λ refused. IsFoldingRefused
-        (folding setting before texts (map R.state inputs.new))
-        (λ taken. OnOk result.1 (AreFolded folded.new.analyst taken)) refused.fault)) }
-    ensures memory { (before : List Content) → AreFolded folded.old.analyst before
-        → IfKnown (map R.state inputs.old) (λ texts. WorkersFit setting.workers
-        → OnErr result.1
-        (AsksFoldsMemory (folding setting before texts (map R.state inputs.new)))) }
+    ensures taken { (before : List Content) → AreFolded folded.old.analyst before
+        → IfKnown (map R.state inputs.old) (λ texts.
+        TakesAll (folding setting before texts (map R.state inputs.new))
+        folded.old.analyst folded.new.analyst result.0 result.1) }
     ensures between { IfErr result.0 (λ refused. IsHalfKnown refused.fault refused.between) }
     ensures symbols { folded.new.symbols ≡ folded.old.symbols }
     ensures reading { AreRead setting.form.hex (map R.state inputs.old) (map R.state inputs.new)
         (by_fault result.0) }
+    ensures readers { AskForReaders setting.form.hex setting.workers (map R.state inputs.old)
+        (map R.state inputs.new) }
     ensures no_write { NeverWrite (by_fault result.0) }
 {
     let analyst = mem::replace(&mut folded.analyst, None);
@@ -101,7 +93,8 @@ fn read_all<Rt: Threads + Sync, R: Parted>(
     folder: &mut Folder,
 ) -> Result<Vec<CutEnd>, RunFault>
     requires ready { AreOpen (map R.state sources.old) }
-    ensures reads { ReadsAll setting.form.hex (map R.state sources.old) (map R.state sources.new)
+    ensures reads { ReadsAll setting.form.hex setting.workers (map R.state sources.old)
+        (map R.state sources.new)
         (λ inputs cuts. TookInputs folder.old folder.new setting.form inputs cuts.items)
         (TookToFault folder.old folder.new setting.form (map R.state sources.new)) result }
     ensures of_input { IfErr result IsOfInput }
@@ -138,6 +131,8 @@ fn read_input<Rt: Threads + Sync, R: Parted>(
     ensures of_input { IfErr result IsOfInput }
     ensures reading { IsRead setting.form.hex MAX_READS place (R.state source.old)
         (R.state source.new) result }
+    ensures readers { AsksReaders (readers_of setting.form.hex setting.workers)
+        (R.state source.old).remaining (R.state source.old) (R.state source.new) }
 {
     if setting.form.hex {
         return match read_digits(alloc, source) {

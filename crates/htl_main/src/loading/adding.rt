@@ -19,9 +19,9 @@ use crate::coverage::Coverage;
 use crate::loading::{Loaded, load_decoded};
 use crate::printing::check_workers;
 use crate::refused::Refused;
-use htl_case::Case;
 use htl_command::Setting;
 use htl_device::Parted;
+use htl_evidence::Indexed;
 use htl_inputs::{CutInputs, Decoded, RunFault, read_all};
 use htl_segment::copies;
 use std::alloc::Global;
@@ -90,7 +90,7 @@ pub fn add<Rt: Threads + Sync, R: Parted>(
         ..
     } = whole;
     let new = (case.segments().len() - loaded.case.segments().len()) as u64;
-    loaded.case = case;
+    loaded.case = case.with_index(alloc);
     loaded.coverage = coverage;
     Ok(Added {
         segments,
@@ -105,7 +105,7 @@ pub fn add<Rt: Threads + Sync, R: Parted>(
 fn load_with(
     alloc: Global,
     complete: bool,
-    before: &Case,
+    before: &Indexed,
     mut decoded: Decoded,
     place: u64,
 ) -> Result<Loaded, Refused>

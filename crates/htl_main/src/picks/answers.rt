@@ -1,13 +1,11 @@
 //! The answer over what was picked from a case.
 
 ghost use Rattle.std.specs.Prelude.{◌≡◌, ◌&&◌, ℕ, List, Option, IfErr, IfNone, IfOk, IfSome, not};
-ghost use Rattle.std.specs.List.{list_any};
 ghost use Rattle.std.specs.Option.{option_copied};
 ghost use Rattle.htl_event.specs.Moments.{counted_events};
 ghost use Rattle.htl_segment.specs.Content.{Content};
 ghost use Rattle.htl_segment.specs.Traces.{all_events};
-ghost use Rattle.htl_question.specs.Questions.{Serves, subject_of};
-ghost use Rattle.htl_question.specs.Subjects.{is_about};
+ghost use Rattle.htl_question.specs.Questions.{Serves};
 ghost use Rattle.htl_evidence.specs.Bases.{IsAnswer};
 ghost use Rattle.htl_inputs.specs.CutInputs.{decoding};
 ghost use Rattle.htl_main.specs.Causes.{IsCauseAfter};
@@ -16,8 +14,9 @@ ghost use Rattle.htl_main.specs.Picked.{TellsOfNoHandle};
 ghost use Rattle.htl_main.specs.Picking.{EndsAnswer, IsPickedAsOf, IsPickedFor, ReportsOf};
 ghost use Rattle.htl_main.specs.Picking.{is_of_open_handles};
 ghost use Rattle.htl_main.specs.Printed.{AreAnswerLines};
+ghost use Rattle.htl_main.specs.Subjects.{has_subject};
 
-use crate::completed::{Completed, absence_by, any_list_about};
+use crate::completed::{Completed, absence_by, is_subject_in};
 use crate::coverage::Missed;
 use crate::printing::{check_absence, check_gaps, lines, read_symbols};
 use crate::remarks::remarks_on;
@@ -79,19 +78,19 @@ pub(crate) fn answered_of_picks(
     Ok(Some((lines, completed)))
 }
 
-/// Whether something that was picked of a case, up to a moment, is about the question's subject.
-/// None tells that nothing is, and that more of the case might be.
+/// Whether what the question asks about is among what was picked of a case, up to a moment. None
+/// tells that it isn't, and that it might be among more of the case.
 fn subject_of_picks(job: &Job, interest: Interest, case: &PickedCase) -> Option<bool>
     requires { Serves job.now.question interest }
-    ensures some { IfSome result (λ has_subject. (until : Option ℕ) (segments : List Content)
+    ensures some { IfSome result (λ is_there. (until : Option ℕ) (segments : List Content)
         (is : IsPickedAsOf interest until case.now segments) → IsNamedMoment is.trace job.now.until until
-        → has_subject ≡ list_any (is_about (subject_of job.now.question))
+        → is_there ≡ has_subject job.now.question
         (counted_events until (all_events is.trace.segments))) }
     ensures none { IfNone result ((until : Option ℕ) (segments : List Content)
         (is : IsPickedAsOf interest until case.now segments) → IsNamedMoment is.trace job.now.until until
         → TellsOfNoHandle interest segments job.now) }
 {
-    let has_subject = any_list_about(job.question.subject(), case.lists());
+    let has_subject = is_subject_in(job.question, case.lists());
     if falls_short(interest, has_subject) {
         return None;
     }

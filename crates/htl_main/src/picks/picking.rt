@@ -4,6 +4,7 @@ ghost use Rattle.std.specs.Prelude.{◌≡◌, false, map, IfErr, IfOk, IfSome};
 ghost use Rattle.htl_device.specs.States.{AreOpen, IsOpen};
 ghost use Rattle.htl_inputs.specs.Reads.{IsRead, NeverWrite, ReadsAll, StopsIn};
 ghost use Rattle.htl_inputs.specs.Sources.{IsReportedOfSource};
+ghost use Rattle.htl_reading.specs.Sources.{AsksReaders};
 ghost use Rattle.htl_main.specs.Picked.{NeverCase};
 ghost use Rattle.htl_main.specs.Picking.{AreAllPicked, ArePicksMore};
 
@@ -35,7 +36,7 @@ pub(crate) fn pick_all<Rt: Threads + Sync, R: Parted>(
 ) -> Result<AllPicks, RunFault>
     requires ready { AreOpen (map R.state sources.old) }
     requires bytes { form.hex ≡ false }
-    ensures reads { ReadsAll false (map R.state sources.old) (map R.state sources.new)
+    ensures reads { ReadsAll false workers (map R.state sources.old) (map R.state sources.new)
         (AreAllPicked form interest) (StopsIn form (map R.state sources.new)) result }
     ensures no_write { NeverWrite result }
     ensures no_case { NeverCase result }
@@ -69,6 +70,8 @@ fn pick_source<Rt: Threads + Sync, R: Parted>(
         place bytes fault)) }
     ensures reading { IsRead false MAX_READS place (R.state source.old)
         (R.state source.new) result }
+    ensures readers { AsksReaders workers (R.state source.old).remaining (R.state source.old)
+        (R.state source.new) }
     ensures no_write { NeverWrite result }
     ensures no_case { NeverCase result }
 {

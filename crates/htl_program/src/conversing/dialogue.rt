@@ -1,6 +1,6 @@
 //! A dialogue over what is kept: each line gets its reply, and files that it names are read too.
 
-ghost use Rattle.std.specs.Prelude.{◌≡◌, ◌⊎◌, ℕ, All, List, Err, Some, false, true};
+ghost use Rattle.std.specs.Prelude.{◌≡◌, ◌⊎◌, ℕ, List, Err, Some, false, true};
 ghost use Rattle.std.specs.Prelude.{IfErr, IfOk, OnOk, string_bytes};
 ghost use Rattle.std.specs.Io.KnownBytes.{Appends};
 ghost use Rattle.htl_device.specs.Devices.{AppendsPrefix};
@@ -11,10 +11,11 @@ ghost use Rattle.htl_dialogue.specs.Dialogues.{reading_reply};
 ghost use Rattle.htl_dialogue.specs.Replying.{IsRefusedReply, Replies, Tells, fault_of};
 ghost use Rattle.htl_dialogue.specs.Notes.{told_of};
 ghost use Rattle.htl_dialogue.specs.Sayings.{saying};
+ghost use Rattle.htl_main.specs.Printed.{WorkersFit};
 ghost use Rattle.htl_program.specs.Asking.{AreEndless};
 ghost use Rattle.htl_program.specs.Loads.{HasAbsenceIn, IsOfForm, answers_from, is_memory};
 ghost use Rattle.htl_program.specs.Loads.{is_state};
-ghost use Rattle.htl_program.specs.Rounds.{Asks, IsOfName};
+ghost use Rattle.htl_program.specs.Rounds.{Asks, DialogueAsks, LineAsks};
 ghost use Rattle.htl_program.specs.Worlds.{Known, change};
 
 use crate::conversing::files::Files;
@@ -45,6 +46,7 @@ pub(crate) fn converse_lines<Rt: Threads + Sync, W: World, Q: Source, O: Sink, H
     out: &mut O,
     host: &mut H,
 ) -> Result<Conversed, DialogueFault>
+    requires workers { WorkersFit files.now.dialogue.now.setting.workers }
     requires questions { IsOpen (Q.state questions.old) }
     requires out { (O.state out.old).failed ≡ false }
     // Each line gets its reply, and the host its notes.
@@ -69,7 +71,8 @@ pub(crate) fn converse_lines<Rt: Threads + Sync, W: World, Q: Source, O: Sink, H
         ⊎ AreEndless (Q.state questions.old).remaining (Q.state questions.new) }
     ensures write { (O.state out.new).failed ≡ true → result ≡ Err DialogueFault.Write }
     ensures failed { result ≡ Err DialogueFault.Write → (O.state out.new).failed ≡ true }
-    ensures asked { Asks (change (W.state world.old) (W.state world.new)) (All IsOfName) }
+    ensures asked { Asks (change (W.state world.old) (W.state world.new))
+        (DialogueAsks (is_state kept.old) (Q.state questions.old).remaining) }
 {
     let mut held = ReadAhead::new(alloc)?;
     let mut conversed = Conversed::fine();
@@ -107,6 +110,7 @@ fn reply<Rt: Threads + Sync, W: World, O: Sink, H: Host>(
     out: &mut O,
     host: &mut H,
 ) -> Result<Conversed, DialogueFault>
+    requires workers { WorkersFit files.now.dialogue.now.setting.workers }
     requires out { (O.state out.old).failed ≡ false }
     requires asks { IsOfForm (is_state kept.old) said.now }
     ensures ok { IfOk result (Replies (answers_from (W.state world.old).known
@@ -120,7 +124,8 @@ fn reply<Rt: Threads + Sync, W: World, O: Sink, H: Host>(
         host.old host.new) }
     ensures same { H.wants_absence host.new ≡ H.wants_absence host.old }
     ensures form { OnOk result (is_state kept.new ≡ is_state kept.old) }
-    ensures asked { Asks (change (W.state world.old) (W.state world.new)) (All IsOfName) }
+    ensures asked { Asks (change (W.state world.old) (W.state world.new))
+        (LineAsks (saying said.now)) }
 {
     match said {
         Said::Nothing | Said::Quits => Ok(Conversed::fine()),
@@ -156,6 +161,7 @@ fn reply_to<Rt: Threads + Sync, O: Sink, H: Host>(
     out: &mut O,
     host: &mut H,
 ) -> Result<Conversed, DialogueFault>
+    requires workers { WorkersFit files.now.dialogue.now.setting.workers }
     requires out { (O.state out.old).failed ≡ false }
     requires asks { is_state kept.now ≡ true → needs_events job.now ≡ false }
     ensures ok { (world : Known) → IfOk result (Replies (answers_from world

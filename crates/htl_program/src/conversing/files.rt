@@ -1,8 +1,8 @@
 //! Files that lines of a dialogue name.
 
-ghost use Rattle.std.specs.Prelude.{All, IfOk, map, string_bytes};
+ghost use Rattle.std.specs.Prelude.{IfOk, map, string_bytes};
 ghost use Rattle.htl_program.specs.Loads.{AddsFiles, FoldsFiles, ReadsFiles};
-ghost use Rattle.htl_program.specs.Rounds.{Asks, IsOfName};
+ghost use Rattle.htl_program.specs.Rounds.{Asks, AsksNames};
 ghost use Rattle.htl_program.specs.Worlds.{change};
 
 use crate::conversing::kept::Kept;
@@ -35,7 +35,8 @@ impl<Rt: Threads + Sync> Files<'_, Rt> {
     ) -> Result<Result<Added, Refused>, NoMemory>
         ensures read { IfOk result (ReadsFiles (W.state world.old).known
             self.now.dialogue.now.setting kept.old (map string_bytes names.now) kept.new) }
-        ensures asked { Asks (change (W.state world.old) (W.state world.new)) (All IsOfName) }
+        ensures asked { Asks (change (W.state world.old) (W.state world.new))
+            (AsksNames (map string_bytes names.now)) }
     {
         match kept {
             Kept::Case(loaded) => Ok(self.add(alloc, world, loaded, names)),
@@ -61,7 +62,8 @@ impl<Rt: Threads + Sync> Files<'_, Rt> {
     ) -> Result<Added, Refused>
         ensures added { AddsFiles (W.state world.old).known self.now.dialogue.now.setting loaded.old
             (map string_bytes names.now) loaded.new result }
-        ensures asked { Asks (change (W.state world.old) (W.state world.new)) (All IsOfName) }
+        ensures asked { Asks (change (W.state world.old) (W.state world.new))
+            (AsksNames (map string_bytes names.now)) }
     {
         let mut inputs = open_files(alloc, world, names)?;
         add(self.rt, alloc, self.dialogue.setting, loaded, &mut inputs)
@@ -77,7 +79,8 @@ impl<Rt: Threads + Sync> Files<'_, Rt> {
     ) -> Result<Added, Refused>
         ensures folded { FoldsFiles (W.state world.old).known self.now.dialogue.now.setting
             folded.old (map string_bytes names.now) folded.new result }
-        ensures asked { Asks (change (W.state world.old) (W.state world.new)) (All IsOfName) }
+        ensures asked { Asks (change (W.state world.old) (W.state world.new))
+            (AsksNames (map string_bytes names.now)) }
     {
         let mut inputs = open_files(alloc, world, names)?;
         fold(self.rt, alloc, self.dialogue.setting, folded, &mut inputs)

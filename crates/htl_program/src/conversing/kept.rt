@@ -1,12 +1,9 @@
 //! What a dialogue keeps of the segments that were read.
 
-ghost use Rattle.std.specs.Prelude.{◌≡◌, IfErr, IfOk, None, map};
+ghost use Rattle.std.specs.Prelude.{◌≡◌, None, map};
 ghost use Rattle.std.specs.Option.{option_copied};
-ghost use Rattle.htl_device.specs.States.{AreOpen, IfKnown};
-ghost use Rattle.htl_inputs.specs.Readings.{AreRead};
-ghost use Rattle.htl_main.specs.Origins.{by_fault};
-ghost use Rattle.htl_program.specs.Asking.{IsBeginsBetween, IsBeginsCause};
-ghost use Rattle.htl_program.specs.Loads.{IsBegun, IsCovered, is_state};
+ghost use Rattle.htl_device.specs.States.{AreOpen};
+ghost use Rattle.htl_program.specs.Loads.{is_state, KeepsAs};
 
 use htl_command::{Job, Setting};
 use htl_device::Parted;
@@ -29,6 +26,7 @@ pub(crate) enum Kept {
 impl Kept {
     ghost use Rattle.std.specs.Prelude.{◌≡◌, ◌≢◌, Err, false, true};
     ghost use Rattle.htl_command.specs.Needs.{needs_events};
+    ghost use Rattle.htl_main.specs.Printed.{WorkersFit};
     ghost use Rattle.htl_program.specs.Loads.{HasAbsenceIn, HasOutcomeIn, is_state};
 
     /// Whether the events are forgotten.
@@ -47,7 +45,8 @@ impl Kept {
         setting: Setting,
         job: &Job,
     ) -> Result<AnswerText, RunFault>
-        requires { is_state self.now ≡ true → needs_events job.now ≡ false }
+        requires workers { WorkersFit setting.workers }
+        requires asks { is_state self.now ≡ true → needs_events job.now ≡ false }
         ensures { result ≢ Err RunFault.Memory
             → HasOutcomeIn setting.complete self.now job.now result }
     {
@@ -88,18 +87,9 @@ pub(crate) fn begin<Rt: Threads + Sync, R: Parted>(
     inputs: &mut [R],
     symbols: Option<&[u8]>,
 ) -> Result<Begun, Refused>
-    requires ready { AreOpen (map R.state inputs.old) }
-    ensures ok { IfKnown (map R.state inputs.old) (λ texts.
-        IfOk result (IsBegun folds setting (option_copied symbols.entry) texts)) }
-    ensures form { IfOk result (λ begun. is_state begun.kept ≡ folds) }
-    ensures coverage { IfOk result (λ begun. IsCovered begun.kept) }
-    ensures cause { IfKnown (map R.state inputs.old) (λ texts.
-        IfErr result (λ refused. IsBeginsCause folds setting (option_copied symbols.entry) texts
-        (map R.state inputs.new) refused.fault)) }
-    ensures between { IfKnown (map R.state inputs.old) (λ texts. IfErr result (λ refused.
-        IsBeginsBetween folds setting texts refused.fault refused.between)) }
-    ensures reading { AreRead setting.form.hex (map R.state inputs.old) (map R.state inputs.new)
-        (by_fault result) }
+    requires { AreOpen (map R.state inputs.old) }
+    ensures { KeepsAs folds setting (option_copied symbols.entry) (map R.state inputs.old)
+        (map R.state inputs.new) result }
 {
     if folds {
         let (folded, added) = load_folded(rt, alloc, setting, inputs, symbols)?;

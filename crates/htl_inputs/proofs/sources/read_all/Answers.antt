@@ -5,14 +5,16 @@ use Rattle.std.proofs.lemmas.Result.{err_from_is_err_and}
 use Rattle.htl_inputs.specs.Ends.{IsInput}
 use Rattle.htl_inputs.specs.declared.fault.RunFault.TheVariants.{Memory}
 use Rattle.htl_inputs.proofs.InputLaws.{asked_of}
-use Rattle.htl_inputs.proofs.ReadingLaws.{all_ended, all_texts, at_next, ends_there, next_of, next_open, none_before, one_more, refused_there}
-use Rattle.htl_inputs.proofs.ReadingLaws.{stops_there}
+use Rattle.htl_inputs.proofs.ReadingLaws.{all_ended, all_texts, at_next, ends_there, next_of, next_open, none_before, one_more, refused_there, stops_there}
+use Rattle.htl_inputs.proofs.ReadingLaws.{asks_more}
 use Rattle.htl_inputs.proofs.SpanLaws.{all_so_far, none_so_far, one_so_far}
 use Rattle.htl_inputs.proofs.sources.read_all.Goals as goal
+use Rattle.htl_inputs.proofs.SourceLaws.{none_asked}
 
 pub loop-place-init : goal.loop-place-init
 loop-place-init g c = record {
   before = none_before _ (map g.R.Source.state c.args.sources.now) c.requires.ready;
+  readers = none_asked c.args.form.hex c.args.workers (map g.R.Source.state c.args.sources.now);
   decoded = λ texts all. none_so_far c.args.form texts c.new-decoded.result c.new-decoded.ensures.segments
       (c.new-decoded.ensures.spans c.args.form texts) c.new-decoded.ensures.cuts;
 }
@@ -25,6 +27,7 @@ loop-place-preserved g c =
     let added = c.in_ok-add.ensures in
     record {
       before = one_more next c.read_input.new.source more c.in_ok-more.ensures.reading;
+      readers = asks_more next c.read_input.new.source c.args.workers l.invariant.readers c.in_ok-more.ensures.readers;
       decoded = λ texts all.
           let one = at_next next texts all (λ bytes. IsInput c.args.form bytes more.segments.items more.end) c.in_ok-more.ensures.ok in
           one_so_far c.args.form texts l.place one.text l.decoded _ more.segments.items more.end one.here one.holds (l.invariant.decoded texts all)
@@ -42,6 +45,7 @@ returns-in_err-more-clause-reads g c =
       outcome = λ texts all. stops_there next c.read_input.new.source c.args.form texts fault l.decoded.segments.items all
           (l.invariant.decoded texts all).segments is.err;
       reading = ends_there next c.read_input.new.source fault is.reading;
+      readers = asks_more next c.read_input.new.source c.args.workers l.invariant.readers is.readers;
     })
 
 pub returns-in_err-add-clause-reads : goal.returns-in_err-add-clause-reads
@@ -56,6 +60,7 @@ returns-in_err-add-clause-reads g c =
           (l.invariant.decoded texts all).segments (IfSome_then _ is.ok
           (λ bytes own. inl (asked_of c.args.form bytes more.segments.items more.end own c.in_err-add.ensures.full)));
       reading = refused_there next c.read_input.new.source more is.reading;
+      readers = asks_more next c.read_input.new.source c.args.workers l.invariant.readers is.readers;
     })
 
 pub returns-clause-reads : goal.returns-clause-reads
@@ -66,6 +71,7 @@ returns-clause-reads g c =
       outcome = λ texts all. all_so_far c.args.form texts l.place l.decoded
           (all_texts g.R.Source.state c.args.sources.now texts l.place all done) (l.invariant.decoded texts all);
       reading = all_ended g.R.Source.state c.args.sources.now l.sources l.place _ l.invariant.before (omega arith);
+      readers = l.invariant.readers;
     }
 
 pub read_input-requires-clause-ready : goal.read_input-requires-clause-ready

@@ -4,6 +4,7 @@ use Rattle.htl_inputs.proofs.DigitsLaws.{digits_read, digits_reported, ok_known,
 use Rattle.htl_inputs.proofs.EndLaws.{accepted_source, refused_source}
 use Rattle.htl_inputs.proofs.OneSource.{accepted_read, decoded_ill, reported_bytes_of}
 use Rattle.htl_inputs.proofs.sources.read_input.Goals as goal
+use Rattle.htl_reading.proofs.ReadLaws.{asks_none}
 
 pub returns-in-Ok-clause-ok : goal.returns-in-Ok-clause-ok
 returns-in-Ok-clause-ok g c =
@@ -51,3 +52,19 @@ pub returns-in-Err-read_bundle-clause-reading : goal.returns-in-Err-read_bundle-
 returns-in-Err-read_bundle-clause-reading g c =
     rw (c.if-form.false, c.from_source.ensures) (decoded_ill c.args.place (g.R.Source.state c.args.source.now)
     (g.R.Source.state c.read_bundle.new.source) c.in-Err-read_bundle.fault c.in-Err-read_bundle.ensures.reading)
+
+pub returns-in-Ok-clause-readers : goal.returns-in-Ok-clause-readers
+returns-in-Ok-clause-readers g c =
+    rw c.if-form.true (asks_none 1 (g.R.Source.state c.args.source.now).remaining (g.R.Source.state c.args.source.now)
+    (g.R.Source.state c.read_digits.new.source) c.in-Ok.ensures.tails)
+
+pub returns-in-Err-clause-readers : goal.returns-in-Err-clause-readers
+returns-in-Err-clause-readers g c =
+    rw c.if-form.true (asks_none 1 (g.R.Source.state c.args.source.now).remaining (g.R.Source.state c.args.source.now)
+    (g.R.Source.state c.read_digits.new.source) c.in-Err.ensures.tails)
+
+pub returns-in-Ok-read_bundle-clause-readers : goal.returns-in-Ok-read_bundle-clause-readers
+returns-in-Ok-read_bundle-clause-readers g c = rw c.if-form.false c.in-Ok-read_bundle.ensures.reading.readers
+
+pub returns-in-Err-read_bundle-clause-readers : goal.returns-in-Err-read_bundle-clause-readers
+returns-in-Err-read_bundle-clause-readers g c = rw c.if-form.false c.in-Err-read_bundle.ensures.reading.readers

@@ -7,6 +7,7 @@ use Rattle.htl_main.specs.Origins.{by_fault}
 use Rattle.htl_main.proofs.AfterDecoding.{refused_is}
 use Rattle.htl_main.proofs.FoldInputs.{gap_about_none, gap_late, gap_no_write, is_folded, no_workers, not_added, read_to_fold}
 use Rattle.htl_main.proofs.LateFaults.{read_late}
+use Rattle.htl_inputs.proofs.SourceLaws.{none_asked}
 use Rattle.htl_main.proofs.folding.fold.Goals as goal
 
 pub returns-in_err-check_workers : goal.returns-in_err-check_workers
@@ -19,6 +20,7 @@ returns-in_err-check_workers g c =
       between = refl;
       symbols = refl;
       reading = inl (unread c.args.setting.form.hex now c.requires.ready);
+      readers = none_asked c.args.setting.form.hex c.args.setting.workers now;
       no_write = λ told. cc told;
     })
 
@@ -27,11 +29,12 @@ returns-in_err-far g c =
     let p = err_from_is_err_and c.from_residual-in_err-far.result c.from_residual-in_err-far.ensures.1 in
     let is = c.take_all-taken.ensures in
     rw (p.1, refused_is p.0 p.2.0 p.2.1) (record {
-      outcome = λ before was texts all. rw c.in_err-far.was at is.memory before was texts all c.in_ok-check_workers.ensures.ok;
+      outcome = λ before was texts all. rw c.in_err-far.was at (is.taken before was texts all).memory c.in_ok-check_workers.ensures.ok;
       between = refl;
       symbols = is.symbols;
       reading = read_to_fold c.args.setting.form.hex (map g.R.Source.state c.args.inputs.now)
           (map g.R.Source.state c.take_all-taken.new.inputs) (by_fault c.take_all-taken.result.0) is.reading;
+      readers = is.readers;
       no_write = λ told. cc told;
     })
 
@@ -41,11 +44,12 @@ returns-in_err-taken g c =
     let is = c.take_all-taken.ensures in
     rw (p.1, p.2) (record {
       outcome = λ before was texts all.
-          rw (c.in_ok-far.was, c.in_err-taken.was) at is.err before was texts all c.in_ok-check_workers.ensures.ok;
+          rw (c.in_ok-far.was, c.in_err-taken.was) at (is.taken before was texts all).err c.in_ok-check_workers.ensures.ok;
       between = rw c.in_err-taken.was at is.between;
       symbols = is.symbols;
       reading = inl (ends_too c.args.setting.form.hex (map g.R.Source.state c.args.inputs.now)
           (map g.R.Source.state c.take_all-taken.new.inputs) c.in_err-taken.field-0.0.fault (rw c.in_err-taken.was at is.reading));
+      readers = is.readers;
       no_write = rw c.in_err-taken.was at is.no_write;
     })
 
@@ -61,11 +65,12 @@ returns-in_err-added g c =
     rw (p.1, refused_is p.0 p.2.0 p.2.1) (record {
       outcome = λ before was texts all. not_added (folding c.args.setting before texts now) c.in_ok-check_workers.ensures.ok
           c.args.folded.now.analyst after taken.segments taken.cuts.items
-          (rw (c.in_ok-far.was, c.in_ok-taken.was) at is.ok before was texts all) fault told;
+          (rw (c.in_ok-far.was, c.in_ok-taken.was) at (is.taken before was texts all).ok) fault told;
       between = gap_about_none c.args.setting.complete taken.cuts.items after fault told;
       symbols = is.symbols;
       reading = inl (read_late c.args.setting.form.hex (map g.R.Source.state c.args.inputs.now) now taken (ill fault)
           (rw c.in_ok-taken.was at is.reading) (gap_late c.args.setting.complete taken.cuts.items after fault told));
+      readers = is.readers;
       no_write = gap_no_write c.args.setting.complete taken.cuts.items after fault told;
     })
 
@@ -77,11 +82,12 @@ returns g c =
     record {
       outcome = λ before was texts all. is_folded (folding c.args.setting before texts now) c.in_ok-check_workers.ensures.ok
           c.args.folded.now.analyst c.take_all-taken.new.folded.analyst taken.segments taken.cuts.items
-          (rw (c.in_ok-far.was, c.in_ok-taken.was) at is.ok before was texts all)
+          (rw (c.in_ok-far.was, c.in_ok-taken.was) at (is.taken before was texts all).ok)
           c.in_ok-added.added was (rw c.number-before.ensures at c.in_ok-added.ensures.ok);
       between = tt;
       symbols = is.symbols;
       reading = inl (read_then c.args.setting.form.hex (map g.R.Source.state c.args.inputs.now) now taken (well c.in_ok-added.added)
           (rw c.in_ok-taken.was at is.reading) (λ at told. cc told) tt);
+      readers = is.readers;
       no_write = tt;
     }

@@ -9,6 +9,7 @@ use Rattle.htl_main.proofs.AfterDecoding.{refused_is}
 use Rattle.htl_main.proofs.FoldInputs.{begins_refused, gap_about_none, gap_late, gap_no_write, is_folded, no_workers, not_added, nothing_folded}
 use Rattle.htl_main.proofs.FoldInputs.{symbols_about_none, symbols_late, symbols_no_write, symbols_refused}
 use Rattle.htl_main.proofs.LateFaults.{read_late}
+use Rattle.htl_inputs.proofs.SourceLaws.{none_asked}
 use Rattle.htl_main.proofs.folding.load_folded.Goals as goal
 
 pub returns-in_err-check_workers : goal.returns-in_err-check_workers
@@ -20,8 +21,10 @@ returns-in_err-check_workers g c =
       outcome = λ texts all. begins_refused c.args.setting (option_copied c.args.symbols) texts now (AreFolded None) Workers
           (no_workers (folding c.args.setting [] texts now) None nothing_folded unfit.1);
       symbols = tt;
+      workers = tt;
       between = refl;
       reading = unread c.args.setting.form.hex now c.requires.ready;
+      readers = none_asked c.args.setting.form.hex c.args.setting.workers now;
       no_write = λ told. cc told;
     })
 
@@ -33,10 +36,12 @@ returns-in_err-taken g c =
     let fault = c.in_err-taken.field-0.0.fault in
     rw (p.1, p.2) (record {
       outcome = λ texts all. begins_refused c.args.setting (option_copied c.args.symbols) texts now _ fault
-          (rw c.in_err-taken.was at is.err [] nothing_folded texts all c.in_ok-check_workers.ensures.ok);
+          (rw c.in_err-taken.was at (is.taken [] nothing_folded texts all).err c.in_ok-check_workers.ensures.ok);
       symbols = tt;
+      workers = tt;
       between = rw c.in_err-taken.was at is.between;
       reading = ends_too c.args.setting.form.hex (map g.R.Source.state c.args.inputs.now) now fault (rw c.in_err-taken.was at is.reading);
+      readers = is.readers;
       no_write = rw c.in_err-taken.was at is.no_write;
     })
 
@@ -45,11 +50,13 @@ returns-in_err-far g c =
     let p = err_from_is_err_and c.from_residual-in_err-far.result c.from_residual-in_err-far.ensures.1 in
     let is = c.take_all-taken.ensures in
     rw (p.1, refused_is p.0 p.2.0 p.2.1) (record {
-      outcome = λ texts all. rw c.in_err-far.was at is.memory [] nothing_folded texts all c.in_ok-check_workers.ensures.ok;
+      outcome = λ texts all. rw c.in_err-far.was at (is.taken [] nothing_folded texts all).memory c.in_ok-check_workers.ensures.ok;
       symbols = tt;
+      workers = tt;
       between = refl;
       reading = read_then c.args.setting.form.hex (map g.R.Source.state c.args.inputs.now) (map g.R.Source.state c.take_all-taken.new.inputs)
           c.in_ok-taken.taken (ill _) (rw c.in_ok-taken.was at is.reading) (λ at told. cc told) (λ place before. before);
+      readers = is.readers;
       no_write = λ told. cc told;
     })
 
@@ -65,11 +72,13 @@ returns-in_err-added g c =
     rw (p.1, refused_is p.0 p.2.0 p.2.1) (record {
       outcome = λ texts all. begins_refused c.args.setting (option_copied c.args.symbols) texts now (AreFolded after) fault
           (not_added (folding c.args.setting [] texts now) c.in_ok-check_workers.ensures.ok None after taken.segments taken.cuts.items
-          (rw (c.in_ok-far.was, c.in_ok-taken.was) at is.ok [] nothing_folded texts all) fault told);
+          (rw (c.in_ok-far.was, c.in_ok-taken.was) at (is.taken [] nothing_folded texts all).ok) fault told);
       symbols = tt;
+      workers = tt;
       between = gap_about_none c.args.setting.complete taken.cuts.items after fault told;
       reading = read_late c.args.setting.form.hex (map g.R.Source.state c.args.inputs.now) now taken (ill fault)
           (rw c.in_ok-taken.was at is.reading) (gap_late c.args.setting.complete taken.cuts.items after fault told);
+      readers = is.readers;
       no_write = gap_no_write c.args.setting.complete taken.cuts.items after fault told;
     })
 
@@ -86,12 +95,14 @@ returns-in_err-folded g c =
     rw (p.1, refused_is p.0 p.2.0 p.2.1) (record {
       outcome = λ texts all. symbols_refused c.args.setting table texts now (AreFolded after) c.in_ok-added.added fault
           (is_folded (folding c.args.setting [] texts now) c.in_ok-check_workers.ensures.ok None after taken.segments taken.cuts.items
-          (rw (c.in_ok-far.was, c.in_ok-taken.was) at is.ok [] nothing_folded texts all)
+          (rw (c.in_ok-far.was, c.in_ok-taken.was) at (is.taken [] nothing_folded texts all).ok)
           c.in_ok-added.added nothing_folded c.in_ok-added.ensures.ok) told;
       symbols = tt;
+      workers = tt;
       between = symbols_about_none table fault told;
       reading = read_late c.args.setting.form.hex (map g.R.Source.state c.args.inputs.now) now taken (ill fault)
           (rw c.in_ok-taken.was at is.reading) (symbols_late table fault told);
+      readers = is.readers;
       no_write = symbols_no_write table fault told;
     })
 
@@ -103,11 +114,13 @@ returns g c =
     record {
       outcome = λ texts all. is_folded (folding c.args.setting [] texts now) c.in_ok-check_workers.ensures.ok None
           c.take_all-taken.new.folded.analyst taken.segments taken.cuts.items
-          (rw (c.in_ok-far.was, c.in_ok-taken.was) at is.ok [] nothing_folded texts all)
+          (rw (c.in_ok-far.was, c.in_ok-taken.was) at (is.taken [] nothing_folded texts all).ok)
           c.in_ok-added.added nothing_folded c.in_ok-added.ensures.ok;
       symbols = c.in_ok-folded.ensures.ok;
+      workers = c.in_ok-check_workers.ensures.ok;
       between = tt;
       reading = read_then c.args.setting.form.hex (map g.R.Source.state c.args.inputs.now) now taken (well _)
           (rw c.in_ok-taken.was at is.reading) (λ at told. cc told) tt;
+      readers = is.readers;
       no_write = tt;
     }

@@ -7,6 +7,7 @@ use Rattle.htl_inputs.specs.CutInputs.{decoding}
 use Rattle.htl_inputs.proofs.ReadingLaws.{ends_too, read_then, unread, well}
 use Rattle.htl_main.specs.Loading.{in_setting}
 use Rattle.htl_main.proofs.AfterDecoding.{refused_is, not_write, reads_then, some_job, sources_cause_of, sources_stop, stop_about_none}
+use Rattle.htl_inputs.proofs.SourceLaws.{none_asked}
 use Rattle.htl_main.proofs.loading.load.Goals as goal
 
 pub returns-in_err-check_workers : goal.returns-in_err-check_workers
@@ -17,7 +18,9 @@ returns-in_err-check_workers g c =
       outcome = λ texts all. (λ job as_of. unfit.1, refl);
       case = tt;
       coverage = tt;
+      workers = tt;
       reading = unread c.args.setting.form.hex (map g.R.Source.state c.args.inputs.now) c.requires.ready;
+      readers = none_asked c.args.setting.form.hex c.args.setting.workers (map g.R.Source.state c.args.inputs.now);
       no_write = λ is. cc is;
     })
 
@@ -36,7 +39,9 @@ returns-in_err-decoded g c =
       );
       case = tt;
       coverage = tt;
+      workers = tt;
       reading = ends_too setting.form.hex (map g.R.Source.state c.args.inputs.now) now fault is.reads.reading;
+      readers = is.reads.readers;
       no_write = is.no_write;
     })
 
@@ -59,8 +64,10 @@ returns-in_err-loaded g c =
       );
       case = tt;
       coverage = tt;
+      workers = tt;
       reading = reads_then setting.form.hex (map g.R.Source.state c.args.inputs.now) now c.in_ok-decoded.decoded given symbols some fault
           decoded.reading (why some refl refl);
+      readers = decoded.readers;
       no_write = not_write given symbols some fault (why some refl refl);
     })
 
@@ -69,7 +76,7 @@ returns g c =
     let is = c.in_ok-loaded.ensures in
     let form = c.args.setting.form in
     let read = c.in_ok-decoded.ensures.reads in
-    record {
+    rw (c.with_index.ensures) (record {
       outcome = λ texts all.
           let decoded = (read.outcome texts all).given in (
             record {
@@ -82,7 +89,9 @@ returns g c =
           );
       case = is.case;
       coverage = is.coverage;
+      workers = c.in_ok-check_workers.ensures.ok;
       reading = read_then form.hex (map g.R.Source.state c.args.inputs.now) (map g.R.Source.state c.read_all.new.sources)
           c.in_ok-decoded.decoded (well c.in_ok-loaded.loaded) read.reading (λ at told. cc told) tt;
+      readers = read.readers;
       no_write = tt;
-    }
+    })

@@ -9,6 +9,7 @@ use Rattle.htl_main.proofs.AfterDecoding.{sources_stop}
 use Rattle.htl_main.proofs.AfterPicking.{ends_picking, ends_without_case, given_is, picked_run}
 use Rattle.htl_main.proofs.LateFaults.{printing_late, read_late}
 use Rattle.htl_main.proofs.picks.pick_from.Goals as goal
+use Rattle.htl_inputs.proofs.SourceLaws.{none_asked}
 
 pub returns-in_err-check_workers : goal.returns-in_err-check_workers
 returns-in_err-check_workers g c =
@@ -17,6 +18,7 @@ returns-in_err-check_workers g c =
     rw (p.1, p.2, unfit.0) (record {
       outcome = λ texts all. (unfit.1, λ told. absurd (cc told));
       reading = unread false (map g.R.Source.state c.args.inputs.now) c.requires.ready;
+      readers = none_asked false c.args.job.now.setting.workers (map g.R.Source.state c.args.inputs.now);
       sink = record { untouched = λ other. refl; failed = λ told. absurd (cc told); fine = tt };
       unwritten = tt;
       no_case = λ broken is. cc is;
@@ -35,6 +37,7 @@ returns-in_err-all g c =
         λ told. absurd (is.no_write told),
       );
       reading = ends_too false (map g.R.Source.state c.args.inputs.now) now fault is.reads.reading;
+      readers = is.reads.readers;
       sink = record { untouched = λ other. refl; failed = λ told. absurd (is.no_write (cc told)); fine = tt };
       unwritten = tt;
       no_case = is.no_case;
@@ -57,6 +60,7 @@ returns g c =
           (given_is job c.args.interest texts picks run cuts all_picked.cuts) (is.outcome run.segments run.picked);
       reading = read_late false (map g.R.Source.state c.args.inputs.now) now c.in_ok-all.all result c.in_ok-all.ensures.reads.reading
           (IfErr-weaker result _ _ printing_late is.ends);
+      readers = c.in_ok-all.ensures.reads.readers;
       sink = is.sink;
       unwritten = is.unwritten;
       no_case = ends_without_case result is.ends;

@@ -25,6 +25,7 @@ returns-in_err-loaded g c =
           };
       reading = ends_too c.args.job.now.setting.form.hex (map g.R.Source.state c.args.inputs.now) (map g.R.Source.state c.load.new.inputs)
           c.in_err-loaded.field-0.0.fault is.reading;
+      readers = is.readers;
       sink = record { untouched = λ other. refl; failed = λ told. absurd (is.no_write (cc told)); fine = tt };
     })
 
@@ -46,6 +47,7 @@ returns-in_err-completed g c =
           is.outcome.1;
       reading = read_late job.setting.form.hex (map g.R.Source.state c.args.inputs.now) now loaded (ill fault) c.in_ok-loaded.ensures.reading
           (over_late loaded.case job fault is.outcome.0);
+      readers = c.in_ok-loaded.ensures.readers;
       sink = record { untouched = is.sink.untouched; failed = λ told. is.sink.failed (cc told); fine = tt };
     })
 
@@ -65,5 +67,6 @@ returns g c =
           );
       reading = read_then job.setting.form.hex (map g.R.Source.state c.args.inputs.now) (map g.R.Source.state c.load.new.inputs) loaded
           (well completed) c.in_ok-loaded.ensures.reading (λ at told. cc told) tt;
+      readers = c.in_ok-loaded.ensures.readers;
       sink = record { untouched = tt; failed = λ told. absurd (cc told); fine = is.sink.fine };
     }

@@ -4,7 +4,7 @@ use Rattle.std.specs.Prelude.{Err, option_copied}
 use Rattle.std.proofs.lemmas.Result.{err_from_is_err_and}
 use Rattle.htl_main.specs.Origins.{by_fault}
 use Rattle.htl_program.proofs.Asked.{all_ended, all_then}
-use Rattle.htl_program.proofs.NamesRead.{inputs_unread}
+use Rattle.htl_program.proofs.NamesRead.{inputs_unread, unread_asks}
 use Rattle.htl_program.proofs.PassedOn.{ends_so, no_end}
 use Rattle.htl_program.proofs.RanOut.{ran_out}
 use Rattle.htl_program.proofs.answering.answer.Goals as goal
@@ -24,6 +24,7 @@ returns-in_err-table g c =
       absent = rw (← c.deref.ensures.value) (λ place absent. ends_so _ fault ended (is.absent place absent));
       untabled = rw (← c.deref.ensures.value, ← c.as_ref.ensures.value) (λ texts all gone. ends_so _ fault ended (is.untabled texts all gone));
       reads = rw (← c.deref.ensures.value) (inputs_unread world _ names _ _ fault ended is.unread);
+      readers = rw (← c.deref.ensures.value) (unread_asks c.args.run.now.job.setting _ _ _ _ fault is.unread);
       sink = search rules;
       asked = rw (← c.deref.ensures.value, ← c.as_ref.ensures.value) (all_ended (map string_bytes names) (option_map string_bytes table)
           (by_fault c.from_residual.result) _ _ _ fault ended is.asked);
@@ -42,6 +43,7 @@ returns g c =
       untabled = rw (← c.deref.ensures.value, ← c.as_ref.ensures.value)
           (λ texts all gone. no_end c.in_ok-table.table (is.untabled texts all gone));
       reads = rw known at run.reads;
+      readers = rw known at run.readers;
       sink = run.sink;
       asked = all_then (map string_bytes c.args.run.now.files.items) (option_map string_bytes c.args.run.now.symbols)
           (by_fault c.run_inputs.result) _ _ _ _ c.in_ok-table.table

@@ -20,6 +20,7 @@ returns-in-Err-clause-ended g c =
             written = λ told. why.1 (sym same ∙ told);
           };
       reading = rw (same, c.requires.bytes) (as_refused false _ _ _ is.reading);
+      readers = rw (c.requires.bytes) is.readers;
       sink = record {
         untouched = rw same (is.sink.untouched);
         failed = λ told. is.sink.failed (ap Err (sym same ∙ same_fault _ _ _ refl told));
@@ -35,5 +36,6 @@ returns-in-Ok-Ok-clause-ended g c =
     rw (back, ← c.deref_mut.ensures.value) record {
       outcome = λ texts all. rw c.in-Ok-Ok.field-0-is at (is.outcome texts all);
       reading = rw (c.requires.bytes) (as_answered false _ _ _ _ is.reading);
+      readers = rw (c.requires.bytes) is.readers;
       sink = record { untouched = tt; failed = λ told. absurd (no_fault _ _ told); fine = is.sink.fine };
     }

@@ -7,7 +7,7 @@ use Rattle.htl_main.specs.Origins.{by_fault}
 use Rattle.htl_program.specs.Worlds.{of_each}
 use Rattle.htl_program.proofs.Asked.{last_round}
 use Rattle.htl_program.proofs.FirstAbsent.{only_memory}
-use Rattle.htl_program.proofs.NamesRead.{inputs_unread, run_of_names}
+use Rattle.htl_program.proofs.NamesRead.{inputs_unread, run_of_names, unread_asks}
 use Rattle.htl_program.proofs.RanOut.{ran_out}
 use Rattle.htl_program.proofs.answering.run_again.Goals as goal
 
@@ -23,6 +23,8 @@ returns-in_err-open_inputs-clause-run g c =
           (p.2.0 ∙ only_memory world.holds world.standard names texts (of_each world.is_absent names) fault all refused) p.2.1));
       reads = rw (← c.deref.ensures.value) (inputs_unread world _ names _ _ fault (ap by_fault p.1 ∙ ap Err p.2.0)
           (inl (c.in_err-open_inputs.ensures.none, refused)));
+      readers = rw (← c.deref.ensures.value) (unread_asks c.args.run.now.job.setting _ (of_each world.holds names)
+          (of_each world.is_absent names) _ fault (inl (c.in_err-open_inputs.ensures.none, refused)));
       sink = search rules;
     }
 
@@ -39,4 +41,4 @@ returns-clause-run g c =
     let kept : length c.run_from.new.inputs ≡ inputs.len = search rules in
     let back = take_front c.run_from.new.inputs (drop (length c.run_from.new.inputs) inputs.items) inputs.len kept in
     rw back (run_of_names g.W.Input.Source.state (g.W.World.state c.args.world.now).known c.args.run.now _ inputs.items c.run_from.new.inputs _ _ _
-    opened.ready (rw c.deref.ensures.value at opened.bytes) (rw c.deref_mut.ensures.value at c.run_from.ensures))
+    (rw c.deref.ensures.value at opened.sources) (rw c.deref_mut.ensures.value at c.run_from.ensures))

@@ -2,13 +2,13 @@
 use Rattle.std.proofs.Common.{◌≡◌, ◌∙◌, ap, drop, inl, inr, length, map, rules, string_bytes}
 use Rattle.std.specs.Prelude.{Err}
 use Rattle.std.proofs.lemmas.Result.{err_from_is_err_and}
-use Rattle.htl_device.specs.States.{lefts}
+use Rattle.htl_device.specs.States.{fresh}
 use Rattle.htl_lemmas.proofs.Lists.{take_front}
 use Rattle.htl_main.specs.Origins.{by_fault}
 use Rattle.htl_program.specs.Worlds.{of_each, of_inputs}
 use Rattle.htl_program.proofs.Asked.{again, last_round, one_round}
 use Rattle.htl_program.proofs.FirstAbsent.{only_memory}
-use Rattle.htl_program.proofs.NamesRead.{inputs_unread, run_of_names}
+use Rattle.htl_program.proofs.NamesRead.{inputs_unread, run_of_names, unread_asks}
 use Rattle.htl_program.proofs.RanOut.{ran_out}
 use Rattle.htl_program.proofs.answering.run_inputs.Goals as goal
 
@@ -18,7 +18,12 @@ returns-then-not-can_pick-clause-run g c =
     let kept : length c.run_from.new.inputs ≡ inputs.len = search rules in
     let back = take_front c.run_from.new.inputs (drop (length c.run_from.new.inputs) inputs.items) inputs.len kept in
     rw back (run_of_names g.W.Input.Source.state (g.W.World.state c.args.world.now).known c.args.run.now _ inputs.items c.run_from.new.inputs _ _ _
-    c.requires.ready c.requires.bytes (rw c.deref_mut.ensures.value at c.run_from.ensures))
+    c.requires.sources (rw c.deref_mut.ensures.value at c.run_from.ensures))
+
+pub returns-in-Ok-clause-run : goal.returns-in-Ok-clause-run
+returns-in-Ok-clause-run g c =
+    run_of_names g.W.Input.Source.state (g.W.World.state c.args.world.now).known c.args.run.now _ c.args.inputs.now.items _ _ _ _
+    c.requires.sources c.in-Ok.ensures.ended
 
 pub returns-in_err-open_inputs-clause-run : goal.returns-in_err-open_inputs-clause-run
 returns-in_err-open_inputs-clause-run g c =
@@ -32,6 +37,8 @@ returns-in_err-open_inputs-clause-run g c =
           (p.2.0 ∙ only_memory world.holds world.standard names texts (of_each world.is_absent names) fault all refused) p.2.1));
       reads = rw (← c.deref.ensures.value) (inputs_unread world _ names _ _ fault (ap by_fault p.1 ∙ ap Err p.2.0)
           (inl (c.in_err-open_inputs.ensures.none, refused)));
+      readers = rw (← c.deref.ensures.value) (unread_asks c.args.run.now.job.setting _ (of_each world.holds names)
+          (of_each world.is_absent names) _ fault (inl (c.in_err-open_inputs.ensures.none, refused)));
       sink = search rules;
     }
 
@@ -40,9 +47,9 @@ returns-in-Ok-pick_opened-clause-run g c =
     let world = (g.W.World.state c.args.world.now).known in
     let state = g.W.Input.Source.state in
     let opened = c.open_inputs.new.inputs.items in
-    let bytes : lefts (map state opened) ≡ of_inputs world.holds world.standard c.args.run.now.files.items =
-    rw (← c.deref.ensures.value) c.in_ok-open_inputs.ensures.bytes in
-    rw (← c.in-Err-Process.ensures.unwritten) (run_of_names state world c.args.run.now _ opened _ _ _ _ c.in_ok-open_inputs.ensures.ready bytes
+    let sources : map state opened ≡ map fresh (of_inputs world.holds world.standard c.args.run.now.files.items) =
+    rw (← c.deref.ensures.value) c.in_ok-open_inputs.ensures.sources in
+    rw (← c.in-Err-Process.ensures.unwritten) (run_of_names state world c.args.run.now _ opened _ _ _ _ sources
     c.in-Ok-pick_opened.ensures.ended)
 
 pub returns-in-Err-clause-asked : goal.returns-in-Err-clause-asked
@@ -50,7 +57,7 @@ returns-in-Err-clause-asked g c =
     let names = map string_bytes c.args.run.now.files.items in
     let ended = by_fault c.run_again-in-Err.result in
     let can = c.can_pick.ensures c.if-not-can_pick.false in
-    again names ended (g.W.World.state c.args.world.now).known c.args.run.now.job.setting.form.hex _ _ can.0 can.1 can.2
+    again names ended (g.W.World.state c.args.world.now).known c.args.run.now.job.setting.form.hex _ _ can.0 can.1
     (one_round names ended 1 _ _ _ (tt {0}) (rw c.deref.ensures.value at c.in_ok-open_inputs.ensures.asked)
     c.run_again-in-Err.ensures.asked)
 
@@ -60,6 +67,6 @@ returns-in_err-open_inputs-clause-asked g c =
     let ended = by_fault c.from_residual.result in
     let can = c.can_pick.ensures c.if-not-can_pick.false in
     let p = err_from_is_err_and c.from_residual.result c.from_residual.ensures.1 in
-    again names ended (g.W.World.state c.args.world.now).known c.args.run.now.job.setting.form.hex _ _ can.0 can.1 can.2
+    again names ended (g.W.World.state c.args.world.now).known c.args.run.now.job.setting.form.hex _ _ can.0 can.1
     (last_round names ended 1 _ _ c.in_err-open_inputs.field-0.0 (ap by_fault p.1 ∙ ap Err p.2.0)
     (rw c.deref.ensures.value at c.in_err-open_inputs.ensures.asked))

@@ -44,12 +44,30 @@ returns-clause-reading g c =
     (map g.W.Input.Source.state c.deref_mut.result.now) (map g.W.Input.Source.state c.begin.new.inputs) c.in_ok-kept.field-0 (well (tt {0}))
     c.in_ok-kept.ensures.reading (λ at told. cc told) (tt {0}))
 
+pub returns-in_err-kept-clause-readers : goal.returns-in_err-kept-clause-readers
+returns-in_err-kept-clause-readers g c =
+    let kept : length c.begin.new.inputs ≡ c.args.inputs.now.len = search rules in
+    let back = take_front c.begin.new.inputs (drop (length c.begin.new.inputs) c.args.inputs.now.items) c.args.inputs.now.len kept in
+    rw (back, ← c.deref_mut.ensures.value) c.in_err-kept.ensures.readers
+
+pub returns-in_err-conversed-clause-readers : goal.returns-in_err-conversed-clause-readers
+returns-in_err-conversed-clause-readers g c =
+    let kept : length c.begin.new.inputs ≡ c.args.inputs.now.len = search rules in
+    let back = take_front c.begin.new.inputs (drop (length c.begin.new.inputs) c.args.inputs.now.items) c.args.inputs.now.len kept in
+    rw (back, ← c.deref_mut.ensures.value) c.in_ok-kept.ensures.readers
+
+pub returns-clause-readers : goal.returns-clause-readers
+returns-clause-readers g c =
+    let kept : length c.begin.new.inputs ≡ c.args.inputs.now.len = search rules in
+    let back = take_front c.begin.new.inputs (drop (length c.begin.new.inputs) c.args.inputs.now.items) c.args.inputs.now.len kept in
+    rw (back, ← c.deref_mut.ensures.value) c.in_ok-kept.ensures.readers
+
 pub returns-in_err-kept-clause-outcome : goal.returns-in_err-kept-clause-outcome
 returns-in_err-kept-clause-outcome g c =
     let p = err_from_is_err_and c.from_residual.result c.from_residual.ensures.1 in
     let kept : length c.begin.new.inputs ≡ c.args.inputs.now.len = search rules in
     let back = take_front c.begin.new.inputs (drop (length c.begin.new.inputs) c.args.inputs.now.items) c.args.inputs.now.len kept in
-    rw (back, ← c.deref_mut.ensures.value, p.1, p.2) (λ texts all. inl (c.in_err-kept.ensures.cause texts all))
+    rw (back, ← c.deref_mut.ensures.value, p.1, p.2) (λ texts all. inl (c.in_err-kept.ensures.outcome texts all).0)
 
 pub returns-in_err-conversed-clause-outcome : goal.returns-in_err-conversed-clause-outcome
 returns-in_err-conversed-clause-outcome g c =
@@ -66,7 +84,7 @@ returns-in_err-conversed-clause-outcome g c =
     let other = answers_over world setting c.args.files.now.dialogue.now.folds symbols in
     let same_table : c.is_some.result ≡ is_some symbols = c.is_some.ensures ∙ some_copied c.args.symbols in
     rw (p.1, p.2) (λ texts all.
-    let are = c.in_ok-kept.ensures.ok texts (rw c.deref_mut.ensures.value all) in (
+    let are = c.in_ok-kept.ensures.outcome texts (rw c.deref_mut.ensures.value all) in (
       are.read,
       opening,
       are.opens,
@@ -95,7 +113,7 @@ returns-clause-outcome g c =
     let other = answers_over world setting c.args.files.now.dialogue.now.folds symbols in
     let same_table : c.is_some.result ≡ is_some symbols = c.is_some.ensures ∙ some_copied c.args.symbols in
     λ texts all.
-    let are = c.in_ok-kept.ensures.ok texts (rw c.deref_mut.ensures.value all) in (
+    let are = c.in_ok-kept.ensures.outcome texts (rw c.deref_mut.ensures.value all) in (
       are.read,
       opening,
       are.opens,
@@ -112,6 +130,11 @@ returns-clause-outcome g c =
           (rw c.begins.ensures.same at c.in_ok-conversed.ensures.ok lines asked)),
     )
 
+pub returns-in_err-kept-clause-between : goal.returns-in_err-kept-clause-between
+returns-in_err-kept-clause-between g c =
+    let p = err_from_is_err_and c.from_residual.result c.from_residual.ensures.1 in
+    rw (← c.deref_mut.ensures.value, p.1, p.2) (λ texts all. (c.in_err-kept.ensures.outcome texts all).1)
+
 pub returns-in_err-kept-clause-asked : goal.returns-in_err-kept-clause-asked
 returns-in_err-kept-clause-asked g c =
     let p = err_from_is_err_and c.from_residual.result c.from_residual.ensures.1 in
@@ -120,4 +143,7 @@ returns-in_err-kept-clause-asked g c =
 pub returns-in_err-conversed-clause-asked : goal.returns-in_err-conversed-clause-asked
 returns-in_err-conversed-clause-asked g c =
     let p = err_from_is_err_and c.from_residual-in_err-conversed.result c.from_residual-in_err-conversed.ensures.1 in
-    rw (p.1, p.2) c.converse_lines.ensures.asked
+    rw (p.1, p.2) (rw c.in_ok-kept.ensures.form at c.converse_lines.ensures.asked)
+
+pub returns-clause-asked : goal.returns-clause-asked
+returns-clause-asked g c = rw c.in_ok-kept.ensures.form at c.converse_lines.ensures.asked

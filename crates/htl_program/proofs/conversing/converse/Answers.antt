@@ -9,7 +9,7 @@ use Rattle.htl_program.specs.Asking.{IsBeginsBetween, before_dialogue}
 use Rattle.htl_program.specs.Readings.{AreUnread}
 use Rattle.htl_program.specs.Rounds.{AsksLater}
 use Rattle.htl_program.proofs.Asked.{all_ended, all_then}
-use Rattle.htl_program.proofs.NamesRead.{inputs_read, inputs_unread}
+use Rattle.htl_program.proofs.NamesRead.{inputs_read, inputs_unread, lefts_of, unread_asks}
 use Rattle.htl_program.proofs.PassedOn.{ends_so, no_end}
 use Rattle.htl_program.proofs.conversing.converse.Goals as goal
 
@@ -18,18 +18,19 @@ about_none : (folds : Bool) (setting : Setting) (texts : List (List ℕ)) (known
     (now : List SourceState) (fault : RunFault) → AreUnread known holds absences now fault → IsBeginsBetween folds setting texts fault Nothing
 about_none false setting texts known holds absences now fault (inl (none, inl memory)) = rw memory refl
 about_none false setting texts known holds absences now fault (inl (none, inr (place, told, first))) = rw told refl
-about_none false setting texts known holds absences now fault (inr (ready, bytes, inl symbols)) = rw symbols refl
-about_none false setting texts known holds absences now fault (inr (ready, bytes, inr memory)) = rw memory refl
+about_none false setting texts known holds absences now fault (inr (same, inl symbols)) = rw symbols refl
+about_none false setting texts known holds absences now fault (inr (same, inr memory)) = rw memory refl
 about_none true setting texts known holds absences now fault (inl (none, inl memory)) = rw memory refl
 about_none true setting texts known holds absences now fault (inl (none, inr (place, told, first))) = rw told refl
-about_none true setting texts known holds absences now fault (inr (ready, bytes, inl symbols)) = rw symbols refl
-about_none true setting texts known holds absences now fault (inr (ready, bytes, inr memory)) = rw memory refl
+about_none true setting texts known holds absences now fault (inr (same, inl symbols)) = rw symbols refl
+about_none true setting texts known holds absences now fault (inr (same, inr memory)) = rw memory refl
 
 pub returns-in-Ok-clause-conversed : goal.returns-in-Ok-clause-conversed
 returns-in-Ok-clause-conversed g c =
     let of = c.args.files.now.dialogue.now in
     let is = c.in-Ok.ensures in
-    let bytes = rw c.deref.ensures.value at is.bytes in
+    let sources = rw c.deref.ensures.value at is.sources in
+    let bytes = lefts_of sources in
     let known : (g.W.World.state c.open_all.new.world).known ≡ (g.W.World.state c.args.world.now).known = is.asked.known in
     let held = c.ask_opened.ensures in
     record {
@@ -41,9 +42,11 @@ returns-in-Ok-clause-conversed g c =
       absent = rw (← c.deref.ensures.value) (λ place absent. no_end c.in-Ok.table (is.absent place absent));
       untabled = rw (← c.deref.ensures.value, ← c.as_ref.ensures.value)
           (λ texts all gone. no_end c.in-Ok.table (is.untabled texts all gone));
-      reads = inputs_read (g.W.World.state c.args.world.now).known _ of.files.items _ _ _ _ is.ready bytes held.reading;
+      reads = inputs_read (g.W.World.state c.args.world.now).known _ of.files.items _ _ _ _ sources held.reading;
+      readers = rw sources at held.readers;
       asked = all_then (map string_bytes of.files.items) (option_map string_bytes of.symbols)
-          (by_fault (before_dialogue c.ask_opened.result)) (AsksLater (before_dialogue c.ask_opened.result)) _ _ _ c.in-Ok.table
+          (by_fault (before_dialogue c.ask_opened.result))
+          (AsksLater of.folds (g.Q.Source.state c.args.questions.now).remaining (before_dialogue c.ask_opened.result)) _ _ _ c.in-Ok.table
           (rw (c.deref.ensures.value, c.as_ref.ensures.value) at is.asked) held.asked;
     }
 
@@ -60,6 +63,7 @@ returns-in-Err-clause-conversed g c =
       untabled = rw (← c.deref.ensures.value, ← c.as_ref.ensures.value) (λ texts all gone. ends_so _ fault refl (is.untabled texts all gone));
       reads = inputs_unread (g.W.World.state c.args.world.now).known _ of.files.items _ _ fault refl
           (rw c.deref.ensures.value at is.unread);
+      readers = unread_asks of.setting _ _ _ _ fault (rw c.deref.ensures.value at is.unread);
       asked = all_ended (map string_bytes of.files.items) (option_map string_bytes of.symbols) _ _ _ _ fault refl
           (rw (c.deref.ensures.value, c.as_ref.ensures.value) at is.asked);
     }

@@ -4,7 +4,7 @@ use Rattle.htl_lemmas.proofs.Lists.{take_front}
 use Rattle.htl_program.specs.Worlds.{of_each}
 use Rattle.htl_program.proofs.Asked.{once, once_ended}
 use Rattle.htl_program.proofs.FirstAbsent.{first_or_memory, none_absent, only_memory}
-use Rattle.htl_program.proofs.NamesRead.{inputs_read, inputs_unread}
+use Rattle.htl_program.proofs.NamesRead.{inputs_read, inputs_unread, lefts_of}
 use Rattle.htl_program.proofs.converting.encode.Goals as goal
 
 pub returns-in_err-open_inputs : goal.returns-in_err-open_inputs
@@ -35,9 +35,9 @@ returns g c =
     let back = take_front c.encode_from.new.inputs (drop (length c.encode_from.new.inputs) inputs.items) inputs.len kept in
     let is = rw c.deref_mut.ensures.value at c.encode_from.ensures in
     rw back (record {
-      ends = λ texts all. inl (is.outcome texts (opened.bytes ∙ all));
+      ends = λ texts all. inl (is.outcome texts (lefts_of opened.sources ∙ all));
       absent = λ place absent. absurd (none_absent (of_each world.holds names) (of_each world.is_absent names) place opened.there absent);
-      reads = inputs_read world _ names _ inputs.items _ _ opened.ready opened.bytes is.reading;
+      reads = inputs_read world _ names _ inputs.items _ _ opened.sources is.reading;
       failed = is.failed;
       untouched = is.untouched;
       asked = once (map string_bytes names) c.encode_from.result _ _ (tt {0}) opened.asked;

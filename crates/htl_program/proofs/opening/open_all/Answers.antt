@@ -17,7 +17,7 @@ returns-in_err-open_inputs g c =
     let p = err_from_is_err_and c.from_residual.result c.from_residual.ensures.1 in
     rw (p.1, p.2) (record {
       ready = tt;
-      bytes = tt;
+      sources = tt;
       unread = inl (is.none, is.refused);
       read = tt;
       known = λ texts table all has. only_memory world.holds world.standard names texts (of_each world.is_absent names) fault all is.refused;
@@ -37,8 +37,8 @@ returns g c =
     let table = c.read_table.ensures in
     record {
       ready = search rules;
-      bytes = search rules;
-      unread = IfErr-weaker c.read_table.result _ _ (λ fault refused. inr (is.ready, is.bytes, of_table refused)) (rw known at table.refused);
+      sources = search rules;
+      unread = IfErr-weaker c.read_table.result _ _ (λ fault refused. inr (is.sources, of_table refused)) (rw known at table.refused);
       read = rw known at table.bytes;
       known = λ texts table_bytes all has. known_table world.holds (option_copied c.args.symbols) table_bytes c.read_table.result
           (rw known at table.refused) has;

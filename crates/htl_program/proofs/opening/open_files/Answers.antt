@@ -1,11 +1,10 @@
 -- The world is asked for one name more, which is opened, or can't be.
-use Rattle.std.proofs.Common.{◌≡◌, ◌+◌, ◌++◌, ◌∷◌, ◌∙◌, [], All, List, None, Option, Some, ap, false, inl, inr, map, refl, rules, subst}
-use Rattle.std.proofs.Common.{sym, take, ℕ, Bool}
+use Rattle.std.proofs.Common.{◌≡◌, ◌+◌, ◌++◌, ◌∷◌, ◌∙◌, [], All, List, None, Option, Some, ap, false, inl, inr, map, refl, rules, subst, sym, take, ℕ, Bool}
 use Rattle.std.specs.Prelude.{slice_get, string_bytes}
 use Rattle.std.proofs.lemmas.List.{map-append}
 use Rattle.std.proofs.lemmas.List.Elements.{All-push}
 use Rattle.std.proofs.lemmas.Result.{err_from_is_err_and}
-use Rattle.htl_device.specs.States.{AreOpen, IsOpen, fresh, lefts, remaining}
+use Rattle.htl_device.specs.States.{AreOpen, IsOpen, fresh}
 use Rattle.htl_inputs.specs.declared.fault.RunFault.{RunFault}
 use Rattle.htl_program.specs.Readings.{IsUnopenedFor}
 use Rattle.htl_program.specs.Rounds.{unopened}
@@ -30,7 +29,7 @@ reported holds absences place Refused fault is here before = inr (place, is, rec
 pub loop-place-init : goal.loop-place-init
 loop-place-init g c = record {
   ready = search rules;
-  bytes = search rules;
+  sources = search rules;
   there = search rules;
   asked = asked_none (g.W.World.state c.args.world.now);
 }
@@ -46,7 +45,7 @@ returns-in_err-push-in-Ok g c =
     let asked : IsAsked (g.W.World.state c.loop-place.world) (g.W.World.state c.open.new.self) (gives name ∷ []) = search rules in
     rw (p.1, p.2) (record {
       ready = tt;
-      bytes = tt;
+      sources = tt;
       there = tt;
       refused = inl refl;
       asked = (
@@ -70,7 +69,7 @@ returns-in-Err g c =
     let asked : IsAsked (g.W.World.state c.loop-place.world) (g.W.World.state c.open.new.self) (to_open name (Some why) ∷ []) = search rules in
     record {
       ready = tt;
-      bytes = tt;
+      sources = tt;
       there = tt;
       refused = reported (of_each known.holds names) (of_each known.is_absent names) place why c.unopened.result c.unopened.ensures
           (λ is. here ∙ ap Some (rw inv.asked.known at none is)) inv.there;
@@ -116,8 +115,8 @@ loop-place-preserved g c =
     ap (map state) pushed ∙ map-append state c.loop-place.inputs.items (c.in-Ok.input ∷ []) in
     record {
       ready = subst (λ l. AreOpen l) (sym states) (All-push (λ source. IsOpen source) old input inv.ready ready);
-      bytes = ap (λ l. lefts l) states ∙ map-append remaining old (input ∷ []) ∙ ap (λ l. l ++ input.remaining ∷ []) inv.bytes
-          ∙ ap (λ x. take place (of_each known.holds names) ++ x.remaining ∷ []) is ∙ sym holds;
+      sources = states ∙ ap (λ l. l ++ input ∷ []) inv.sources ∙ ap (λ x. map fresh (take place (of_each known.holds names)) ++ x ∷ []) is
+          ∙ sym (map-append fresh (take place (of_each known.holds names)) (known.holds name ∷ [])) ∙ ap (λ l. map fresh l) (sym holds);
       there = subst (λ l. All (λ absent. absent ≡ false) l) (sym absent)
           (All-push (λ absent. absent ≡ false) (take place (of_each known.is_absent names)) (known.is_absent name) inv.there there);
       asked = rw more (asked_more inv.asked asked);
@@ -132,7 +131,7 @@ returns g c =
     let within = c.loop-place.auto.place-end in
     record {
       ready = inv.ready;
-      bytes = inv.bytes ∙ all_taken known.holds names c.loop-place.place under within;
+      sources = inv.sources ∙ ap (λ l. map fresh l) (all_taken known.holds names c.loop-place.place under within);
       there = subst (λ l. All (λ absent. absent ≡ false) l) (all_taken known.is_absent names c.loop-place.place under within) inv.there;
       refused = tt;
       asked = rw (all_taken gives names c.loop-place.place under within) at inv.asked;

@@ -1,8 +1,9 @@
 -- Memory is refused once standard input was asked for; and the inputs of names are their files.
-use Rattle.std.proofs.Common.{◌≡◌, ◌∷◌, ◌∙◌, [], ap, false, inl, length, refl, rules, sym}
+use Rattle.std.proofs.Common.{◌≡◌, ◌∷◌, ◌∙◌, [], ap, false, inl, length, map, refl, rules, sym}
 use Rattle.std.specs.Prelude.{◌==◌}
 use Rattle.std.proofs.lemmas.List.{nil_from_length}
 use Rattle.std.proofs.lemmas.Result.{err_from_is_err_and}
+use Rattle.htl_device.specs.States.{fresh}
 use Rattle.htl_program.specs.Worlds.{IsAsked, for_standard}
 use Rattle.htl_program.proofs.Names.{inputs_named, opened_named}
 use Rattle.htl_program.proofs.opening.open_inputs.Goals as goal
@@ -14,7 +15,7 @@ returns-in_err-push g c =
     let asked : IsAsked (g.W.World.state c.args.world.now) (g.W.World.state c.standard_input.new.self) (for_standard ∷ []) = search rules in
     rw (p.1, p.2, none) (record {
       ready = tt;
-      bytes = tt;
+      sources = tt;
       there = tt;
       none = search rules;
       refused = inl refl;
@@ -28,7 +29,7 @@ returns-in_err-inputs g c =
     let is = c.in_err-inputs.ensures in
     rw (p.1, p.2) (record {
       ready = tt;
-      bytes = tt;
+      sources = tt;
       there = tt;
       none = search rules;
       refused = is.refused;
@@ -42,7 +43,7 @@ returns g c =
     let is = c.in_ok-inputs.ensures in
     record {
       ready = is.ready;
-      bytes = is.bytes ∙ sym (inputs_named known.holds known.standard c.args.names.now some);
+      sources = is.sources ∙ ap (λ l. map fresh l) (sym (inputs_named known.holds known.standard c.args.names.now some));
       there = is.there;
       none = tt;
       refused = tt;

@@ -7,10 +7,11 @@ use Rattle.htl_inputs.specs.declared.fault.RunFault.TheVariants.{Memory}
 use Rattle.htl_inputs.proofs.CutLaws.{ends_next, no_ends}
 use Rattle.htl_inputs.proofs.InputLaws.{decode_next}
 use Rattle.htl_inputs.proofs.ReadingLaws.{all_ended, all_texts, at_next, ends_there, left_there, next_of, next_open, none_before, one_more, refused_there}
-use Rattle.htl_inputs.proofs.ReadingLaws.{stops_there}
+use Rattle.htl_inputs.proofs.ReadingLaws.{stops_there, asks_more}
 use Rattle.htl_main.specs.Folders.{folds_of}
 use Rattle.htl_main.proofs.FoldInputs.{TookInput, TookOwn, given_before, took_both, took_none}
 use Rattle.htl_main.proofs.folding.taking.read_all.Goals as goal
+use Rattle.htl_inputs.proofs.SourceLaws.{none_asked}
 
 of_both : (known : Option (List ℕ)) (P Q : List ℕ → Type 0) → IfSome known P → IfSome known Q → IfSome known (λ text. P text × Q text)
 of_both None P Q one other = tt
@@ -19,6 +20,7 @@ of_both (Some text) P Q one other = (one, other)
 pub loop-place-init : goal.loop-place-init
 loop-place-init g c = record {
   before = none_before _ (map g.R.Source.state c.args.sources.now) c.requires.ready;
+  readers = none_asked c.args.setting.form.hex c.args.setting.workers (map g.R.Source.state c.args.sources.now);
   took = λ inputs all. ([], refl, took_none folds_of c.args.folder.now);
   cuts = λ inputs all. rw (c.new-cuts.ensures.items) (no_ends c.args.setting.form.hex inputs);
 }
@@ -33,6 +35,7 @@ loop-place-preserved g c =
     let now = c.read_input.new.folder in
     record {
       before = one_more next c.read_input.new.source end is.reading;
+      readers = asks_more next c.read_input.new.source c.args.setting.workers l.invariant.readers is.readers;
       took = λ texts all.
           let own = at_next next texts all (λ text. TookInput folds_of l.folder now form text end) is.ok in
           let earlier = l.invariant.took texts all in (
@@ -74,6 +77,7 @@ returns-in_err-end-clause-reads g c =
                 );
           };
       reading = ends_there next y fault is.reading;
+      readers = asks_more next y c.args.setting.workers l.invariant.readers is.readers;
     })
 
 pub returns-in_err-add_end-clause-reads : goal.returns-in_err-add_end-clause-reads
@@ -91,6 +95,7 @@ returns-in_err-add_end-clause-reads g c =
             kept = λ other. absurd (other refl);
           };
       reading = refused_there next c.read_input.new.source c.in_ok-end.end is.reading;
+      readers = asks_more next c.read_input.new.source c.args.setting.workers l.invariant.readers is.readers;
     })
 
 pub returns-in_err-add_end-clause-of_input : goal.returns-in_err-add_end-clause-of_input
@@ -113,6 +118,7 @@ returns-clause-reads g c =
             cut_ends = rw whole at (l.invariant.cuts texts all);
           };
       reading = all_ended g.R.Source.state c.args.sources.now l.sources l.place _ l.invariant.before (omega arith);
+      readers = l.invariant.readers;
     }
 
 pub read_input-requires-clause-ready : goal.read_input-requires-clause-ready

@@ -1,6 +1,7 @@
 -- A folder takes the segments of a source, which is read as one of the run, or its fault is reported.
 use Rattle.htl_inputs.proofs.DigitsLaws.{digits_read, digits_reported, err_known, ok_known, told_known}
 use Rattle.htl_inputs.proofs.OneSource.{accepted_read, decoded_ill, reported_bytes_of}
+use Rattle.htl_reading.proofs.ReadLaws.{asks_none}
 use Rattle.htl_main.specs.Folders.{folds_of}
 use Rattle.htl_main.proofs.FoldInputs.{TookInput, TookOwn, fault_kept, source_err, source_kept, source_ok, unread_kept}
 use Rattle.htl_main.proofs.folding.taking.read_input.Goals as goal
@@ -74,3 +75,19 @@ pub returns-in-Err-take_source-clause-reading : goal.returns-in-Err-take_source-
 returns-in-Err-take_source-clause-reading g c =
     rw (c.if-setting.false, c.from_source.ensures) (decoded_ill c.args.place (g.R.Source.state c.args.source.now)
     (g.R.Source.state c.take_source.new.source) c.in-Err-take_source.fault c.in-Err-take_source.ensures.reading)
+
+pub returns-in-Ok-clause-readers : goal.returns-in-Ok-clause-readers
+returns-in-Ok-clause-readers g c =
+    rw c.if-setting.true (asks_none 1 (g.R.Source.state c.args.source.now).remaining (g.R.Source.state c.args.source.now)
+    (g.R.Source.state c.read_digits.new.source) c.in-Ok.ensures.tails)
+
+pub returns-in-Err-clause-readers : goal.returns-in-Err-clause-readers
+returns-in-Err-clause-readers g c =
+    rw c.if-setting.true (asks_none 1 (g.R.Source.state c.args.source.now).remaining (g.R.Source.state c.args.source.now)
+    (g.R.Source.state c.read_digits.new.source) c.in-Err.ensures.tails)
+
+pub returns-in-Ok-take_source-clause-readers : goal.returns-in-Ok-take_source-clause-readers
+returns-in-Ok-take_source-clause-readers g c = rw c.if-setting.false c.in-Ok-take_source.ensures.reading.readers
+
+pub returns-in-Err-take_source-clause-readers : goal.returns-in-Err-take_source-clause-readers
+returns-in-Err-take_source-clause-readers g c = rw c.if-setting.false c.in-Err-take_source.ensures.reading.readers

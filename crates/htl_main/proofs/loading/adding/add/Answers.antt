@@ -9,6 +9,7 @@ use Rattle.htl_inputs.proofs.ReadingLaws.{ends_too, read_then, unread, well}
 use Rattle.htl_main.proofs.AddingLaws.{added_cause, as_many, may_be_partial, no_fewer, no_write_after, none_stops, reads_after, stops_cause}
 use Rattle.htl_main.proofs.AfterDecoding.{refused_is}
 use Rattle.htl_main.proofs.loading.adding.add.Goals as goal
+use Rattle.htl_inputs.proofs.SourceLaws.{none_asked}
 
 pub returns-in_err-check_workers : goal.returns-in_err-check_workers
 returns-in_err-check_workers g c =
@@ -22,6 +23,7 @@ returns-in_err-check_workers g c =
       symbols = refl;
       cut = refl;
       reading = unread c.args.setting.form.hex (map g.R.Source.state c.args.inputs.now) c.requires.ready;
+      readers = none_asked c.args.setting.form.hex c.args.setting.workers (map g.R.Source.state c.args.inputs.now);
       no_write = λ is. cc is;
     })
 
@@ -43,6 +45,7 @@ returns-in_err-decoded g c =
       symbols = refl;
       cut = refl;
       reading = ends_too c.args.setting.form.hex (map g.R.Source.state c.args.inputs.now) now fault is.reads.reading;
+      readers = is.reads.readers;
       no_write = is.no_write;
     })
 
@@ -77,6 +80,7 @@ returns-in_err-whole g c =
       cut = refl;
       reading = reads_after setting.form.hex first now c.in_ok-decoded.decoded given setting fault c.in_ok-decoded.ensures.reads.reading
           c.in_err-whole.ensures.err;
+      readers = c.in_ok-decoded.ensures.reads.readers;
       no_write = no_write_after given setting fault c.in_err-whole.ensures.err;
     })
 
@@ -91,7 +95,7 @@ returns g c =
     let whole = c.in_ok-whole.ensures.ok in
     let fewer = no_fewer c.in_ok-decoded.decoded.segments.items c.args.loaded.now.case c.in_ok-whole.whole.case c.in_ok-whole.ensures.before
     whole.case in
-    record {
+    rw (c.with_index.ensures) (record {
       outcome = λ texts all. record {
         segments = c.in_ok-decoded.decoded.segments.items;
         decoded = (c.in_ok-decoded.ensures.reads.outcome texts all).given.segments;
@@ -111,5 +115,6 @@ returns g c =
       cut = refl;
       reading = read_then c.args.setting.form.hex (map g.R.Source.state c.args.inputs.now) (map g.R.Source.state c.read_all.new.sources)
           c.in_ok-decoded.decoded (well _) c.in_ok-decoded.ensures.reads.reading (λ at told. cc told) tt;
+      readers = c.in_ok-decoded.ensures.reads.readers;
       no_write = tt;
-    }
+    })

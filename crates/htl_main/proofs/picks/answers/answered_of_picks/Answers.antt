@@ -2,15 +2,12 @@
 use Rattle.std.proofs.Common.{◌≡◌, ◌∙◌, ℕ, Bool, Option, None, Some, IfNone, inr, refl, ap}
 use Rattle.std.proofs.lemmas.Result.{err_from_is_err_and}
 use Rattle.std.specs.Option.{option_copied}
-use Rattle.std.specs.List.{list_any}
 use Rattle.htl_event.specs.Moments.{counted_events}
 use Rattle.htl_command.specs.declared.question.Job.{Job}
 use Rattle.htl_segment.specs.Traces.{Trace, all_events}
 use Rattle.htl_inputs.specs.CutInputs.{decoding}
 use Rattle.htl_main.specs.Moments.{IsNamedMoment}
-use Rattle.htl_question.specs.Questions.{subject_of}
-use Rattle.htl_question.specs.Subjects.{is_about}
-use Rattle.htl_main.specs.Subjects.{HasAbsence, absence_by}
+use Rattle.htl_main.specs.Subjects.{HasAbsence, absence_by, has_subject}
 use Rattle.htl_main.specs.declared.completed.Absence.{Absence}
 use Rattle.htl_main.proofs.Missing.{memory_cause, missing_cause, symbols_cause}
 use Rattle.htl_main.proofs.PickedAnswers.{picked_as_of}
@@ -20,9 +17,9 @@ none_left : {X P : Type 0} (found : Option X) → IfNone found P → ((x : X) �
 none_left None of_none other = of_none
 none_left (Some x) of_none other = absurd (other x refl)
 
--- why nothing can be found is told by whether an event that counts is of the subject
+-- why nothing can be found is told by whether what is asked about is among the events that count
 absence_of : (T : Trace) (job : Job) (until : Option ℕ) (found : Bool) (absence : Option Absence) → IsNamedMoment T job.until until
-    → found ≡ list_any (is_about (subject_of job.question)) (counted_events until (all_events T.segments))
+    → found ≡ has_subject job.question (counted_events until (all_events T.segments))
     → absence ≡ absence_by found job.question until (all_events T.segments) → HasAbsence T job absence
 absence_of T job until found absence named is by =
     (until, named, by ∙ ap (λ (b : Bool). absence_by b job.question until (all_events T.segments)) is)

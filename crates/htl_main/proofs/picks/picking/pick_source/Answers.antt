@@ -33,3 +33,9 @@ returns-in-Err-clause-no_write g c = rw (c.from_source.ensures) (never_write c.a
 
 pub returns-in-Err-clause-no_case : goal.returns-in-Err-clause-no_case
 returns-in-Err-clause-no_case g c = rw (c.from_source.ensures) (never_case c.args.place c.in-Err.fault)
+
+pub returns-in-Ok-clause-readers : goal.returns-in-Ok-clause-readers
+returns-in-Ok-clause-readers g c = c.in-Ok.ensures.reading.readers
+
+pub returns-in-Err-clause-readers : goal.returns-in-Err-clause-readers
+returns-in-Err-clause-readers g c = c.in-Err.ensures.reading.readers

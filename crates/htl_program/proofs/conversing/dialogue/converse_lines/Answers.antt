@@ -9,7 +9,7 @@ use Rattle.htl_dialogue.specs.Sayings.{saying}
 use Rattle.htl_dialogue.proofs.Conversing.{begins, ended, replied, replied_last}
 use Rattle.htl_dialogue.proofs.Stopping.{all_read, before_read, read_failed, stopped, stopped_between, too_many, unreplied}
 use Rattle.htl_program.specs.Loads.{is_state}
-use Rattle.htl_program.proofs.Asked.{more_names, no_names}
+use Rattle.htl_program.proofs.LinesAsked.{all_so_far, last_so_far, line_so_far, none_so_far}
 use Rattle.htl_program.proofs.OfForm.{of_form}
 use Rattle.htl_program.proofs.conversing.dialogue.converse_lines.Goals as goal
 
@@ -20,7 +20,8 @@ loop-line-init g c = record {
   writable = c.requires.out;
   form = refl;
   wants = refl;
-  asked = no_names (g.W.World.state c.args.world.now);
+  asked = none_so_far _ (g.Q.Source.state c.args.questions.now).remaining _ (g.W.World.state c.args.world.now)
+      (rw (c.in_ok-held.ensures, prepend_known-nil (g.Q.Source.state c.args.questions.now).remaining) refl);
   so_far = λ text known. begins c.fine-conversed.result
       (rw (c.in_ok-held.ensures, prepend_known-nil (g.Q.Source.state c.args.questions.now).remaining) known)
       c.fine-conversed.ensures.wrong c.fine-conversed.ensures.first;
@@ -38,7 +39,9 @@ loop-line-preserved g c =
       writable = search rules;
       form = c.in_ok-line.ensures.form ∙ inv.form;
       wants = c.reply.ensures.same ∙ same;
-      asked = more_names _ _ _ inv.asked c.reply.ensures.asked;
+      asked = line_so_far inv.asked
+          (record { found = c.in_ok-next.ensures.ok; says = rw alike at c.in_ok-said.ensures.said; keeps = rw alike at c.in_ok-said.ensures.fault })
+          goes_on c.reply.ensures.asked c.if-next.false;
       so_far = λ text known. replied (inv.so_far text known)
           (record { found = c.in_ok-next.ensures.ok; says = rw alike at c.in_ok-said.ensures.said; keeps = rw alike at c.in_ok-said.ensures.fault }) goes_on
           (record {
@@ -144,10 +147,34 @@ returns-clause-questions g c =
     λ _. inr (inr (too_many (g.Q.Source.state c.args.questions.now).remaining MAX_READS c.loop-line.invariant.so_far c.loop-line-test.false))
 
 pub returns-then-next-clause-asked : goal.returns-then-next-clause-asked
-returns-then-next-clause-asked g c = more_names _ _ _ c.loop-line.invariant.asked c.reply.ensures.asked
+returns-then-next-clause-asked g c =
+    let inv = c.loop-line.invariant in
+    let alike : c.forgets.result ≡ is_state c.args.kept.now = c.forgets.ensures ∙ inv.form in
+    last_so_far inv.asked
+    (record { found = c.in_ok-next.ensures.ok; says = rw alike at c.in_ok-said.ensures.said; keeps = rw alike at c.in_ok-said.ensures.fault })
+    (sym (c.ends.ensures) ∙ c.if-ends.false) c.reply.ensures.asked
 
 pub returns-in_err-line-clause-asked : goal.returns-in_err-line-clause-asked
-returns-in_err-line-clause-asked g c = more_names _ _ _ c.loop-line.invariant.asked c.reply.ensures.asked
+returns-in_err-line-clause-asked g c =
+    let inv = c.loop-line.invariant in
+    let alike : c.forgets.result ≡ is_state c.args.kept.now = c.forgets.ensures ∙ inv.form in
+    last_so_far inv.asked
+    (record { found = c.in_ok-next.ensures.ok; says = rw alike at c.in_ok-said.ensures.said; keeps = rw alike at c.in_ok-said.ensures.fault })
+    (sym (c.ends.ensures) ∙ c.if-ends.false) c.reply.ensures.asked
 
 pub returns-in_err-held-clause-asked : goal.returns-in_err-held-clause-asked
-returns-in_err-held-clause-asked g c = no_names (g.W.World.state c.args.world.now)
+returns-in_err-held-clause-asked g c =
+    all_so_far (none_so_far (is_state c.args.kept.now) (g.Q.Source.state c.args.questions.now).remaining
+    (g.Q.Source.state c.args.questions.now).remaining (g.W.World.state c.args.world.now) refl)
+
+pub returns-then-ends-clause-asked : goal.returns-then-ends-clause-asked
+returns-then-ends-clause-asked g c = all_so_far c.loop-line.invariant.asked
+
+pub returns-in_err-next-clause-asked : goal.returns-in_err-next-clause-asked
+returns-in_err-next-clause-asked g c = all_so_far c.loop-line.invariant.asked
+
+pub returns-in_err-said-clause-asked : goal.returns-in_err-said-clause-asked
+returns-in_err-said-clause-asked g c = all_so_far c.loop-line.invariant.asked
+
+pub returns-clause-asked : goal.returns-clause-asked
+returns-clause-asked g c = all_so_far c.loop-line.invariant.asked

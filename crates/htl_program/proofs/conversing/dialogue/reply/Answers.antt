@@ -8,8 +8,9 @@ use Rattle.htl_dialogue.specs.Notes.{first_fault, reads, refuses}
 use Rattle.htl_dialogue.specs.Replying.{fault_of}
 use Rattle.htl_main.specs.declared.loading.adding.Added.{Added}
 use Rattle.htl_main.specs.declared.refused.Refused.{Refused}
-use Rattle.htl_program.proofs.Asked.{no_names}
+use Rattle.htl_program.proofs.Asked.{asks_nothing}
 use Rattle.htl_program.proofs.conversing.dialogue.reply.Goals as goal
+use Rattle.htl_dialogue.specs.Sayings.{saying}
 
 fault_is_first : (files : List (List ℕ)) (ended : Result Added Refused) → fault_of ended ≡ first_fault (reads files ended ∷ [])
 fault_is_first files (Ok added) = refl
@@ -107,7 +108,19 @@ returns-in_err-write-in-Reads-clause-err g c =
     )
 
 pub returns-in_err-write-in-Wrong-clause-asked : goal.returns-in_err-write-in-Wrong-clause-asked
-returns-in_err-write-in-Wrong-clause-asked g c = no_names (g.W.World.state c.args.world.now)
+returns-in_err-write-in-Wrong-clause-asked g c =
+    asks_nothing (g.W.World.state c.args.world.now) (saying c.args.said.now) (rw c.in-Wrong.is refl)
+
+pub returns-in_ok-write-in-Wrong-clause-asked : goal.returns-in_ok-write-in-Wrong-clause-asked
+returns-in_ok-write-in-Wrong-clause-asked g c =
+    asks_nothing (g.W.World.state c.args.world.now) (saying c.args.said.now) (rw c.in-Wrong.is refl)
+
+pub returns-in-Nothing-clause-asked : goal.returns-in-Nothing-clause-asked
+returns-in-Nothing-clause-asked g c =
+    elim c.in-Nothing.is [
+      | inl is ↦ asks_nothing (g.W.World.state c.args.world.now) (saying c.args.said.now) (rw is refl)
+      | inr is ↦ asks_nothing (g.W.World.state c.args.world.now) (saying c.args.said.now) (rw is refl)
+    ]
 
 pub returns-in-Asks-clause-ok : goal.returns-in-Asks-clause-ok
 returns-in-Asks-clause-ok g c = rw c.in-Asks.is (c.reply_to.ensures.ok (g.W.World.state c.args.world.now).known)
@@ -116,4 +129,17 @@ pub returns-in-Asks-clause-err : goal.returns-in-Asks-clause-err
 returns-in-Asks-clause-err g c = rw c.in-Asks.is (c.reply_to.ensures.err (g.W.World.state c.args.world.now).known)
 
 pub returns-in-Asks-clause-asked : goal.returns-in-Asks-clause-asked
-returns-in-Asks-clause-asked g c = no_names (g.W.World.state c.args.world.now)
+returns-in-Asks-clause-asked g c =
+    asks_nothing (g.W.World.state c.args.world.now) (saying c.args.said.now) (rw c.in-Asks.is refl)
+
+pub returns-in_err-ended-in-Reads-clause-asked : goal.returns-in_err-ended-in-Reads-clause-asked
+returns-in_err-ended-in-Reads-clause-asked g c = rw c.in-Reads.is (rw c.deref.ensures.value at c.read.ensures.asked)
+
+pub returns-in_err-text-in-Reads-clause-asked : goal.returns-in_err-text-in-Reads-clause-asked
+returns-in_err-text-in-Reads-clause-asked g c = rw c.in-Reads.is (rw c.deref.ensures.value at c.read.ensures.asked)
+
+pub returns-in_ok-write-in-Reads-clause-asked : goal.returns-in_ok-write-in-Reads-clause-asked
+returns-in_ok-write-in-Reads-clause-asked g c = rw c.in-Reads.is (rw c.deref.ensures.value at c.read.ensures.asked)
+
+pub returns-in_err-write-in-Reads-clause-asked : goal.returns-in_err-write-in-Reads-clause-asked
+returns-in_err-write-in-Reads-clause-asked g c = rw c.in-Reads.is (rw c.deref.ensures.value at c.read.ensures.asked)

@@ -2,7 +2,7 @@
 use Rattle.std.proofs.Common.{map, string_bytes}
 use Rattle.std.proofs.lemmas.Result.{err_from_is_err_and}
 use Rattle.htl_program.specs.Worlds.{change}
-use Rattle.htl_program.proofs.Asked.{names_only}
+use Rattle.htl_program.proofs.Asked.{names_asked}
 use Rattle.htl_program.proofs.FoldLaws.{none_folded, opened_and_folded}
 use Rattle.htl_program.proofs.conversing.files.Files.fold.Goals as goal
 
@@ -14,7 +14,7 @@ returns-in_err-inputs-clause-folded g c =
     (rw p.2.0 c.in_err-inputs.ensures.refused))
 
 pub returns-in_err-inputs-clause-asked : goal.returns-in_err-inputs-clause-asked
-returns-in_err-inputs-clause-asked g c = names_only _ _ (map string_bytes c.args.names.now) c.open_files.result c.open_files.ensures.asked
+returns-in_err-inputs-clause-asked g c = names_asked _ _ (map string_bytes c.args.names.now) c.open_files.result c.open_files.ensures.asked
 
 pub returns-clause-folded : goal.returns-clause-folded
 returns-clause-folded g c =
@@ -24,4 +24,4 @@ returns-clause-folded g c =
     (rw c.deref_mut.ensures.value at c.fold.ensures)
 
 pub returns-clause-asked : goal.returns-clause-asked
-returns-clause-asked g c = names_only _ _ (map string_bytes c.args.names.now) c.open_files.result c.open_files.ensures.asked
+returns-clause-asked g c = names_asked _ _ (map string_bytes c.args.names.now) c.open_files.result c.open_files.ensures.asked

@@ -15,7 +15,8 @@ returns c = λ known.
     let until = c.moment-until.result in
     let events = all_events c.args.loaded.now.case.segments in
     let found : c.has_subject-has_subject.result ≡ has_subject question (counted_events until events) =
-    c.has_subject-has_subject.ensures ∙ ap (λ (b : Bool). is_of_all_handles question || b) (any_until (is_about (subject_of question)) until c.segments.result.now)
+    c.has_subject-has_subject.ensures
+    ∙ ap (λ (b : Bool). is_of_all_handles question || b) (any_until (is_about (subject_of question)) until c.segments.result.now)
     ∙ ap (λ (ss : List Content). has_subject question (counted_events until (all_events ss))) c.segments.ensures.value in (
       until,
       c.moment-until.ensures known,

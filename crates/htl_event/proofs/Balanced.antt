@@ -1,13 +1,13 @@
 -- Balances over all objects are the same over the same events at other places, and over what is asked about for them.
 use Rattle.std.proofs.Common.{◌≡◌, ℕ, Bool, true, List, [], ◌∷◌, map, refl, sym, ap, ◌∙◌, ◌&&◌, nat_eq, subst}
-use Rattle.std.specs.Prelude.{Contains, count_by, filter, ◌↔◌}
+use Rattle.std.specs.Prelude.{count_by, filter, ◌↔◌}
 use Rattle.std.specs.List.Sorted.{IsPermutation}
 use Rattle.std.specs.Cmp.{unsigned_Decides}
 use Rattle.std.specs.Cmp.Lexicographic.{pointwise, pointwise_decides}
 use Rattle.std.proofs.lemmas.Bool.{and_parts, and_from}
 use Rattle.std.proofs.lemmas.Cmp.{nat_cmp_total, nat_list_cmp_total, on_total, then_total, back_total}
 use Rattle.htl_event.specs.Events.{Event}
-use Rattle.htl_event.specs.Slots.{is_slot, slot_by_kind, is_counted}
+use Rattle.htl_event.specs.Slots.{is_slot, slot_by_kind}
 use Rattle.htl_event.specs.declared.interest.Interest.TheVariants.{Tag, AllEvents}
 use Rattle.htl_event.specs.declared.kind.Kind.{Kind}
 use Rattle.htl_event.specs.declared.kind.Kind.TheVariants.{Opened, Closed, BadRef, Snapshot, Ref, Deref, Exited}
@@ -19,7 +19,7 @@ use Rattle.htl_event.specs.OrderLaws.{stack_total}
 use Rattle.htl_event.specs.Tallies.{count_where, balance, has_stack, tally, IsPositive}
 use Rattle.htl_event.specs.Summaries.{is_unbalanced}
 use Rattle.htl_event.specs.Balances.{Balance, is_ref, is_deref, references_where, has_tag, HaveObjects, IsTagBalance, MostObjectsFirst}
-use Rattle.htl_event.specs.Balances.{AreBalances, IsStackBalance, InStackOrder, AreTagStacks, BalancesAreDetermined}
+use Rattle.htl_event.specs.Balances.{IsStackBalance, InStackOrder, BalancesAreDetermined}
 use Rattle.htl_event.specs.Interests.{names_object, wants, without_stack, as_needed, wanted, BalancesNeedNoStack, StacksNeedTheirTag}
 use Rattle.htl_event.proofs.Counts.{count_by-IsPermutation, count_where-IsPermutation}
 use Rattle.htl_event.proofs.Members.{Lists-same}

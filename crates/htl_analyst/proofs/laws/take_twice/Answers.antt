@@ -1,5 +1,5 @@
 -- A segment that was taken is a repeat, and neither that nor a refusal changes how many were.
-use Rattle.std.proofs.Common.{◌≡◌, ◌+◌, ℕ, Result, Ok, Err, refl, sym, ap, subst, arith, inl, inr, ◌⊎◌}
+use Rattle.std.proofs.Common.{◌≡◌, ◌+◌, Result, Ok, Err, refl, sym, ap, subst, arith, inl, inr, ◌⊎◌}
 use Rattle.htl_segment.specs.Content.{Content}
 use Rattle.htl_analyst.specs.Calls.{Takes, without_return}
 use Rattle.htl_analyst.specs.declared.fault.TakeFault.{TakeFault}

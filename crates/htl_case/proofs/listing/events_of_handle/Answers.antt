@@ -1,5 +1,4 @@
 -- The rows of all lists, the newest first, are the listing of the handle.
-use Rattle.std.proofs.Common.{◌∙◌, ap}
 use Rattle.std.specs.Prelude.{flat_map}
 use Rattle.htl_case.specs.Listed.{is_of_handle}
 use Rattle.htl_case.proofs.EventLists.{filtered_all, filtered_more}

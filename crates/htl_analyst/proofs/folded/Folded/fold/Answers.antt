@@ -1,5 +1,5 @@
 -- The tables of both, and the tree that counts both, are folded of the events of both.
-use Rattle.std.proofs.Common.{◌≡◌, List, ◌++◌, length-append, sym, ap, ◌∙◌, subst, arith}
+use Rattle.std.proofs.Common.{List, length-append, sym, ap, ◌∙◌, subst, arith}
 use Rattle.htl_event.specs.Events.{Event}
 use Rattle.htl_event.specs.Handles.{later}
 use Rattle.htl_tables.specs.Latest.{event_at}

@@ -19,3 +19,8 @@ pub mod RankedBalances
 pub mod StackSums
 pub mod StackRows
 pub mod BalanceSums
+pub mod Placed
+pub mod ListedSums
+pub mod BalancePairs
+pub mod ComputedBalances
+pub mod RowsBalances

@@ -114,7 +114,7 @@ some_member : {X : Type 0} (xs : List X) → 0 < length xs → (x : X) × Contai
 some_member [] lt = absurd (omega (arith, lt))
 some_member (x ∷ xs) lt = (x, Contains-here x xs)
 
-no_member : {X : Type 0} (xs : List X) (x : X) → Contains xs x → 0 < length xs
+pub no_member : {X : Type 0} (xs : List X) (x : X) → Contains xs x → 0 < length xs
 no_member xs x h = let lt = h.1 in omega (arith, lt)
 
 module _ (events : List Event) (sums : List Sum) (listed : ListsSlotSums events sums) (object : ℕ) where
@@ -218,10 +218,10 @@ module _ (events : List Event) (sums : List Sum) (listed : ListsSlotSums events 
 
 -- ---- rows
 
-same_tags : (events : List Event) (object : ℕ) (a b : List Balance) → IsTags events object a → IsTags events object b → a ≡ b
+pub same_tags : (events : List Event) (object : ℕ) (a b : List Balance) → IsTags events object a → IsTags events object b → a ≡ b
 same_tags events object a b = (counts_are_determined events events (IsPermutation-refl events)).tags object a b
 
-one_row : (events : List Event) (a b : ObjectRow) → IsObjectRow events a → IsObjectRow events b → a.object ≡ b.object → a ≡ b
+pub one_row : (events : List Event) (a b : ObjectRow) → IsObjectRow events a → IsObjectRow events b → a.object ≡ b.object → a ≡ b
 one_row events a b p q e =
     let its : IsTags events a.object q.balances = subst (λ (o : ℕ). IsTags events o q.balances) (sym e) q.all in
     let same = same_tags events a.object p.balances q.balances p.all its in

@@ -1,7 +1,7 @@
 -- The handles of all sites are the outstanding handles of all processes.
 use Rattle.std.proofs.Common.{◌≡◌, ◌≢◌, ℕ, ◌<◌, Bool, true, false, cond, List, [], ◌∷◌, length, None}
 use Rattle.std.proofs.Common.{refl, sym, ap, subst, ◌∙◌, arith, inl, inr, ◌⊎◌, ◌&&◌}
-use Rattle.std.specs.Prelude.{Contains, ◌↔◌, ◌==◌, count_by, filter}
+use Rattle.std.specs.Prelude.{Contains, ◌==◌, count_by, filter}
 use Rattle.std.specs.List.{sum_by}
 use Rattle.std.specs.Cmp.{unsigned_Decides}
 use Rattle.std.specs.Cmp.Lexicographic.{pointwise_decides}
@@ -14,9 +14,9 @@ use Rattle.htl_event.specs.Tallies.{has_stack}
 use Rattle.htl_event.specs.Summaries.{is_open, is_close, is_bad, how_many, HasOutstanding, MostOutstandingFirst, IsProcesses}
 use Rattle.htl_event.specs.Sites.{Site, ByProcessAndBase, HasHandle, MostHandlesFirst, IsSites}
 use Rattle.htl_event.specs.declared.summary.ProcessRow.{ProcessRow}
-use Rattle.htl_event.proofs.Members.{Contains-here, Contains-there, Contains-nil, Contains-cases, Contains-cons, at_member, each_member}
+use Rattle.htl_event.proofs.Members.{Contains-here, Contains-there, Contains-nil, Contains-cases}
 use Rattle.htl_event.proofs.Members.{Contains-filter, Contains-from_filter}
-use Rattle.htl_event.proofs.Orders.{MostHandlesFirst-strict}
+use Rattle.htl_event.proofs.Orders.{lower-strict, MostHandlesFirst-strict}
 use Rattle.htl_event.proofs.Summarized.{MostOutstandingFirst-strict}
 use Rattle.htl_event.proofs.ComputedHandles.{mark_of, IsMark-mark_of, last_exit_of, IsLastExit-last_exit_of}
 use Rattle.htl_event.proofs.ComputedSites.{IsSite-unique}
@@ -26,6 +26,7 @@ use Rattle.htl_answers.proofs.OpenLemmas.{rising-filter}
 use Rattle.htl_summary.proofs.Counting.{count_all, count_one, positive_somewhere}
 use Rattle.htl_summary.proofs.ProcessRows.{one_row}
 use Rattle.htl_summary.proofs.OneProcess.{rising_members, base_order}
+use Rattle.htl_summary.proofs.Placed.{placed}
 use Rattle.htl_summary.specs.SiteLaws.{SitesAddUp}
 
 -- where each element has one of the keys, the sum of how many have each key is their number
@@ -37,52 +38,11 @@ sum_of_keys has ks xs one =
 
 -- ---- numbers in order, each once
 
--- a number more, where it belongs
-placed : (n : ℕ) (ms : List ℕ) → IsRising (λ a b. a < b) ms
-    → (ks : List ℕ) × IsRising (λ a b. a < b) ks × ((x : ℕ) → Contains ks x ↔ ((n ≡ x) ⊎ Contains ms x))
-placed n [] rising = (n ∷ [], (tt, tt), λ x. (Contains-cases n [] x, Contains-cons n [] x))
-placed n (m ∷ ms) rising =
-    elim (cases_lt n m) [
-      | inl below ↦ (
-        n ∷ m ∷ ms,
-        ((below, each_member (λ k. n < k) ms (λ k h. let up = at_member (λ j. m < j) ms k rising.0 h in omega (arith, below, up))), rising),
-        λ x. (Contains-cases n (m ∷ ms) x, Contains-cons n (m ∷ ms) x),
-      )
-      | inr above ↦ elim (cases_eq n m) [
-        | inl same ↦ (
-          m ∷ ms,
-          rising,
-          λ x. (
-            λ h. inr h,
-            λ h. elim h [ inl is ↦ subst (Contains (m ∷ ms)) (sym same ∙ is) (Contains-here m ms) | inr there ↦ there ],
-          ),
-        )
-        | inr other ↦
-            let (ks, up, members) = placed n ms rising.1 in (
-              m ∷ ks,
-              (
-                each_member (λ k. m < k) ks (λ k h. elim ((members k).0 h) [
-                  | inl is ↦ omega (arith, above, other, is)
-                  | inr there ↦ at_member (λ j. m < j) ms k rising.0 there
-                ]),
-                up,
-              ),
-              λ x. (
-                λ h. elim (Contains-cases m ks x h) [
-                  | inl is ↦ inr (Contains-cons m ms x (inl is))
-                  | inr later ↦ elim ((members x).0 later) [ inl is ↦ inl is | inr there ↦ inr (Contains-there m ms x there) ]
-                ],
-                λ h. elim h [
-                  | inl is ↦ Contains-there m ks x ((members x).1 (inl is))
-                  | inr there ↦ elim (Contains-cases m ms x there) [
-                    | inl is ↦ Contains-cons m ks x (inl is)
-                    | inr later ↦ Contains-there m ks x ((members x).1 (inr later))
-                  ]
-                ],
-              ),
-            )
-      ]
-    ]
+compare : (a b : ℕ) → (a < b) ⊎ ((a ≡ b) ⊎ (b < a))
+compare a b = elim (cases_lt a b) [
+  | inl below ↦ inl below
+  | inr above ↦ elim (cases_eq a b) [ inl same ↦ inr (inl same) | inr other ↦ inr (inr (omega (arith, above, other))) ]
+]
 
 -- the processes of a stack have a number
 processes_of : (handles : List Event) (stack : List ℕ) → (processes : List ℕ) × Lists (λ p q. p < q) (HasHandle handles stack) processes
@@ -96,7 +56,7 @@ processes_of (e ∷ es) stack = go (processes_of es stack) (has_stack stack e) r
         → (processes : List ℕ) × Lists (λ p q. p < q) (HasHandle (e ∷ es) stack) processes
     go others true is =
         let its : e.stack ≡ stack = (pointwise_decides unsigned_Decides e.stack stack).0 is in
-        let (ks, rising, members) = placed e.process others.0 others.1.rising in (
+        let (ks, rising, members) = placed (λ p q. p < q) lower-strict compare e.process others.0 others.1.rising in (
           ks,
           record {
             rising = rising;

@@ -31,7 +31,7 @@ AreRising sums = IsRising (λ (a b : Sum). BySlot a.0 b.0) sums
 
 -- ---- a slot stands once
 
-BySlot-strict : IsStrictOrder BySlot
+pub BySlot-strict : IsStrictOrder BySlot
 BySlot-strict = strict_from_total slot_total
 
 not_same : (s t : Slot) → s ≢ t → same_slot s t ≡ false

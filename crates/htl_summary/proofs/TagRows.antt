@@ -101,7 +101,7 @@ differs_one count = go (count.plus == count.minus)
     go true = refl
     go false = refl
 
-abbrev differing : Count → Bool
+abbrev pub differing : Count → Bool
 differing count = not (count.plus == count.minus)
 
 abbrev plus_of : Balance → ℕ
@@ -129,12 +129,26 @@ one_number P m n p q =
 
 -- ---- rows
 
-one_row : (events : List Event) (a b : Balance) → IsTagBalance events a → IsTagBalance events b → a.by ≡ b.by → a ≡ b
+-- a tag has one row
+pub one_row : (events : List Event) (a b : Balance) → IsTagBalance events a → IsTagBalance events b → a.by ≡ b.by → a ≡ b
 one_row events a b p q e =
     let count : a.count ≡ b.count = p.used ∙ ap (λ (t : List ℕ). references_where (has_tag t) events) e ∙ sym q.used in
     let its : HaveObjects (DiffersOn events a.by) b.objects = subst (λ (t : List ℕ). HaveObjects (DiffersOn events t) b.objects) (sym e) q.differing in
     let number = one_number (DiffersOn events a.by) a.objects b.objects p.differing its in
     λ i. record { by = e i; count = count i; objects = number i }
+
+module _ (events : List Event) (sums : List Sum) (counted : ListsSlotSums events sums) where
+  -- the objects that differ are those whose sum does
+  pub differ : (tag : List ℕ) → Lists (λ a b. a < b) (DiffersOn events tag) (objects events sums counted tag differing)
+  differ tag =
+      let are = objects_are events sums counted tag differing in
+      record {
+        rising = are.rising;
+        members = λ object. (
+          λ h. ((are.members object).0 h).0,
+          λ is. (are.members object).1 (is, some_where_differing (balance events object tag) is),
+        );
+      }
 
 module _ (events : List Event) (sums : List Sum) (rows : List Balance) (counted : ListsSlotSums events sums)
     (added : AreAdded tag_cmp (filter_map row_of sums) rows) where
@@ -153,17 +167,6 @@ module _ (events : List Event) (sums : List Sum) (rows : List Balance) (counted 
       ∙ at_tag objects_of (λ count. cond (differing count) 1 0) (λ o t count. differs_one count) tag sums
       ∙ number_of_objects events sums counted tag differing
 
-  differ : (tag : List ℕ) → Lists (λ a b. a < b) (DiffersOn events tag) (objects events sums counted tag differing)
-  differ tag =
-      let are = objects_are events sums counted tag differing in
-      record {
-        rising = are.rising;
-        members = λ object. (
-          λ h. ((are.members object).0 h).0,
-          λ is. (are.members object).1 (is, some_where_differing (balance events object tag) is),
-        );
-      }
-
   given_positive : (row : Balance) → Contains (filter_map row_of sums) row → IsPositive row.count
   given_positive row h =
       let from = Contains-from_filter_map row_of sums row h in
@@ -178,7 +181,7 @@ module _ (events : List Event) (sums : List Sum) (rows : List Balance) (counted 
         named = added.positive given_positive row h;
         differing = (
           objects events sums counted row.by differing,
-          differ row.by,
+          differ events sums counted row.by,
           sym (once nat_list_cmp_total tag_same objects_of rows added.rising row h) ∙ objects_at row.by,
         );
       }

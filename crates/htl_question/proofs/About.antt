@@ -3,15 +3,15 @@ use Rattle.std.proofs.Common.{◌≡◌, ◌⊎◌, ◌∙◌, ℕ, Bool, true, 
 use Rattle.std.specs.Prelude.{◌==◌, if◌then◌else◌}
 use Rattle.std.proofs.lemmas.Bool.{and_parts, cases_Bool}
 use Rattle.htl_event.specs.Events.{Event}
-use Rattle.htl_event.specs.Interests.{tracks_handles, wants, without_stack}
+use Rattle.htl_event.specs.Interests.{names_object, tracks_handles, wants, without_stack}
 use Rattle.htl_event.specs.declared.interest.Interest.{Interest}
 use Rattle.htl_event.specs.declared.interest.Interest.TheVariants as interests
-use Rattle.htl_question.specs.Subjects.{interest_in, is_about, names_handle, names_object}
+use Rattle.htl_question.specs.Subjects.{interest_in, is_about, names_handle}
 use Rattle.htl_question.specs.Questions.{Serves, is_of_all_handles, is_of_open_handles, narrowed, subject_of, widest, widest_in}
 use Rattle.htl_question.specs.declared.question.Question.{Question}
 use Rattle.htl_question.specs.declared.question.Question.TheVariants as questions
 use Rattle.htl_question.specs.declared.subject.Subject.{Subject}
-use Rattle.htl_question.specs.declared.subject.Subject.TheVariants.{Process, Object, Tag, Handle}
+use Rattle.htl_question.specs.declared.subject.Subject.TheVariants.{Process, Object, Tag, TagOfAll, Handle}
 
 -- a subject doesn't see stacks
 pub unseen_stack : (subject : Option Subject) (e : Event) → is_about subject (without_stack e) ≡ is_about subject e
@@ -19,6 +19,7 @@ unseen_stack None e = refl
 unseen_stack (Some (Process p)) e = refl
 unseen_stack (Some (Object o)) e = refl
 unseen_stack (Some (Tag o tag)) e = refl
+unseen_stack (Some (TagOfAll tag)) e = refl
 unseen_stack (Some (Handle p handle)) e = refl
 
 -- an event of the subject is among all that tell of it
@@ -27,6 +28,7 @@ about_is_wanted None e is = refl
 about_is_wanted (Some (Process p)) e is = is
 about_is_wanted (Some (Object o)) e is = (and_parts (names_object e.kind) _ is).1
 about_is_wanted (Some (Tag o tag)) e is = (and_parts _ _ (and_parts (names_object e.kind) _ is).1).0
+about_is_wanted (Some (TagOfAll tag)) e is = is
 about_is_wanted (Some (Handle p handle)) e is = (and_parts _ _ (and_parts (names_handle e.kind) _ is).1).0
 
 -- ---- where only open handles are wanted
@@ -62,6 +64,7 @@ never_open None p is = cc is
 never_open (Some (Process q)) p is = cc is
 never_open (Some (Object o)) p is = cc is
 never_open (Some (Tag o tag)) p is = cc is
+never_open (Some (TagOfAll tag)) p is = cc is
 never_open (Some (Handle q handle)) p is = cc is
 
 -- the events that a question needs, by whether it is of open handles

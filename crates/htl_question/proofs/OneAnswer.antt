@@ -2,6 +2,7 @@
 use Rattle.std.proofs.Common.{◌≡◌, ℕ, List, Option, Some, None, ap, sym, subst, ◌∙◌}
 use Rattle.std.proofs.lemmas.List.Sorted.{IsPermutation-refl}
 use Rattle.htl_event.specs.Events.{Event}
+use Rattle.htl_event.specs.Balances.{BalancesAreDetermined}
 use Rattle.htl_event.specs.Laws.{HandlesAreDetermined, CountsAreDetermined}
 use Rattle.htl_event.specs.Summaries.{SummariesAreDetermined}
 use Rattle.htl_event.specs.declared.since.Since.{Since}
@@ -9,10 +10,12 @@ use Rattle.htl_event.specs.declared.since.Since.TheVariants.{Snapshot, Sequence}
 use Rattle.htl_event.proofs.Determined.{handles_are_determined}
 use Rattle.htl_event.proofs.Counts.{counts_are_determined}
 use Rattle.htl_event.proofs.Summarized.{summaries_are_determined}
+use Rattle.htl_event.proofs.Balanced.{balances_are_determined}
 use Rattle.htl_question.specs.Answers.{Are, AreRows, IsAnswerOver, IsSince, IsSinceIfGiven, after, process_of}
 use Rattle.htl_question.specs.Bases.{Basis}
 use Rattle.htl_question.specs.Questions.{asks_since}
-use Rattle.htl_question.specs.Rows.{Found, Listed, opens, listing, tags, bad, leaks, sites, stacks, points, summary}
+use Rattle.htl_question.specs.Rows.{Found, Listed, opens, listing, tags, bad, leaks, sites, stacks, balances, tag_stacks, points}
+use Rattle.htl_question.specs.Rows.{summary}
 use Rattle.htl_question.specs.declared.answer.Totals.{Totals}
 use Rattle.htl_question.specs.declared.question.Question.{Question}
 use Rattle.htl_question.specs.declared.question.Question.TheVariants as questions
@@ -25,6 +28,9 @@ counts es = counts_are_determined es es (IsPermutation-refl es)
 
 summaries : (es : List Event) → SummariesAreDetermined es es
 summaries es = summaries_are_determined es es (IsPermutation-refl es)
+
+over_objects : (es : List Event) → BalancesAreDetermined es es
+over_objects es = balances_are_determined es es (IsPermutation-refl es)
 
 one_since : (es : List Event) (process : ℕ) (since : Since) (m n : ℕ) → IsSince es process since m → IsSince es process since n → m ≡ n
 one_since es process (Sequence since) m n p q = p ∙ sym q
@@ -63,6 +69,11 @@ one_rows B (questions.Bad process) since a b p q = same_list bad _ ((counts B.ev
 one_rows B (questions.Leaks process from least) since a b p q = same_list leaks _ ((handles B.events).leaks process since least) a b p q
 one_rows B (questions.Sites from least) since a b p q = same_list sites _ ((handles B.events).sites from least) a b p q
 one_rows B (questions.Stacks object tag) since a b p q = same_list stacks _ ((counts B.events).stacks object tag) a b p q
+one_rows B (questions.Balance all) since a b (m, xs, is, number, p) (n, ys, are, numbered, q) =
+    let objects = (summaries B.events).objects m n number numbered in
+    let rows = (over_objects B.events).tags all xs ys p q in
+    is ∙ (λ i. balances (objects i) (rows i)) ∙ sym are
+one_rows B (questions.TagStacks tag) since a b p q = same_list tag_stacks _ ((over_objects B.events).stacks tag) a b p q
 one_rows B (questions.Trace process handle) since a b p q = same_list listing _ ((handles B.events).listing process handle) a b p q
 one_rows B (questions.Growth process count) since a b p q = same_list points _ ((handles B.events).growth process B.span count) a b p q
 

@@ -1,6 +1,7 @@
 -- What an answer says, wherever its rows lie in memory; whether it finds something; and whether it is since no snapshot.
-use Rattle.std.specs.Prelude.{ℕ, Bool, true, false, ◌&&◌, ◌||◌, ◌==◌, not, List, length, Option, Some, None}
+use Rattle.std.specs.Prelude.{ℕ, Bool, false, ◌&&◌, ◌||◌, ◌==◌, nat_lt, not, List, length, Option, Some, None}
 use Rattle.std.specs.List.{list_any}
+use Rattle.htl_event.specs.Balances.{Balance}
 use Rattle.htl_event.specs.Events.{Event}
 use Rattle.htl_event.specs.Sites.{Site}
 use Rattle.htl_event.specs.declared.growth.Point.{Point}
@@ -23,6 +24,8 @@ pub data Listed : Type 0 where
   leaks : List (List ℕ × ℕ) → Listed
   sites : List Site → Listed
   stacks : List (List ℕ × Count) → Listed
+  balances : ℕ → List Balance → Listed
+  tag_stacks : List Balance → Listed
   points : List Point → Listed
   summary : Totals → List Gap → List ProcessRow → List ObjectRow → Listed
 
@@ -34,6 +37,8 @@ listed (rows.Bad xs) = bad xs.items
 listed (rows.Leaks xs) = leaks xs.items
 listed (rows.Sites xs) = sites xs.items
 listed (rows.Stacks xs) = stacks xs.items
+listed (rows.Balances objects list) = balances objects list.items
+listed (rows.TagStacks xs) = tag_stacks xs.items
 listed (rows.Points xs) = points xs.items
 listed (rows.Summary totals gaps processes objects) = summary totals gaps.items processes.items objects.items
 
@@ -49,8 +54,8 @@ found question since rows = record { question = question; since = since; rows = 
 abbrev pub has_rows : {R : Type 0} → List R → Bool
 has_rows xs = not (length xs == 0)
 
--- The answer finds something: it has a row; of tags one that doesn't balance, and of a summary a process with outstanding
--- handles or bad references, or an object.
+-- The answer finds something: it has a row; of tags one that doesn't balance, of balances one that doesn't on some object, and of a
+-- summary a process with outstanding handles or bad references, or an object.
 abbrev pub has_finding : Listed → Bool
 has_finding (opens xs) = has_rows xs
 has_finding (listing xs) = has_rows xs
@@ -59,6 +64,8 @@ has_finding (bad xs) = has_rows xs
 has_finding (leaks xs) = has_rows xs
 has_finding (sites xs) = has_rows xs
 has_finding (stacks xs) = has_rows xs
+has_finding (balances objects xs) = list_any (λ row. nat_lt 0 row.objects) xs
+has_finding (tag_stacks xs) = has_rows xs
 has_finding (points xs) = has_rows xs
 has_finding (summary totals gaps processes objects) =
     list_any (λ row. not (row.outstanding == 0) || not (row.bad == 0)) processes || has_rows objects

@@ -1,7 +1,9 @@
 //! Answers.
 
 use crate::question::Question;
-use htl_event::{Count, ObjectRow, Point, ProcessRow, SharedEvent, SharedStack, Since, Site};
+use htl_event::{
+    Balance, Count, ObjectRow, Point, ProcessRow, SharedEvent, SharedStack, Since, Site,
+};
 use htl_taken::Gap;
 use std::marker::Model;
 
@@ -39,6 +41,14 @@ pub enum Rows {
     Sites(Vec<Site<SharedStack>>),
     /// Stacks, each with its references and dereferences.
     Stacks(Vec<(SharedStack, Count)>),
+    /// How many objects have an event, and tags, each with its references and dereferences on all of
+    /// them.
+    Balances {
+        objects: u64,
+        tags: Vec<Balance<[u8; 4]>>,
+    },
+    /// Stacks, each with its references and dereferences of all objects.
+    TagStacks(Vec<Balance<SharedStack>>),
     /// How many handles were open as of moments.
     Points(Vec<Point>),
     /// What leaks at all: the segments that are missing, each process, and the objects with an
@@ -66,8 +76,9 @@ impl Answer {
     ghost use Rattle.std.specs.Prelude.{◌≡◌};
     ghost use Rattle.htl_question.specs.Rows.{has_finding, is_unmarked};
 
-    /// Whether it finds something: any row; for `tags` a tag that doesn't balance; for `summary` an
-    /// unbalanced object, or a process with outstanding handles or bad references.
+    /// Whether it finds something: any row; for `tags` a tag that doesn't balance; of balances one
+    /// that doesn't on some object; for `summary` an unbalanced object, or a process with outstanding
+    /// handles or bad references.
     pub fn has_finding(&self) -> bool
         ensures { result ≡ has_finding self.now.rows }
     {
@@ -83,7 +94,7 @@ impl Answer {
     }
 }
 
-ghost use Rattle.std.specs.Prelude.{◌≡◌, ◌==◌, ◌||◌, not};
+ghost use Rattle.std.specs.Prelude.{◌≡◌, ◌==◌, ◌||◌, nat_lt, not};
 ghost use Rattle.std.specs.List.{list_any};
 ghost use Rattle.htl_question.specs.Rows.{has_finding, listed};
 
@@ -97,6 +108,8 @@ fn has_finding(rows: &Rows) -> bool
         Rows::Leaks(rows) => !rows.is_empty(),
         Rows::Sites(rows) => !rows.is_empty(),
         Rows::Stacks(rows) => !rows.is_empty(),
+        Rows::Balances { tags, .. } => have_objects(tags),
+        Rows::TagStacks(rows) => !rows.is_empty(),
         Rows::Points(rows) => !rows.is_empty(),
         Rows::Summary {
             processes,
@@ -111,6 +124,13 @@ fn has_unbalanced(rows: &[([u8; 4], Count)]) -> bool
     ensures { result ≡ list_any (λ row. not (row.1.plus == row.1.minus)) rows.now }
 {
     rows.iter().any(|row| row.1.plus != row.1.minus)
+}
+
+/// Whether a tag doesn't balance on some object.
+fn have_objects(rows: &[Balance<[u8; 4]>]) -> bool
+    ensures { result ≡ list_any (λ row. nat_lt 0 row.objects) rows.now }
+{
+    rows.iter().any(|row| row.objects > 0)
 }
 
 /// Whether a process has outstanding handles or bad references.

@@ -47,6 +47,15 @@ pub enum Question {
         object: u64,
         tag: [u8; 4],
     },
+    /// The tags that don't balance on some object, over all objects, or with `all` each tag that an
+    /// event names.
+    Balance {
+        all: bool,
+    },
+    /// The stacks behind a tag, over all objects.
+    TagStacks {
+        tag: [u8; 4],
+    },
     /// Each event of a handle of a process.
     Trace {
         process: u32,
@@ -79,18 +88,19 @@ impl Question {
             Question::Leaks { .. } => "leaks",
             Question::Sites { .. } => "sites",
             Question::Stacks { .. } => "stacks",
+            Question::Balance { .. } | Question::TagStacks { .. } => "balance",
             Question::Trace { .. } => "trace",
             Question::Growth { .. } => "growth",
         }
     }
 
-    /// What the question is about. A summary is about all events, and sites about the open handles
-    /// of all processes.
+    /// What the question is about. A summary and a balance are about all events, and sites about the
+    /// open handles of all processes.
     pub fn subject(self) -> Option<Subject>
         ensures { result ≡ subject_of self }
     {
         match self {
-            Question::Summary | Question::Sites { .. } => None,
+            Question::Summary | Question::Sites { .. } | Question::Balance { .. } => None,
             Question::Outstanding { process }
             | Question::Diff { process, .. }
             | Question::Bad { process }
@@ -98,6 +108,7 @@ impl Question {
             | Question::Growth { process, .. } => Some(Subject::Process(process)),
             Question::Tags { object } => Some(Subject::Object(object)),
             Question::Stacks { object, tag } => Some(Subject::Tag { object, tag }),
+            Question::TagStacks { tag } => Some(Subject::TagOfAll(tag)),
             Question::Trace { process, handle } => Some(Subject::Handle { process, handle }),
         }
     }

@@ -8,12 +8,13 @@ use Rattle.std.proofs.lemmas.List.Elements.{filter-append}
 use Rattle.htl_event.specs.Events.{Event}
 use Rattle.htl_event.specs.Moments.{counted_events}
 use Rattle.htl_event.proofs.Members.{filter-pass, filter-skip}
-use Rattle.htl_question.specs.declared.subject.Subject.{Subject}
-use Rattle.htl_question.specs.declared.subject.Subject.TheVariants.{Process, Object, Tag, Handle}
 use Rattle.htl_segment.specs.Content.{Content}
-use Rattle.htl_evidence.specs.Columns.{AreColumnsOf, HaveColumns, byte_of, is_counted, is_counted_own, is_own, object_bytes, owner, owner_in, process_bytes}
-use Rattle.htl_evidence.specs.Told.{own_events}
+use Rattle.htl_evidence.specs.Columns.{AreColumnsOf, HaveColumns, byte_of, is_counted, is_counted_own, is_own, number_in, object_bytes}
+use Rattle.htl_evidence.specs.Columns.{process_bytes}
+use Rattle.htl_evidence.specs.Told.{number_of, own_events}
 use Rattle.htl_evidence.specs.declared.columns.Columns.{Columns}
+use Rattle.htl_evidence.specs.declared.owner.Owner.{Owner}
+use Rattle.htl_evidence.specs.declared.owner.Owner.TheVariants.{Process, Object}
 
 -- ---- one event
 
@@ -25,13 +26,13 @@ false_and : (a b : Bool) → a ≡ false → (a && b) ≡ false
 false_and a b is = rw is refl
 
 -- where the bytes differ, the event isn't of the process or the object
-pub differs : (subject : Subject) (until : Option ℕ) (e : Event) (candidate byte : ℕ) → candidate ≡ byte_of (owner_in subject e)
-    → byte ≡ byte_of (owner subject) → (candidate == byte) ≡ false → is_counted_own subject until e ≡ false
-differs subject until e candidate byte of is other = elim (cases_Bool (is_own subject e)) [
+pub differs : (owner : Owner) (until : Option ℕ) (e : Event) (candidate byte : ℕ) → candidate ≡ byte_of (number_in owner e)
+    → byte ≡ byte_of (number_of owner) → (candidate == byte) ≡ false → is_counted_own owner until e ≡ false
+differs owner until e candidate byte of is other = elim (cases_Bool (is_own owner e)) [
   | inl own ↦
-      let same : candidate ≡ byte = of ∙ ap byte_of (eqb-true (owner_in subject e) (owner subject) own) ∙ sym is in
+      let same : candidate ≡ byte = of ∙ ap byte_of (eqb-true (number_in owner e) (number_of owner) own) ∙ sym is in
       absurd (both_ways (candidate == byte) other (eq-eqb candidate byte same))
-  | inr none ↦ and_false (is_counted until e) (is_own subject e) none
+  | inr none ↦ and_false (is_counted until e) (is_own owner e) none
 ]
 
 -- ---- the events of one segment
@@ -65,18 +66,16 @@ both_tests {X = X} p q (x ∷ xs) =
       | inr first ↦ filter-skip both x xs (false_and (p x) (q x) first) ∙ rest ∙ sym (ap (filter q) (filter-skip p x xs first))
     ]
 
-own_are : (subject : Subject) (es : List Event) → filter (is_own subject) es ≡ own_events (Some subject) es
+own_are : (owner : Owner) (es : List Event) → filter (is_own owner) es ≡ own_events (Some owner) es
 own_are (Process process) es = refl
-own_are (Handle process handle) es = refl
 own_are (Object object) es = refl
-own_are (Tag object tag) es = refl
 
 -- the events that count and are of the process or the object
-pub counted_own_are : (subject : Subject) (until : Option ℕ) (es : List Event)
-    → filter (is_counted_own subject until) es ≡ own_events (Some subject) (counted_events until es)
-counted_own_are subject None es = own_are subject es
-counted_own_are subject (Some moment) es =
-    both_tests (λ e. nat_le e.sequence moment) (is_own subject) es ∙ own_are subject (counted_events (Some moment) es)
+pub counted_own_are : (owner : Owner) (until : Option ℕ) (es : List Event)
+    → filter (is_counted_own owner until) es ≡ own_events (Some owner) (counted_events until es)
+counted_own_are owner None es = own_are owner es
+counted_own_are owner (Some moment) es =
+    both_tests (λ e. nat_le e.sequence moment) (is_own owner) es ∙ own_are owner (counted_events (Some moment) es)
 
 -- ---- the columns of all segments
 

@@ -35,14 +35,14 @@ use Rattle.htl_case.proofs.Pickings.{picked_own}
 use Rattle.htl_case.proofs.Sizes.{size_is}
 use Rattle.htl_question.specs.Answers.{Suffice}
 use Rattle.htl_question.specs.Bases.{Extent, basis, extent}
-use Rattle.htl_question.specs.Subjects.{interest_in}
 use Rattle.htl_question.specs.declared.question.Question.{Question}
-use Rattle.htl_question.specs.declared.subject.Subject.{Subject}
-use Rattle.htl_question.specs.declared.subject.Subject.TheVariants.{Process, Object, Tag, Handle}
 use Rattle.htl_question.proofs.Wanted.{wanted_suffice}
 use Rattle.htl_evidence.specs.Bases.{IsExtentOf}
 use Rattle.htl_evidence.specs.Kept.{Tells, one_by_one, unfolded}
-use Rattle.htl_evidence.specs.Told.{AreEnough, AreFoldsOf, ArePicksFor, AsOf, HasFolded, IsOfCase, PicksUntil, counted_own, folds, own_events}
+use Rattle.htl_evidence.specs.Told.{AreEnough, AreFoldsOf, ArePicksFor, AsOf, HasFolded, IsOfCase, PicksUntil, counted_own, folds, interest_of}
+use Rattle.htl_evidence.specs.Told.{own_events}
+use Rattle.htl_evidence.specs.declared.owner.Owner.{Owner}
+use Rattle.htl_evidence.specs.declared.owner.Owner.TheVariants.{Process, Object}
 use Rattle.htl_evidence.proofs.Covered.{one_first}
 
 -- ---- events as a part of which nothing was folded
@@ -57,27 +57,25 @@ are_events_of part events is = rw is ([], [], nothing_folded events, refl, sym (
 -- ---- each way of keeping
 
 -- nothing is left out of the events of a process or an object
-all_needed : (subject : Subject) (es : List Event) → wanted (interest_in (Some subject)) es ≡ own_events (Some subject) es
+all_needed : (owner : Owner) (es : List Event) → wanted (interest_of owner) es ≡ own_events (Some owner) es
 all_needed (Process process) es = map-id _
-all_needed (Handle process handle) es = map-id _
 all_needed (Object object) es = map-id _
-all_needed (Tag object tag) es = map-id _
 
 -- no two of them have one sequence, where no two of all have
-own_sequences : (subject : Option Subject) (es : List Event) → HaveOwnSequences es → HaveOwnSequences (own_events subject es)
+own_sequences : (owner : Option Owner) (es : List Event) → HaveOwnSequences es → HaveOwnSequences (own_events owner es)
 own_sequences None es own = own
-own_sequences (Some subject) es own = own_filtered (wants (interest_in (Some subject))) es own
+own_sequences (Some owner) es own = own_filtered (wants (interest_of owner)) es own
 
 -- they are enough where they are all, or all that can tell the answer
-own_suffice : (subject : Option Subject) (question : Question) (es : List Event) (span : Option Span) (extent : Extent)
-    → AreEnough subject question → HaveOwnSequences es → Suffice (own_events subject es) question (basis es span extent)
+own_suffice : (owner : Option Owner) (question : Question) (es : List Event) (span : Option Span) (extent : Extent)
+    → AreEnough owner question → HaveOwnSequences es → Suffice (own_events owner es) question (basis es span extent)
 own_suffice None question es span extent enough own = λ answer over. over
-own_suffice (Some subject) question es span extent enough own =
-    let all : IsPermutation (wanted (interest_in (Some subject)) es) (own_events (Some subject) es) = subst (IsPermutation _)
-    (all_needed subject es) (IsPermutation-refl _) in
-    wanted_suffice question (interest_in (Some subject)) (basis es span extent) (own_events (Some subject) es) (inr enough) all own
+own_suffice (Some owner) question es span extent enough own =
+    let all : IsPermutation (wanted (interest_of owner) es) (own_events (Some owner) es) = subst (IsPermutation _)
+    (all_needed owner es) (IsPermutation-refl _) in
+    wanted_suffice question (interest_of owner) (basis es span extent) (own_events (Some owner) es) (inr enough) all own
 
--- the events of a case up to a moment, or those of the question's process or object
+-- the events of a case up to a moment, or those of a process or object
 pub told_as_of : (e : AsOf) (question : Question) (T : Trace) (until : Option ℕ) → IsCase e.trace → IsOfCase e question T until
     → Tells true (one_by_one (counted_own e)) question T until
 told_as_of e question T until case of =
@@ -88,9 +86,9 @@ told_as_of e question T until case of =
       record {
         are = are_events_of _ _ refl;
         number = refl;
-        ordered = λ latest. own_sequences e.subject counted own;
+        ordered = λ latest. own_sequences e.owner counted own;
         one_part = λ keeps. refl;
-        enough = λ span extent. own_suffice e.subject question counted span extent of.enough own;
+        enough = λ span extent. own_suffice e.owner question counted span extent of.enough own;
       },
     )
 

@@ -1,10 +1,11 @@
 -- For the clauses of private functions: a byte of each event, by which those of one process or of one object are found.
 use Rattle.std.specs.Prelude.{◌≡◌, ◌%◌, ◌==◌, ◌&&◌, ℕ, nat_le, Bool, true, List, Option, None, Some, map}
 use Rattle.htl_event.specs.Events.{Event}
-use Rattle.htl_question.specs.declared.subject.Subject.{Subject}
-use Rattle.htl_question.specs.declared.subject.Subject.TheVariants.{Process, Object, Tag, Handle}
 use Rattle.htl_segment.specs.Content.{Content}
+use Rattle.htl_evidence.specs.Told.{number_of}
 use Rattle.htl_evidence.specs.declared.columns.Columns.{Columns}
+use Rattle.htl_evidence.specs.declared.owner.Owner.{Owner}
+use Rattle.htl_evidence.specs.declared.owner.Owner.TheVariants.{Process, Object}
 
 -- the byte of a process or an object
 abbrev pub byte_of : ℕ → ℕ
@@ -27,33 +28,24 @@ pub record HaveColumns (segments : List Content) (all : List Columns) : Type 0 w
   pub processes : map (λ (c : Columns). c.processes.items) all ≡ map (λ (s : Content). process_bytes s.events) segments
   pub objects : map (λ (c : Columns). c.objects.items) all ≡ map (λ (s : Content). object_bytes s.events) segments
 
--- the process or the object of the subject
-abbrev pub owner : Subject → ℕ
-owner (Process process) = process
-owner (Handle process handle) = process
-owner (Object object) = object
-owner (Tag object tag) = object
+-- the process of an event, or its object, as the owner is one
+abbrev pub number_in : Owner → Event → ℕ
+number_in (Process process) e = e.process
+number_in (Object object) e = e.object
 
--- the process of an event, or its object, as the subject is of one
-abbrev pub owner_in : Subject → Event → ℕ
-owner_in (Process process) e = e.process
-owner_in (Handle process handle) e = e.process
-owner_in (Object object) e = e.object
-owner_in (Tag object tag) e = e.object
+-- the event is of the process or object
+abbrev pub is_own : Owner → Event → Bool
+is_own owner e = number_in owner e == number_of owner
 
--- the event is of the subject's process or object
-abbrev pub is_own : Subject → Event → Bool
-is_own subject e = owner_in subject e == owner subject
-
--- the bytes in which the events of the subject are looked for
-abbrev pub bytes_for : Subject → List Event → List ℕ
-bytes_for subject events = map (λ e. byte_of (owner_in subject e)) events
+-- the bytes in which the events of the process or object are looked for
+abbrev pub bytes_for : Owner → List Event → List ℕ
+bytes_for owner events = map (λ e. byte_of (number_in owner e)) events
 
 -- the event counts as of the moment, or as each does where none is given
 abbrev pub is_counted : Option ℕ → Event → Bool
 is_counted None e = true
 is_counted (Some moment) e = nat_le e.sequence moment
 
--- the event counts, and is of the subject's process or object
-abbrev pub is_counted_own : Subject → Option ℕ → Event → Bool
-is_counted_own subject until e = is_counted until e && is_own subject e
+-- the event counts, and is of the process or object
+abbrev pub is_counted_own : Owner → Option ℕ → Event → Bool
+is_counted_own owner until e = is_counted until e && is_own owner e

@@ -5,6 +5,7 @@ use Rattle.htl_event.specs.Handles.{HaveOwnSequences}
 use Rattle.htl_event.specs.Interests.{wants}
 use Rattle.htl_event.specs.Moments.{counted_events}
 use Rattle.htl_event.specs.declared.interest.Interest.{Interest}
+use Rattle.htl_event.specs.declared.interest.Interest.TheVariants as interests
 use Rattle.htl_segment.specs.Traces.{Trace, HasKey, all_events}
 use Rattle.htl_analyst.specs.Keys.{HasTaken}
 use Rattle.htl_analyst.specs.Right.{IsRight}
@@ -14,39 +15,49 @@ use Rattle.htl_case.specs.Cases.{IsCase}
 use Rattle.htl_case.specs.Picked.{Picked, IsPickedUntil}
 use Rattle.htl_taken.specs.Numbers.{front_at}
 use Rattle.htl_question.specs.Questions.{Serves, is_of_counts, widest}
-use Rattle.htl_question.specs.Subjects.{interest_in}
 use Rattle.htl_question.specs.declared.question.Question.{Question}
-use Rattle.htl_question.specs.declared.subject.Subject.{Subject}
 use Rattle.htl_evidence.specs.Kept.{Kept}
+use Rattle.htl_evidence.specs.declared.owner.Owner.{Owner}
+use Rattle.htl_evidence.specs.declared.owner.Owner.TheVariants.{Process, Object}
 
--- a case, whose events count up to a moment where one is given; and what the events are of that are looked at, where they aren't all
+-- the number of the process, or the address of the object
+abbrev pub number_of : Owner → ℕ
+number_of (Process process) = process
+number_of (Object object) = object
+
+-- all events of the process or object
+abbrev pub interest_of : Owner → Interest
+interest_of (Process process) = interests.Process process
+interest_of (Object object) = interests.Object object
+
+-- a case, whose events count up to a moment where one is given; and whose events are looked at, where they aren't all
 pub record AsOf : Type 0 where
   pub trace : Trace
   pub until : Option ℕ
-  pub subject : Option Subject
+  pub owner : Option Owner
 
-abbrev pub as_of : Trace → Option ℕ → Option Subject → AsOf
-as_of trace until subject = record { trace = trace; until = until; subject = subject }
+abbrev pub as_of : Trace → Option ℕ → Option Owner → AsOf
+as_of trace until owner = record { trace = trace; until = until; owner = owner }
 
--- all events, or those of the subject's process or object
-abbrev pub own_events : Option Subject → List Event → List Event
+-- all events, or those of the process or object
+abbrev pub own_events : Option Owner → List Event → List Event
 own_events None events = events
-own_events (Some subject) events = filter (wants (interest_in (Some subject))) events
+own_events (Some owner) events = filter (wants (interest_of owner)) events
 
 -- those of them that count
 abbrev pub counted_own : AsOf → List Event
-counted_own e = own_events e.subject (counted_events e.until (all_events e.trace.segments))
+counted_own e = own_events e.owner (counted_events e.until (all_events e.trace.segments))
 
 -- The events that are looked at are all, or all that can tell the answer.
-abbrev pub AreEnough : Option Subject → Question → Type 0
+abbrev pub AreEnough : Option Owner → Question → Type 0
 AreEnough None question = ⊤
-AreEnough (Some subject) question = interest_in (Some subject) ≡ widest question
+AreEnough (Some owner) question = interest_of owner ≡ widest question
 
 -- It is of this case and this moment, and of enough events for the question.
 pub record IsOfCase (e : AsOf) (question : Question) (T : Trace) (until : Option ℕ) : Type 0 where
   pub trace : T ≡ e.trace
   pub moment : until ≡ e.until
-  pub enough : AreEnough e.subject question
+  pub enough : AreEnough e.owner question
 
 -- what was picked of a case, up to a moment where one is given
 pub record PicksUntil : Type 0 where

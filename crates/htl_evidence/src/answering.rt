@@ -20,7 +20,7 @@ use htl_answers::{Part, bad, diff, growth, leaks, mark, outstanding, stacks, tag
 use htl_case::events_of_handle;
 use htl_event::{NoMemory, Span};
 use htl_question::{Answer, Question, Rows, Since, Totals};
-use htl_summary::{Objects, Summary, sites, summarize};
+use htl_summary::{Objects, Summary, TagBalances, sites, summarize, tag_balances, tag_stacks};
 use std::alloc::Global;
 use std::thread::Threads;
 
@@ -158,6 +158,11 @@ where
             at_least,
         } => Rows::Sites(sites(alloc, &alloc, parts, asked, u64::from(at_least))?),
         Question::Stacks { object, tag } => Rows::Stacks(stacks(alloc, parts, object, tag)?),
+        Question::Balance { all } => {
+            let TagBalances { objects, tags } = tag_balances(alloc, parts, all)?;
+            Rows::Balances { objects, tags }
+        }
+        Question::TagStacks { tag } => Rows::TagStacks(tag_stacks(alloc, &alloc, parts, tag)?),
         Question::Trace { process, handle } => {
             Rows::Listing(events_of_handle(alloc, one_by_one(parts), process, handle)?)
         }

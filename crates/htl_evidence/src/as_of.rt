@@ -5,11 +5,10 @@ ghost use Rattle.htl_evidence.specs.Bases.{span_until};
 
 use crate::evidence::Evidence;
 use crate::extent::Extent;
+use crate::owner::Owner;
 use crate::unfolded::Unfolded;
-use htl_answers::Part;
 use htl_case::Case;
-use htl_event::{EventList, NoMemory, Span, number_of_events};
-use htl_question::Subject;
+use htl_event::{EventList, NoMemory, Span};
 use std::alloc::Global;
 use std::marker::Model;
 use std::slice::from_ref;
@@ -20,8 +19,8 @@ use std::slice::from_ref;
 pub struct AsOf<'a, E: EventList> {
     case: &'a Case,
     until: Option<u64>,
-    /// Of what the events are, where they aren't all.
-    subject: Option<Subject>,
+    /// Whose events these are, where they aren't all.
+    owner: Option<Owner>,
     part: Unfolded<'a, E>,
 }
 
@@ -35,11 +34,11 @@ impl<'a, E: EventList> Model for AsOf<'a, E> {
 
     ghost Value = { AsOf };
 
-    ghost view = { λ e. as_of e.case.now e.until e.subject };
+    ghost view = { λ e. as_of e.case.now e.until e.owner };
 
     ghost invariant = { λ e. IsCase e.case.now × (contents_of e.part.tree e.part.latest
         e.part.marks e.part.exits (flat_map E.events_of e.part.held.now) ≡ unfolded
-        (own_events e.subject (counted_events e.until (all_events e.case.now.segments)))) };
+        (own_events e.owner (counted_events e.until (all_events e.case.now.segments)))) };
 }
 
 impl<'a, E: EventList> AsOf<'a, E> {
@@ -48,25 +47,25 @@ impl<'a, E: EventList> AsOf<'a, E> {
     ghost use Rattle.htl_event.specs.Moments.{counted_events};
     ghost use Rattle.htl_segment.specs.Traces.{all_events};
 
-    /// The case with lists of the events until the moment (`Case::until`), or of those of the
-    /// subject's process or object.
+    /// The case with lists of the events until the moment (`Case::until`), or of those of a process
+    /// or object.
     pub fn new(
         alloc: Global,
         case: &'a Case,
         until: Option<u64>,
-        subject: Option<Subject>,
+        owner: Option<Owner>,
         lists: &'a [E],
     ) -> AsOf<'a, E>
         requires { flat_map E.events_of lists.now
-            ≡ own_events subject (counted_events until (all_events case.now.segments)) }
-        ensures { result ≡ as_of case.now until subject }
+            ≡ own_events owner (counted_events until (all_events case.now.segments)) }
+        ensures { result ≡ as_of case.now until owner }
     {
         // For the proof: what every case is.
         let _segments = case.segments();
         AsOf {
             case,
             until,
-            subject,
+            owner,
             part: Unfolded::new(alloc, lists),
         }
     }
@@ -90,10 +89,7 @@ impl<'a, E: EventList> Evidence for AsOf<'a, E> {
     }
 
     fn events(&self) -> Result<u64, NoMemory> {
-        match number_of_events(self.part.held()) {
-            Some(number) => Ok(number as u64),
-            None => Err(NoMemory),
-        }
+        self.part.number()
     }
 
     fn span(&self) -> Option<Span> {

@@ -4,11 +4,11 @@
 ghost use Rattle.std.specs.Prelude.{◌≡◌, ◌++◌, ◌∷◌, [], List, false, filter, flat_map, IfOk, OnOk};
 ghost use Rattle.htl_event.specs.Events.{Event};
 ghost use Rattle.htl_evidence.specs.Columns.{AreColumnsOf, HaveColumns, byte_of, bytes_for};
-ghost use Rattle.htl_evidence.specs.Columns.{is_counted, is_counted_own, is_own, owner, owner_in};
+ghost use Rattle.htl_evidence.specs.Columns.{is_counted, is_counted_own};
 
 use crate::one::One;
+use crate::owner::Owner;
 use htl_event::{EventList, NoMemory, SharedEvent};
-use htl_question::Subject;
 use htl_segment::Segment;
 use std::alloc::Global;
 
@@ -33,53 +33,53 @@ impl Columns {
         Ok(Columns { processes, objects })
     }
 
-    /// The bytes in which the events of the subject are looked for.
-    fn bytes_for(&self, subject: Subject) -> &[u8]
+    /// The bytes in which the events of the process or object are looked for.
+    fn bytes_for(&self, owner: Owner) -> &[u8]
         ensures { (events : List Event) → AreColumnsOf events self.now
-            → result.now ≡ bytes_for subject events }
+            → result.now ≡ bytes_for owner events }
     {
-        match subject {
-            Subject::Process(_) | Subject::Handle { .. } => &self.processes,
-            Subject::Object(_) | Subject::Tag { .. } => &self.objects,
+        match owner {
+            Owner::Process(_) => &self.processes,
+            Owner::Object(_) => &self.objects,
         }
     }
 
-    /// Adds those of the events that count and are of the subject's process or object.
+    /// Adds those of the events that count and are of the process or object.
     pub fn push_own<'a>(
         &self,
         lists: &mut Vec<One<'a>>,
         events: &'a [SharedEvent],
-        subject: Subject,
+        owner: Owner,
         until: Option<u64>,
     ) -> Result<(), NoMemory>
         requires { AreColumnsOf events.now self.now }
         ensures { OnOk result (flat_map ⟦<One<'a> as EventList>⟧.events_of lists.new.items
             ≡ flat_map ⟦<One<'a> as EventList>⟧.events_of lists.old.items
-            ++ filter (is_counted_own subject until) events.now) }
+            ++ filter (is_counted_own owner until) events.now) }
     {
-        let byte = byte_of(owner(subject));
-        for (place, candidate) in self.bytes_for(subject).iter().enumerate() {
-            push_if_own(lists, &events[place], *candidate == byte, subject, until)?;
+        let byte = byte_of(owner.number());
+        for (place, candidate) in self.bytes_for(owner).iter().enumerate() {
+            push_if_own(lists, &events[place], *candidate == byte, owner, until)?;
         }
         Ok(())
     }
 }
 
-/// Adds the event if it counts and is of the subject's process or object. Where it can't be of these,
-/// it isn't looked at.
+/// Adds the event if it counts and is of the process or object. Where it can't be, it isn't looked
+/// at.
 fn push_if_own<'a>(
     lists: &mut Vec<One<'a>>,
     event: &'a SharedEvent,
     can_be: bool,
-    subject: Subject,
+    owner: Owner,
     until: Option<u64>,
 ) -> Result<(), NoMemory>
-    requires { can_be ≡ false → is_counted_own subject until event.now ≡ false }
+    requires { can_be ≡ false → is_counted_own owner until event.now ≡ false }
     ensures { OnOk result (flat_map ⟦<One<'a> as EventList>⟧.events_of lists.new.items
         ≡ flat_map ⟦<One<'a> as EventList>⟧.events_of lists.old.items
-        ++ filter (is_counted_own subject until) (event.now ∷ [])) }
+        ++ filter (is_counted_own owner until) (event.now ∷ [])) }
 {
-    if can_be && is_counted_own(subject, until, event) {
+    if can_be && is_counted(until, event) && owner.has(event) {
         lists.push(One { event })?;
     }
     Ok(())
@@ -104,23 +104,6 @@ fn byte_of(number: u64) -> u8
     (number % 251) as u8
 }
 
-/// The process or the object of the subject.
-fn owner(subject: Subject) -> u64
-    ensures { result ≡ owner subject }
-{
-    match subject {
-        Subject::Process(process) | Subject::Handle { process, .. } => u64::from(process),
-        Subject::Object(object) | Subject::Tag { object, .. } => object,
-    }
-}
-
-/// Whether the event counts and is of the subject's process or object.
-fn is_counted_own(subject: Subject, until: Option<u64>, event: &SharedEvent) -> bool
-    ensures { result ≡ is_counted_own subject until event.now }
-{
-    is_counted(until, event) && is_own(subject, event)
-}
-
 /// Whether the event counts as of the moment, or as each does where none is given.
 fn is_counted(until: Option<u64>, event: &SharedEvent) -> bool
     ensures { result ≡ is_counted until event.now }
@@ -128,15 +111,5 @@ fn is_counted(until: Option<u64>, event: &SharedEvent) -> bool
     match until {
         Some(moment) => event.sequence <= moment,
         None => true,
-    }
-}
-
-/// Whether the event is of the subject's process or object.
-fn is_own(subject: Subject, event: &SharedEvent) -> bool
-    ensures { result ≡ is_own subject event.now }
-{
-    match subject {
-        Subject::Process(process) | Subject::Handle { process, .. } => event.process == process,
-        Subject::Object(object) | Subject::Tag { object, .. } => event.object == object,
     }
 }

@@ -10,9 +10,10 @@ use crate::answering::answer;
 use crate::as_of::AsOf;
 use crate::columns::{Columns, columns_of};
 use crate::one::One;
+use crate::owner::Owner;
 use htl_case::Case;
 use htl_event::{EventList, NoMemory, Span};
-use htl_question::{Answer, Question, Subject};
+use htl_question::{Answer, Question};
 use htl_segment::Segment;
 use std::alloc::Global;
 use std::marker::Model;
@@ -93,9 +94,9 @@ impl Indexed {
     ) -> Result<Answer, NoMemory>
         ensures { IfOk result (IsAnswer self.now until question) }
     {
-        if let (Some(columns), Some(subject)) = (&self.columns, question.subject()) {
-            let lists = own_lists(alloc, self.case.segments(), columns, subject, until)?;
-            let own = AsOf::new(alloc, &self.case, until, Some(subject), &lists);
+        if let (Some(columns), Some(owner)) = (&self.columns, Owner::of(question)) {
+            let lists = own_lists(alloc, self.case.segments(), columns, owner, until)?;
+            let own = AsOf::new(alloc, &self.case, until, Some(owner), &lists);
             return answer(rt, alloc, workers, &own, question);
         }
         let lists = self.case.until(alloc, until)?;
@@ -104,21 +105,21 @@ impl Indexed {
     }
 }
 
-/// The events of the subject's process or object, up to a moment.
+/// The events of the process or object, up to a moment.
 fn own_lists<'a>(
     alloc: Global,
     segments: &'a [Segment],
     columns: &[Columns],
-    subject: Subject,
+    owner: Owner,
     until: Option<u64>,
 ) -> Result<Vec<One<'a>>, NoMemory>
     requires { HaveColumns segments.now columns.now }
     ensures { IfOk result (λ lists. flat_map ⟦<One<'a> as EventList>⟧.events_of lists.items
-        ≡ own_events (Some subject) (counted_events until (all_events segments.now))) }
+        ≡ own_events (Some owner) (counted_events until (all_events segments.now))) }
 {
     let mut lists = Vec::new(alloc);
     for (place, segment) in segments.iter().enumerate() {
-        columns[place].push_own(&mut lists, segment.events(), subject, until)?;
+        columns[place].push_own(&mut lists, segment.events(), owner, until)?;
     }
     Ok(lists)
 }

@@ -6,9 +6,9 @@
 //! Files, in reading order: `evidence.rt` (what a question is answered from), `answering.rt` (the
 //! answer), `as_of.rt`, `picks.rt` and `folds.rt` (the three ways of keeping: whole segments, picked
 //! events, and what an analyst folded), `unfolded.rt` (events as a part of which nothing was folded),
-//! `indexed.rt`, `columns.rt` and `one.rt` (a case of which many questions are asked: how the events of
-//! a process or an object are found in it), `extent.rt` and `outlines.rt` (how much there is of a
-//! trace, by the outlines of its segments).
+//! `indexed.rt`, `owner.rt`, `columns.rt` and `one.rt` (a case of which many questions are asked: how
+//! the events of a process or an object are found in it), `extent.rt` and `outlines.rt` (how much there
+//! is of a trace, by the outlines of its segments).
 #![tactic(auto)]
 
 mod answering;
@@ -20,6 +20,7 @@ mod folds;
 mod indexed;
 mod one;
 mod outlines;
+mod owner;
 mod picks;
 mod unfolded;
 
@@ -30,5 +31,6 @@ pub use extent::Extent;
 pub use folds::Folds;
 pub use indexed::Indexed;
 pub use one::One;
+pub use owner::Owner;
 pub use picks::Picks;
 pub use unfolded::Unfolded;

@@ -6,7 +6,7 @@ use crate::extent::Extent;
 use crate::unfolded::Unfolded;
 use htl_answers::Part;
 use htl_case::PickedCase;
-use htl_event::{NoMemory, SharedEvent, Span, number_of_events};
+use htl_event::{NoMemory, SharedEvent, Span};
 use std::alloc::Global;
 use std::marker::Model;
 use std::slice::from_ref;
@@ -67,10 +67,7 @@ impl<'a> Evidence for Picks<'a> {
     }
 
     fn events(&self) -> Result<u64, NoMemory> {
-        match number_of_events(self.part.held()) {
-            Some(number) => Ok(number as u64),
-            None => Err(NoMemory),
-        }
+        self.part.number()
     }
 
     fn span(&self) -> Option<Span> {

@@ -1,7 +1,7 @@
 //! Events that weren't folded, as a part from which `htl_answers` answers.
 
 use htl_answers::Part;
-use htl_event::EventList;
+use htl_event::{EventList, NoMemory, number_of_events};
 use htl_tables::{Exits, Latest, Marks};
 use htl_tree::StackTree;
 use std::alloc::Global;
@@ -17,7 +17,7 @@ pub struct Unfolded<'a, E> {
 }
 
 impl<'a, E: EventList> Unfolded<'a, E> {
-    ghost use Rattle.std.specs.Prelude.{◌≡◌, flat_map};
+    ghost use Rattle.std.specs.Prelude.{◌≡◌, ◌<◌, ◌^◌, flat_map, length, IfOk, OnOk};
     ghost use Rattle.htl_evidence.specs.Kept.{unfolded};
 
     /// A part of these lists. It allocates nothing.
@@ -31,6 +31,19 @@ impl<'a, E: EventList> Unfolded<'a, E> {
             marks: Marks::new(alloc),
             exits: Exits::new(alloc),
             held,
+        }
+    }
+
+    /// How many events there are. More than a `u64` can count would fit in no memory.
+    pub(crate) fn number(&self) -> Result<u64, NoMemory>
+        ensures value { IfOk result (λ number. number
+            ≡ length (⟦<Unfolded<'a, E> as Part>⟧.contents self.now).held) }
+        ensures few { OnOk result
+            (length (⟦<Unfolded<'a, E> as Part>⟧.contents self.now).held < 2 ^ 64) }
+    {
+        match number_of_events(self.held) {
+            Some(number) => Ok(number as u64),
+            None => Err(NoMemory),
         }
     }
 }

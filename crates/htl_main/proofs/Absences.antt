@@ -7,10 +7,13 @@ use Rattle.std.specs.Cmp.{unsigned_Decides}
 use Rattle.std.specs.Cmp.Lexicographic.{pointwise, pointwise_decides}
 use Rattle.std.proofs.lemmas.Bool.{and_from, and_parts, cases_Bool, cases_lt, eq-eqb, eqb-true, leb-true, lt-ltb}
 use Rattle.std.proofs.lemmas.List.Sums.{length-filter}
-use Rattle.htl_event.proofs.Members.{Contains-from_filter, Contains-here, some_member}
+use Rattle.htl_event.proofs.Members.{Contains-from_filter, Contains-here, Contains-nil, some_member}
 use Rattle.htl_symbols.proofs.Searches.{list_any-true}
+use Rattle.htl_event.specs.Balances.{Balance, AreBalances, AreTagStacks, IsListed, IsStackBalance, IsTagBalance, has_tag, is_deref, is_ref}
+use Rattle.htl_event.specs.Balances.{references_where}
 use Rattle.htl_event.specs.Events.{Event}
 use Rattle.htl_event.specs.Handles.{IsDiff, IsListing, IsOfHandle, IsOpen}
+use Rattle.htl_event.specs.Interests.{names_object}
 use Rattle.htl_event.specs.Members.{Lists}
 use Rattle.htl_event.specs.Moments.{counted_events}
 use Rattle.htl_event.specs.Sites.{Site, AreOpenAnywhere, CountsSince, IsSite, IsSites}
@@ -33,7 +36,7 @@ use Rattle.htl_question.specs.Answers.{AreRows, IsSinceIfGiven, after, process_o
 use Rattle.htl_question.specs.Bases.{Basis}
 use Rattle.htl_question.specs.Questions.{asks_since}
 use Rattle.htl_question.specs.Rows.{Found, Listed, has_finding, has_rows}
-use Rattle.htl_question.specs.Subjects.{is_of, names_handle, names_object}
+use Rattle.htl_question.specs.Subjects.{is_of, names_handle}
 use Rattle.htl_question.specs.declared.question.Question.{Question}
 use Rattle.htl_question.specs.declared.question.Question.TheVariants as questions
 use Rattle.htl_question.specs.declared.subject.Subject.TheVariants as subjects
@@ -191,6 +194,52 @@ no_stacks o t events rows none is =
     let one = counted_once (has_stack row.0) events (Tagged o t) row.1 h.0 h.1 in
     not_there (is_of (subjects.Tag o t)) events none one.1 one.2 (tagged_about (one.1).kind o t one.0 one.1 one.3))
 
+-- ---- references and dereferences of all objects
+
+ref_names : (k : Kind) → is_ref k ≡ true → names_object k ≡ true
+ref_names Ref is = refl
+ref_names other is = absurd (cc is)
+
+deref_names : (k : Kind) → is_deref k ≡ true → names_object k ≡ true
+deref_names Deref is = refl
+deref_names other is = absurd (cc is)
+
+-- of a count that isn't 0 a reference or a dereference was counted
+some_reference : (passes : Event → Bool) (events : List Event) (c : Count) → c ≡ references_where passes events → IsPositive c
+    → (e : Event) × Contains events e × ((names_object e.kind && passes e) ≡ true)
+some_reference passes events c is some =
+    let refs = count_by (λ e. is_ref e.kind && passes e) events in
+    let derefs = count_by (λ e. is_deref e.kind && passes e) events in
+    let plus : c.plus ≡ refs = ap (λ (x : Count). x.plus) is in
+    let minus : c.minus ≡ derefs = ap (λ (x : Count). x.minus) is in
+    elim (cases_lt 0 refs) [
+      | inl lt ↦
+          let one = some_counted (λ e. is_ref e.kind && passes e) events lt in
+          let both = and_parts (is_ref (one.0).kind) (passes one.0) one.2 in
+          (one.0, one.1, and_from _ _ (ref_names (one.0).kind both.0) both.1)
+      | inr none ↦
+          let lt : 0 < derefs = omega (arith, plus, minus, some, none) in
+          let one = some_counted (λ e. is_deref e.kind && passes e) events lt in
+          let both = and_parts (is_deref (one.0).kind) (passes one.0) one.2 in
+          (one.0, one.1, and_from _ _ (deref_names (one.0).kind both.0) both.1)
+    ]
+
+no_balances : (all : Bool) (rows : List Balance) → AreBalances [] all rows → rows ≡ []
+no_balances all rows is =
+    lists_none (λ (row : Balance). IsTagBalance [] row × IsListed all row) rows is (λ row h.
+    let one = some_reference (has_tag row.by) [] row.count (h.0).used (h.0).named in
+    absurd (Contains-nil one.0 one.1))
+
+no_tag_stacks : (t : List ℕ) (events : List Event) (rows : List Balance) → list_any (is_of (subjects.TagOfAll t)) events ≡ false
+    → AreTagStacks events t rows → rows ≡ []
+no_tag_stacks t events rows none is =
+    lists_none (IsStackBalance events t) rows is (λ row h.
+    let one = some_reference (λ e. has_tag t e && has_stack row.by e) events row.count h.used h.named in
+    let e = one.0 in
+    let about = and_parts (names_object e.kind) (has_tag t e && has_stack row.by e) one.2 in
+    not_there (is_of (subjects.TagOfAll t)) events none e one.1
+    (and_from (names_object e.kind) (has_tag t e) about.0 (and_parts (has_tag t e) (has_stack row.by e) about.1).0))
+
 -- ---- one handle
 
 named : (e : Event) → (e.kind ≡ Opened) ⊎ ((e.kind ≡ Closed) ⊎ (e.kind ≡ BadRef)) → names_handle e.kind ≡ true
@@ -258,6 +307,11 @@ no_subject B (questions.Leaks p from least) since rows other none is =
     ap has_finding is.1 ∙ rows_found is.0 (no_leaks B.events p since least is.0 (none_since p B.events none since) is.2)
 no_subject B (questions.Sites from least) since rows other none is = absurd (cc none)
 no_subject B (questions.Stacks o t) since rows other none is = ap has_finding is.1 ∙ rows_found is.0 (no_stacks o t B.events is.0 none is.2)
+no_subject B (questions.Balance all) since rows other none is =
+    let empty : B.events ≡ [] = none_there B.events (λ e h. not_there (λ x. true) B.events none e h refl) in
+    ap has_finding is.2 ∙ ap (λ (rs : List Balance). list_any (λ row. nat_lt 0 row.objects) rs)
+    (no_balances all is.1 (subst (λ (es : List Event). AreBalances es all is.1) empty is.4))
+no_subject B (questions.TagStacks t) since rows other none is = ap has_finding is.1 ∙ rows_found is.0 (no_tag_stacks t B.events is.0 none is.2)
 no_subject B (questions.Trace p handle) since rows other none is =
     ap has_finding is.1 ∙ rows_found is.0 (no_listing p handle B.events is.0 none is.2)
 no_subject B (questions.Growth p points) since rows other none is = absurd (cc other)
@@ -298,6 +352,8 @@ nothing_later B (questions.Outstanding p) since rows n given at none is = absurd
 nothing_later B (questions.Tags o) since rows n given at none is = absurd (cc given)
 nothing_later B (questions.Bad p) since rows n given at none is = absurd (cc given)
 nothing_later B (questions.Stacks o t) since rows n given at none is = absurd (cc given)
+nothing_later B (questions.Balance all) since rows n given at none is = absurd (cc given)
+nothing_later B (questions.TagStacks t) since rows n given at none is = absurd (cc given)
 nothing_later B (questions.Trace p handle) since rows n given at none is = absurd (cc given)
 nothing_later B (questions.Growth p points) since rows n given at none is = absurd (cc given)
 

@@ -37,9 +37,9 @@ pub struct Completed {
 #[derive(Clone, Copy, Debug, PartialEq, Eq)]
 pub enum Absence {
     /// The question's subject has no event that counts: its process has none of any kind; its
-    /// object, or its tag of the object, no reference or dereference; its handle no open, close or
-    /// bad reference. A summary is about all events. Sites are about the open handles of all
-    /// processes, which are there also where there is none.
+    /// object, its tag of the object, or its tag of any object no reference or dereference; its
+    /// handle no open, close or bad reference. A summary and a balance are about all events. Sites
+    /// are about the open handles of all processes, which are there also where there is none.
     Subject,
     /// The sequence since which is asked isn't below the last one of the trace, or isn't below the
     /// moment: no event that counts comes later.

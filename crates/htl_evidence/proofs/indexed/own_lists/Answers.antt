@@ -22,7 +22,7 @@ push_own-requires c = rw c.events.ensures.value (columns_at c.args.segments.now 
 
 pub loop-place-preserved : goal.loop-place-preserved
 loop-place-preserved c =
-    let p = is_counted_own c.args.subject c.args.until in
+    let p = is_counted_own c.args.owner c.args.until in
     let before = all_events (take c.loop-place.place c.args.segments.now) in
     let events = c.index-segments-place.result.events in
     c.in_ok-push_own.ensures ∙ ap (λ (l : List Event). l ++ filter p c.events.result.now) c.loop-place.invariant
@@ -32,7 +32,7 @@ loop-place-preserved c =
 
 pub returns : goal.returns
 returns c =
-    let p = is_counted_own c.args.subject c.args.until in
+    let p = is_counted_own c.args.owner c.args.until in
     let all = take_all c.loop-place.place c.args.segments.now c.loop-place-test.false in
     c.loop-place.invariant ∙ ap (λ (ss : List Content). filter p (all_events ss)) all
-    ∙ counted_own_are c.args.subject c.args.until (all_events c.args.segments.now)
+    ∙ counted_own_are c.args.owner c.args.until (all_events c.args.segments.now)

@@ -8,4 +8,4 @@ use Rattle.htl_evidence.proofs.indexed.own_lists.Given as goal
 
 abbrev pub invariant-loop-place : goal.invariant-loop-place
 invariant-loop-place l =
-    flat_map events_of-value.it l.lists.items ≡ filter (is_counted_own l.subject l.until) (all_events (take l.place l.segments))
+    flat_map events_of-value.it l.lists.items ≡ filter (is_counted_own l.owner l.until) (all_events (take l.place l.segments))

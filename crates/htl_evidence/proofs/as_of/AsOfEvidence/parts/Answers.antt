@@ -5,5 +5,5 @@ use Rattle.htl_evidence.proofs.as_of.AsOfEvidence.parts.Goals as goal
 
 pub returns-clause-told : goal.returns-clause-told
 returns-clause-told g c = λ question T until of.
-    let e = as_of c.self.inside.case.now c.self.inside.until c.self.inside.subject in
+    let e = as_of c.self.inside.case.now c.self.inside.until c.self.inside.owner in
     rw (← c.self.view_is) (told_as_of e question T until c.self.invariant.0 (rw (← c.self.view_is) at of))

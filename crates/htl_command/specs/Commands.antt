@@ -2,20 +2,20 @@
 use Rattle.std.specs.Prelude.{ℕ, Bool, true, false, List, [], ◌∷◌, Option, codes, find}
 use Rattle.std.specs.Str.{bytes_eq}
 use Rattle.htl_command.specs.declared.names.CommandFlag.{CommandFlag}
-use Rattle.htl_command.specs.declared.names.CommandFlag.TheVariants.{ExitCode, Folded, Json, Fold, Complete, Hex, Partial, Notes}
+use Rattle.htl_command.specs.declared.names.CommandFlag.TheVariants.{All, ExitCode, Folded, Json, Fold, Complete, Hex, Partial, Notes}
 use Rattle.htl_command.specs.declared.names.CommandName.{CommandName}
 use Rattle.htl_command.specs.declared.names.CommandName.TheVariants.{Question, Ask, Explain, Dump, Encode}
 use Rattle.htl_command.specs.declared.names.CommandOption.{CommandOption}
-use Rattle.htl_command.specs.declared.names.CommandOption.TheVariants.{Process, Since, AtLeast, Object, Tag, Handle, Points, Top, Symbols}
-use Rattle.htl_command.specs.declared.names.CommandOption.TheVariants.{Workers, Until}
+use Rattle.htl_command.specs.declared.names.CommandOption.TheVariants.{Process, Since, AtLeast, Object, Tag, TagOfAll, Handle}
+use Rattle.htl_command.specs.declared.names.CommandOption.TheVariants.{Points, Top, Symbols, Workers, Until}
 use Rattle.htl_command.specs.declared.names.QuestionName.{QuestionName}
 use Rattle.htl_command.specs.declared.names.QuestionName.TheVariants.{Summary, Outstanding, Diff, Tags, Bad, Leaks, Sites}
-use Rattle.htl_command.specs.declared.names.QuestionName.TheVariants.{Stacks, Trace, Growth}
+use Rattle.htl_command.specs.declared.names.QuestionName.TheVariants.{Stacks, Balance, Trace, Growth}
 
 abbrev pub commands : List CommandName
 commands =
     Question Summary ∷ Question Outstanding ∷ Question Diff ∷ Question Tags ∷ Question Bad ∷ Question Leaks ∷ Question Sites
-    ∷ Question Stacks ∷ Question Trace ∷ Question Growth ∷ Ask ∷ Explain ∷ Dump ∷ Encode ∷ []
+    ∷ Question Stacks ∷ Question Balance ∷ Question Trace ∷ Question Growth ∷ Ask ∷ Explain ∷ Dump ∷ Encode ∷ []
 
 -- each question: the name of its command, and the options that not every question has
 abbrev pub question_row : QuestionName → List ℕ × List CommandOption
@@ -27,16 +27,18 @@ question_row Bad = (codes "bad", Process ∷ Top ∷ [])
 question_row Leaks = (codes "leaks", Process ∷ Since ∷ AtLeast ∷ Top ∷ [])
 question_row Sites = (codes "sites", Since ∷ AtLeast ∷ Top ∷ [])
 question_row Stacks = (codes "stacks", Object ∷ Tag ∷ Top ∷ [])
+question_row Balance = (codes "balance", TagOfAll ∷ Top ∷ [])
 question_row Trace = (codes "trace", Process ∷ Handle ∷ Top ∷ [])
 question_row Growth = (codes "growth", Process ∷ Points ∷ [])
 
--- each option that takes a value: its name without the dashes, and whether it has to be given
+-- each option that takes a value: its name without the dashes, and whether it has to be given; one tag is of an object, one of all objects
 abbrev pub option_row : CommandOption → List ℕ × Bool
 option_row Process = (codes "process", true)
 option_row Since = (codes "since", false)
 option_row AtLeast = (codes "at-least", false)
 option_row Object = (codes "object", true)
 option_row Tag = (codes "tag", true)
+option_row TagOfAll = (codes "tag", false)
 option_row Handle = (codes "handle", true)
 option_row Points = (codes "points", false)
 option_row Top = (codes "top", false)
@@ -54,6 +56,7 @@ own_options question = (question_row question).1
 abbrev pub own_flags : QuestionName → List CommandFlag
 own_flags Leaks = ExitCode ∷ Folded ∷ []
 own_flags Sites = ExitCode ∷ Folded ∷ []
+own_flags Balance = All ∷ ExitCode ∷ []
 own_flags Stacks = []
 own_flags Trace = []
 own_flags Growth = []
@@ -74,6 +77,7 @@ is_required option = (option_row option).1
 
 -- each option without a value: its name without the dashes
 abbrev pub flag_name : CommandFlag → List ℕ
+flag_name All = codes "all"
 flag_name ExitCode = codes "exit-code"
 flag_name Folded = codes "folded"
 flag_name Json = codes "json"

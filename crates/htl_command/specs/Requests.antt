@@ -18,8 +18,8 @@ use Rattle.htl_command.specs.declared.names.CommandName.TheVariants as command
 use Rattle.htl_command.specs.declared.names.QuestionName.{QuestionName}
 use Rattle.htl_command.specs.declared.names.QuestionName.TheVariants as name
 use Rattle.htl_command.specs.declared.names.CommandOption.{CommandOption}
-use Rattle.htl_command.specs.declared.names.CommandOption.TheVariants.{Process, Since, AtLeast, Object, Tag, Handle, Points, Top, Symbols}
-use Rattle.htl_command.specs.declared.names.CommandOption.TheVariants.{Workers, Until}
+use Rattle.htl_command.specs.declared.names.CommandOption.TheVariants.{Process, Since, AtLeast, Object, Tag, TagOfAll, Handle}
+use Rattle.htl_command.specs.declared.names.CommandOption.TheVariants.{Points, Top, Symbols, Workers, Until}
 use Rattle.htl_command.specs.declared.printed.PrintedFault.{PrintedFault}
 use Rattle.htl_command.specs.declared.question.Format.{Format}
 use Rattle.htl_command.specs.declared.question.Format.TheVariants.{Plain, Json, Folded}
@@ -28,7 +28,7 @@ use Rattle.htl_command.specs.declared.question.Job.{Job}
 use Rattle.htl_question.specs.declared.question.Question.{Question}
 use Rattle.htl_command.specs.declared.question.Setting.{Setting}
 use Rattle.htl_question.specs.declared.question.Question.TheVariants.{Summary, Outstanding, Diff, Tags, Bad, Leaks, Sites}
-use Rattle.htl_question.specs.declared.question.Question.TheVariants.{Stacks, Trace, Growth}
+use Rattle.htl_question.specs.declared.question.Question.TheVariants.{Stacks, Balance, TagStacks, Trace, Growth}
 use Rattle.htl_event.specs.declared.since.Since.TheVariants.{Snapshot}
 
 -- the text that was given for an option
@@ -51,6 +51,15 @@ defaulted rule option default rows = option_map_or rule (given option rows) (Som
 abbrev pub both : {X Y Z : Type 0} → (X → Y → Z) → Option X → Option Y → Option Z
 both make x y = option_and_then (λ a. option_map (make a) y) x
 
+-- `clap` gives a flag that was used the text `true`
+abbrev pub is_given : CommandFlag → List Row → Bool
+is_given flag rows = option_map_or (λ text. bytes_eq text (codes "true")) (first_of (flag_name flag) rows) false
+
+-- a balance is of the tags of all objects, or of the stacks of one tag
+abbrev pub balance_of : Bool → Option (List ℕ) → Question
+balance_of all None = Balance all
+balance_of all (Some tag) = TagStacks tag
+
 -- the question of each name
 unfoldable pub question_of : QuestionName → List Row → Option Question
 question_of name.Summary rows = Some Summary
@@ -63,15 +72,12 @@ question_of name.Leaks rows =
     (value process_in Process rows)
 question_of name.Sites rows = both (λ s n. Sites s n) (optional since_in Since rows) (defaulted count_in AtLeast 1 rows)
 question_of name.Stacks rows = both (λ o t. Stacks o t) (value object_in Object rows) (value tag_in Tag rows)
+question_of name.Balance rows = option_map (balance_of (is_given flag.All rows)) (optional tag_in TagOfAll rows)
 question_of name.Trace rows = both (λ p h. Trace p h) (value process_in Process rows) (value handle_in Handle rows)
 question_of name.Growth rows = both (λ p n. Growth p n) (value process_in Process rows) (defaulted points_in Points 20 rows)
 
 abbrev pub workers : List Row → Option ℕ
 workers rows = defaulted workers_in Workers 1 rows
-
--- `clap` gives a flag that was used the text `true`
-abbrev pub is_given : CommandFlag → List Row → Bool
-is_given flag rows = option_map_or (λ text. bytes_eq text (codes "true")) (first_of (flag_name flag) rows) false
 
 -- the form of the answer, of which one alone can be asked for
 abbrev pub format_of : List Row → Option Format
@@ -88,8 +94,15 @@ abbrev pub setting_of : List Row → Option Setting
 setting_of rows =
     option_map (λ n. record { form = input_form rows; workers = n; complete = is_given flag.Complete rows }) (workers rows)
 
-unfoldable pub job_of : QuestionName → List Row → Option Job
-job_of name rows =
+-- beside a tag of all objects neither of two flags can be given: the first of them that is
+abbrev pub beside_tag : List Row → Option CommandFlag
+beside_tag rows =
+    if is_some (given TagOfAll rows) then (if is_given flag.All rows then Some flag.All
+    else (if is_given flag.ExitCode rows then Some flag.ExitCode else None)) else None
+
+-- the job by the values and flags, each by itself
+unfoldable pub job_by_values : QuestionName → List Row → Option Job
+job_by_values name rows =
     option_and_then (λ question. option_and_then (λ format. option_and_then (λ u. both (λ s t. record {
       question = question;
       setting = s;
@@ -98,6 +111,9 @@ job_of name rows =
       exit_code = is_given flag.ExitCode rows;
       format = format;
     }) (setting_of rows) (optional count_in Top rows)) (optional moment_in Until rows)) (format_of rows)) (question_of name rows)
+
+unfoldable pub job_of : QuestionName → List Row → Option Job
+job_of name rows = option_and_then (λ job. if is_some (beside_tag rows) then None else Some job) (job_by_values name rows)
 
 -- a job, with the names of its files
 pub record Work : Type 0 where

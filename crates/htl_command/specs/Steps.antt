@@ -12,18 +12,18 @@ use Rattle.clap.specs.declared.parser.ArgMatches.{ArgMatches}
 use Rattle.htl_command.specs.Codes.{all_codes, code_name}
 use Rattle.htl_command.specs.Printed.{Follow, IsNameOf, form_of}
 use Rattle.htl_command.specs.Refusals.{HasReason, IsUsageText, is_mistake, is_wish}
-use Rattle.htl_command.specs.Requests.{defaulted, given as given_in, is_given, optional, value, workers}
+use Rattle.htl_command.specs.Requests.{beside_tag, defaulted, given as given_in, is_given, optional, value, workers}
 use Rattle.htl_command.specs.Values.{count_in, handle_in, moment_in, object_in, points_in, process_in, since_in, tag_in}
 use Rattle.htl_command.specs.declared.code.Code.{Code}
 use Rattle.htl_command.specs.declared.names.CommandFlag.TheVariants as flag
 use Rattle.htl_command.specs.declared.names.CommandOption.{CommandOption}
-use Rattle.htl_command.specs.declared.names.CommandOption.TheVariants.{Process, Since, AtLeast, Object, Tag, Handle, Points, Top, Symbols}
-use Rattle.htl_command.specs.declared.names.CommandOption.TheVariants.{Workers, Until}
+use Rattle.htl_command.specs.declared.names.CommandOption.TheVariants.{Process, Since, AtLeast, Object, Tag, TagOfAll, Handle}
+use Rattle.htl_command.specs.declared.names.CommandOption.TheVariants.{Points, Top, Symbols, Workers, Until}
 use Rattle.htl_command.specs.declared.names.QuestionName.{QuestionName}
 use Rattle.htl_command.specs.declared.names.QuestionName.TheVariants as name
 use Rattle.htl_command.specs.declared.printed.PrintedFault.{PrintedFault}
 use Rattle.htl_command.specs.declared.no_job.NoJob.{NoJob}
-use Rattle.htl_command.specs.declared.no_job.NoJob.TheVariants.{Value, Formats}
+use Rattle.htl_command.specs.declared.no_job.NoJob.TheVariants.{Value, Formats, BesideTag}
 use Rattle.htl_command.specs.declared.no_job.InvalidValue.{InvalidValue}
 use Rattle.htl_command.specs.declared.fault.ParseFault.{ParseFault}
 use Rattle.htl_command.specs.declared.fault.ParseFault.TheVariants.{Help, Usage, Memory}
@@ -67,6 +67,7 @@ breaks_rule rows Since = is_none (optional since_in Since rows)
 breaks_rule rows AtLeast = is_none (defaulted count_in AtLeast 1 rows)
 breaks_rule rows Object = is_none (value object_in Object rows)
 breaks_rule rows Tag = is_none (value tag_in Tag rows)
+breaks_rule rows TagOfAll = is_none (optional tag_in TagOfAll rows)
 breaks_rule rows Handle = is_none (value handle_in Handle rows)
 breaks_rule rows Points = is_none (defaulted points_in Points 20 rows)
 breaks_rule rows Top = is_none (optional count_in Top rows)
@@ -84,6 +85,7 @@ question_options name.Bad = Process ∷ []
 question_options name.Leaks = Process ∷ Since ∷ AtLeast ∷ []
 question_options name.Sites = Since ∷ AtLeast ∷ []
 question_options name.Stacks = Object ∷ Tag ∷ []
+question_options name.Balance = TagOfAll ∷ []
 question_options name.Trace = Process ∷ Handle ∷ []
 question_options name.Growth = Process ∷ Points ∷ []
 
@@ -93,18 +95,21 @@ IsFirstBroken rows options refused = Names refused.option rows refused × (find 
 
 -- two forms of an answer are asked for
 abbrev pub IsTwoForms : List Row → NoJob → Type 0
-IsTwoForms rows (Value refused) = ⊥
 IsTwoForms rows Formats = (is_given flag.Json rows ≡ true) × (is_given flag.Folded rows ≡ true)
+IsTwoForms rows why = ⊥
 
 -- the options whose values make a job, in the order in which they are read
 abbrev pub job_options : QuestionName → List CommandOption
 job_options name = question_options name ++ Workers ∷ Until ∷ Top ∷ []
 
--- the entries are no job, since a value is the first that breaks its rule, or none does and two forms of an answer are asked for
+-- the entries are no job: a value is the first that breaks its rule, or none does and two forms of an answer are asked for, or what can't
+-- be beside a tag
 abbrev pub IsNoJob : QuestionName → List Row → NoJob → Type 0
 IsNoJob name rows (Value refused) = IsFirstBroken rows (job_options name) refused
 IsNoJob name rows Formats =
     IsTwoForms rows Formats × (find (breaks_rule rows) (job_options name) ≡ None)
+IsNoJob name rows (BesideTag flag) =
+    (beside_tag rows ≡ Some flag) × (find (breaks_rule rows) (job_options name) ≡ None)
 
 -- the entries that `clap` found
 abbrev pub entries_of : ArgMatches → List Row

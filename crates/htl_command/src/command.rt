@@ -90,8 +90,8 @@ pub struct Dialogue {
 /// `--process=4`, options and files in any order, and only files after `--`. No option may be given
 /// twice.
 ///
-/// Where several things are wrong, what `clap` refuses is reported first, and then the first value
-/// that breaks its rule.
+/// Where several things are wrong, what `clap` refuses is reported first, then the first value that
+/// breaks its rule, and last options that can't stand together.
 #[tactic(auto, using(crate::proofs::Arguments::no_arguments, crate::proofs::Arguments::no_notes))]
 pub fn parse(alloc: Global, arguments: Vec<String>) -> Result<CommandLine, ParseFault>
     ensures command { IfOk result (λ line.

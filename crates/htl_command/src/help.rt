@@ -133,6 +133,7 @@ impl QuestionName {
             QuestionName::Sites =>
                 "Stacks by how many of their handles are open, over all processes",
             QuestionName::Stacks => "Stacks behind one tag of an object (!obtrace)",
+            QuestionName::Balance => "Tags that do not balance on some object, over all objects",
             QuestionName::Trace =>
                 "Each open, close and bad reference of a handle (!htrace HANDLE)",
             QuestionName::Growth => "How many handles are open as of each of many moments",
@@ -164,6 +165,12 @@ Example:
                 "Example:\n  hleak sites --since snapshot --symbols names.csv cpu0.hls cpu1.hls",
             QuestionName::Stacks =>
                 "Example:\n  hleak stacks --object 0xffffa00000001000 --tag Lky8 cpu0.hls cpu1.hls",
+            QuestionName::Balance => {
+                "\
+Examples:
+  hleak balance cpu0.hls cpu1.hls
+  hleak balance --tag Lky8 --symbols names.csv cpu0.hls cpu1.hls"
+            }
             QuestionName::Trace =>
                 "Example:\n  hleak trace --process 4 --handle 0x44 cpu0.hls cpu1.hls",
             QuestionName::Growth =>
@@ -184,7 +191,7 @@ impl CommandOption {
             | CommandOption::Workers
             | CommandOption::Until => "N",
             CommandOption::Object | CommandOption::Handle => "HEX",
-            CommandOption::Tag => "TAG",
+            CommandOption::Tag | CommandOption::TagOfAll => "TAG",
             CommandOption::Symbols => "FILE",
         }
     }
@@ -214,6 +221,12 @@ or without 0x"
 The tag: four bytes of text, as Lky8, or 0x and eight
 hexadecimal digits, as 0x4c6b7938"
             }
+            CommandOption::TagOfAll => {
+                "\
+The stacks that used this tag, instead of tags: four
+bytes of text, as Lky8, or 0x and eight hexadecimal
+digits, as 0x4c6b7938; not with --all or --exit-code"
+            }
             CommandOption::Handle => {
                 "\
 The handle: 1 to 16 hexadecimal digits, with or without
@@ -239,7 +252,9 @@ up to which answers are final: 0 if a processor is idle"
             CommandOption::Since => "decimal digits, at most 18446744073709551615, or snapshot",
             CommandOption::AtLeast => "1 to 4294967295",
             CommandOption::Object => "1 to 16 hexadecimal digits, with or without 0x",
-            CommandOption::Tag => "four bytes of text, or 0x and eight hexadecimal digits",
+            CommandOption::Tag | CommandOption::TagOfAll => {
+                "four bytes of text, or 0x and eight hexadecimal digits"
+            }
             CommandOption::Handle => {
                 "1 to 16 hexadecimal digits, with or without 0x, at most 0xffffffff"
             }
@@ -255,6 +270,7 @@ up to which answers are final: 0 if a processor is idle"
 impl CommandFlag {
     pub(crate) fn help<'a>(self) -> &'a str {
         match self {
+            CommandFlag::All => "Also tags that balance on each object",
             CommandFlag::ExitCode => "End with status 1 where the answer finds something",
             CommandFlag::Folded => "Folded stacks, for flame graph programs",
             CommandFlag::Json => "One JSON object a line, for other programs",

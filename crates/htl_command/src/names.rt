@@ -30,6 +30,7 @@ pub(crate) enum QuestionName {
     Leaks,
     Sites,
     Stacks,
+    Balance,
     Trace,
     Growth,
 }
@@ -41,7 +42,10 @@ pub(crate) enum CommandOption {
     Since,
     AtLeast,
     Object,
+    /// The tag of an object.
     Tag,
+    /// The tag of all objects, which can be left out. It has the same name.
+    TagOfAll,
     Handle,
     Points,
     Top,
@@ -53,6 +57,7 @@ pub(crate) enum CommandOption {
 /// An option without a value.
 #[derive(Clone, Copy)]
 pub(crate) enum CommandFlag {
+    All,
     ExitCode,
     Folded,
     Json,
@@ -64,7 +69,7 @@ pub(crate) enum CommandFlag {
 }
 
 /// All commands, as help lists them.
-pub(crate) const COMMANDS: [CommandName; 14] = [
+pub(crate) const COMMANDS: [CommandName; 15] = [
     CommandName::Question(QuestionName::Summary),
     CommandName::Question(QuestionName::Outstanding),
     CommandName::Question(QuestionName::Diff),
@@ -73,6 +78,7 @@ pub(crate) const COMMANDS: [CommandName; 14] = [
     CommandName::Question(QuestionName::Leaks),
     CommandName::Question(QuestionName::Sites),
     CommandName::Question(QuestionName::Stacks),
+    CommandName::Question(QuestionName::Balance),
     CommandName::Question(QuestionName::Trace),
     CommandName::Question(QuestionName::Growth),
     CommandName::Ask,
@@ -122,6 +128,7 @@ impl QuestionName {
             QuestionName::Leaks => "leaks",
             QuestionName::Sites => "sites",
             QuestionName::Stacks => "stacks",
+            QuestionName::Balance => "balance",
             QuestionName::Trace => "trace",
             QuestionName::Growth => "growth",
         }
@@ -159,6 +166,7 @@ impl QuestionName {
                 CommandOption::Tag,
                 CommandOption::Top,
             ],
+            QuestionName::Balance => &[CommandOption::TagOfAll, CommandOption::Top],
             QuestionName::Trace => &[
                 CommandOption::Process,
                 CommandOption::Handle,
@@ -182,6 +190,7 @@ impl QuestionName {
                 CommandFlag::ExitCode,
                 CommandFlag::Folded,
             ],
+            QuestionName::Balance => &[CommandFlag::All, CommandFlag::ExitCode],
             QuestionName::Stacks | QuestionName::Trace | QuestionName::Growth => &[],
         }
     }
@@ -214,7 +223,7 @@ impl CommandOption {
             CommandOption::Since => "since",
             CommandOption::AtLeast => "at-least",
             CommandOption::Object => "object",
-            CommandOption::Tag => "tag",
+            CommandOption::Tag | CommandOption::TagOfAll => "tag",
             CommandOption::Handle => "handle",
             CommandOption::Points => "points",
             CommandOption::Top => "top",
@@ -249,6 +258,7 @@ impl CommandFlag {
         ensures { result.now ≡ flag_name self }
     {
         match self {
+            CommandFlag::All => "all",
             CommandFlag::ExitCode => "exit-code",
             CommandFlag::Folded => "folded",
             CommandFlag::Json => "json",
@@ -262,6 +272,9 @@ impl CommandFlag {
 
     /// Whether it belongs to a whole run, and not to a question of a dialogue.
     pub(crate) fn is_of_run(self) -> bool {
-        !matches!(self, CommandFlag::Json | CommandFlag::Folded)
+        !matches!(
+            self,
+            CommandFlag::All | CommandFlag::Json | CommandFlag::Folded
+        )
     }
 }

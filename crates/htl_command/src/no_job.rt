@@ -1,6 +1,6 @@
 //! Why entries are no job, and what a person reads of it.
 
-use crate::names::CommandOption;
+use crate::names::{CommandFlag, CommandOption};
 use crate::values;
 use std::fmt;
 
@@ -19,6 +19,8 @@ pub(crate) enum NoJob<'a> {
     Value(InvalidValue<'a>),
     /// Two forms of an answer are asked for.
     Formats,
+    /// The stacks of a tag of all objects are asked for, and this, which only tags have.
+    BesideTag(CommandFlag),
 }
 
 impl<'a> From<InvalidValue<'a>> for NoJob<'a> {
@@ -37,6 +39,11 @@ impl fmt::Display for NoJob<'_> {
         match self {
             NoJob::Value(refused) => write!(f, "{refused}"),
             NoJob::Formats => { write!(f, "the argument '--json' cannot be used with '--folded'") }
+            NoJob::BesideTag(flag) => write!(
+                f,
+                "the argument '--tag <TAG>' cannot be used with '--{}'",
+                flag.as_str()
+            ),
         }
     }
 }
@@ -92,7 +99,9 @@ fn digits(option: CommandOption, given: &str) -> Option<&str> {
     let is_value = match option {
         CommandOption::Object => values::object(digits).is_some(),
         CommandOption::Handle => values::handle(digits).is_some(),
-        CommandOption::Tag => digits.len() == 8 && values::handle(digits).is_some(),
+        CommandOption::Tag | CommandOption::TagOfAll => {
+            digits.len() == 8 && values::handle(digits).is_some()
+        }
         _ => false,
     };
     if is_value && !digits.starts_with("0x") {

@@ -83,6 +83,20 @@ pub(crate) fn tag<'a>(entries: &ArgMatches<'a>) -> Result<[u8; 4], InvalidValue<
     values::tag(given).ok_or(InvalidValue { option, given })
 }
 
+pub(crate) fn tag_of_all<'a>(entries: &ArgMatches<'a>) -> Result<Option<[u8; 4]>, InvalidValue<'a>>
+    ensures ok { result_ok result ≡ optional tag_in option.TagOfAll (entries_of entries.now) }
+    ensures err { IfErr result (Names option.TagOfAll (entries_of entries.now)) }
+{
+    let option = CommandOption::TagOfAll;
+    match given(entries, option) {
+        None => Ok(None),
+        Some(given) => match values::tag(given) {
+            Some(tag) => Ok(Some(tag)),
+            None => Err(InvalidValue { option, given }),
+        },
+    }
+}
+
 pub(crate) fn handle<'a>(entries: &ArgMatches<'a>) -> Result<u32, InvalidValue<'a>>
     ensures ok { result_ok result ≡ value handle_in option.Handle (entries_of entries.now) }
     ensures err { IfErr result (Names option.Handle (entries_of entries.now)) }

@@ -2,11 +2,11 @@
 
 ghost use Rattle.std.specs.Prelude.{◌≡◌, IfErr, IfOk, None, OnErr, find};
 ghost use Rattle.std.specs.Result.{result_ok};
-ghost use Rattle.htl_command.specs.Requests.{AsksNothing, IsAskedFor, format_of, input_form};
-ghost use Rattle.htl_command.specs.Requests.{is_of_run, job_of, question_of, request_of};
-ghost use Rattle.htl_command.specs.Requests.{setting_of};
+ghost use Rattle.htl_command.specs.Requests.{AsksNothing, IsAskedFor, balance_of, beside_tag};
+ghost use Rattle.htl_command.specs.Requests.{format_of, input_form, is_of_run, job_by_values, job_of};
+ghost use Rattle.htl_command.specs.Requests.{question_of, request_of, setting_of};
 ghost use Rattle.htl_command.specs.Steps.{IsFirstBroken, IsNoJob, IsTwoForms, Names, entries_of};
-ghost use Rattle.htl_command.specs.Steps.{breaks_rule, question_options};
+ghost use Rattle.htl_command.specs.Steps.{breaks_rule, job_options, question_options};
 ghost use Rattle.htl_command.specs.declared.command.Command.TheVariants as wish;
 ghost use Rattle.htl_command.specs.declared.names.CommandName.TheVariants as command;
 ghost use Rattle.htl_command.specs.declared.names.CommandOption.TheVariants as option;
@@ -22,10 +22,26 @@ use htl_question::{Question, Since};
 
 /// The job of the question with these entries. Where several values break their rules, the first is
 /// reported: those of the question's own options, of `--workers`, `--until` and `--top`, in this order.
+/// Options that can't stand together are reported last.
 #[tactic(auto, unfolding(crate::specs::Requests::job_of))]
 pub(crate) fn job<'a>(name: QuestionName, entries: &ArgMatches<'a>) -> Result<Job, NoJob<'a>>
     ensures ok { result_ok result ≡ job_of name (entries_of entries.now) }
     ensures err { IfErr result (IsNoJob name (entries_of entries.now)) }
+{
+    let job = by_values(name, entries)?;
+    match beside_tag(entries) {
+        Some(flag) => Err(NoJob::BesideTag(flag)),
+        None => Ok(job),
+    }
+}
+
+/// The job by the values and flags, each by itself.
+#[tactic(auto, unfolding(crate::specs::Requests::job_by_values))]
+fn by_values<'a>(name: QuestionName, entries: &ArgMatches<'a>) -> Result<Job, NoJob<'a>>
+    ensures ok { result_ok result ≡ job_by_values name (entries_of entries.now) }
+    ensures err { IfErr result (IsNoJob name (entries_of entries.now)) }
+    ensures none { IfOk result (λ _.
+        find (breaks_rule (entries_of entries.now)) (job_options name) ≡ None) }
 {
     Ok(Job {
         question: question(name, entries)?,
@@ -122,6 +138,10 @@ fn question<'a>(name: QuestionName, entries: &ArgMatches<'a>) -> Result<Question
             object: options::object(entries)?,
             tag: options::tag(entries)?,
         },
+        QuestionName::Balance => {
+            let tag = options::tag_of_all(entries)?;
+            balance(tag, is_given(entries, CommandFlag::All))
+        }
         QuestionName::Trace => Question::Trace {
             process: options::process(entries)?,
             handle: options::handle(entries)?,
@@ -131,6 +151,31 @@ fn question<'a>(name: QuestionName, entries: &ArgMatches<'a>) -> Result<Question
             points: options::points(entries)?,
         },
     })
+}
+
+/// What a balance is asked for: the stacks of a tag where one is given, and else tags.
+fn balance(tag: Option<[u8; 4]>, all: bool) -> Question
+    ensures { result ≡ balance_of all tag }
+{
+    match tag {
+        Some(tag) => Question::TagStacks { tag },
+        None => Question::Balance { all },
+    }
+}
+
+/// What is given beside a tag of all objects, whose stacks don't have it.
+fn beside_tag(entries: &ArgMatches) -> Option<CommandFlag>
+    ensures { result ≡ beside_tag (entries_of entries.now) }
+{
+    if !has_option(entries, CommandOption::TagOfAll) {
+        None
+    } else if is_given(entries, CommandFlag::All) {
+        Some(CommandFlag::All)
+    } else if is_given(entries, CommandFlag::ExitCode) {
+        Some(CommandFlag::ExitCode)
+    } else {
+        None
+    }
 }
 
 /// The form of the answer.

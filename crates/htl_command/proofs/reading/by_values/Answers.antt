@@ -13,7 +13,7 @@ use Rattle.htl_command.specs.declared.names.CommandOption.TheVariants.{Top, Unti
 use Rattle.htl_command.specs.declared.question.Moment.{Moment}
 use Rattle.htl_command.specs.declared.question.Setting.{Setting}
 use Rattle.htl_command.specs.declared.no_job.InvalidValue.{InvalidValue}
-use Rattle.htl_command.proofs.reading.job.Goals as goal
+use Rattle.htl_command.proofs.reading.by_values.Goals as goal
 
 -- the first that breaks its rule is the first of more
 own_first : (rows : List Row) (own more : List CommandOption) (refused : InvalidValue) → IsFirstBroken rows own refused

@@ -6,12 +6,14 @@ use Rattle.std.proofs.lemmas.List.Elements.{All-append, All-cons, All-map, All-n
 use Rattle.std.proofs.lemmas.List.Folds.{flat_map-map}
 use Rattle.std.specs.List.{flat_map}
 use Rattle.json.specs.Json.{Json}
-use Rattle.htl_json.specs.Heads.{head}
+use Rattle.htl_json.specs.Heads.{balances_head, head}
 use Rattle.htl_json.specs.Lines.{IsReadBack, json_line, list_values, summary_values, values_of, values_with}
+use Rattle.htl_json.specs.Rows.{balance_row}
 use Rattle.htl_json.specs.Writing.{AddsLine, AddsLines}
 use Rattle.htl_json.specs.declared.lines.Lines.{Lines}
-use Rattle.htl_question.specs.Rows.{Found, Listed, summary}
+use Rattle.htl_question.specs.Rows.{Found, Listed, balances, summary}
 use Rattle.htl_question.specs.declared.answer.Totals.{Totals}
+use Rattle.htl_event.specs.Balances.{Balance}
 use Rattle.htl_event.specs.declared.summary.ObjectRow.{ObjectRow}
 use Rattle.htl_event.specs.declared.summary.ProcessRow.{ProcessRow}
 use Rattle.htl_taken.specs.declared.gap.Gap.{Gap}
@@ -76,18 +78,33 @@ with_rows : (symbols : List Range) (until top : Option ℕ) (answer : Found) (ro
 with_rows symbols until top answer rows old new are h =
     subst (λ (r : Listed). AddsValues old new (values_with symbols until top answer r)) (sym are) h
 
--- the first line and then those of the rows that are shown
+-- a first line and then those of the rows that are shown
+shown_added : {R : Type 0} (value_of : R → Json) (v : Json) (top : Option ℕ) (items shown : List R) (a b c : Lines) → shown ≡ first_rows top items
+    → AddsLine a b v → AddsLines value_of b c shown → AddsValues a c ((v ∷ []) ++ map value_of (first_rows top items))
+shown_added value_of v top items shown a b c first h k =
+    values_then (v ∷ []) (map value_of (first_rows top items)) a b c (line_alone v a b h)
+    (rows_as_values value_of (first_rows top items) b c (subst (λ xs. AddsLines value_of b c xs) first k))
+
+-- the lines of an answer whose rows are one list
 pub list_added : {R : Type 0} (value_of : R → Json) (symbols : List Range) (until top : Option ℕ) (answer : Found) (rows : Listed)
     (items shown : List R) (count : ℕ) (a b c : Lines) → answer.rows ≡ rows
     → values_with symbols until top answer rows ≡ list_values value_of answer until top items → count ≡ length items
     → shown ≡ first_rows top items → AddsLine a b (head answer.question answer.since until count) → AddsLines value_of b c shown
     → AddsValues a c (values_of symbols until top answer)
 list_added value_of symbols until top answer rows items shown count a b c are form all first h k =
-    let v = head answer.question answer.since until (length items) in
     with_rows symbols until top answer rows a c are (subst (AddsValues a c) (sym form)
-    (values_then (v ∷ []) (map value_of (first_rows top items)) a b c
-    (line_alone v a b (subst (λ n. AddsLine a b (head answer.question answer.since until n)) all h))
-    (rows_as_values value_of (first_rows top items) b c (subst (λ xs. AddsLines value_of b c xs) first k))))
+    (shown_added value_of (head answer.question answer.since until (length items)) top items shown a b c first
+    (subst (λ n. AddsLine a b (head answer.question answer.since until n)) all h) k))
+
+-- the lines of balances
+pub balances_added : (symbols : List Range) (until top : Option ℕ) (answer : Found) (items shown : List Balance) (count : ℕ) (a b c : Lines)
+    {objects : ℕ} → answer.rows ≡ balances objects items → count ≡ length items → shown ≡ first_rows top items
+    → AddsLine a b (balances_head answer.question answer.since until objects count) → AddsLines balance_row b c shown
+    → AddsValues a c (values_of symbols until top answer)
+balances_added symbols until top answer items shown count a b c {objects} are all first h k =
+    with_rows symbols until top answer (balances objects items) a c are
+    (shown_added balance_row (balances_head answer.question answer.since until objects (length items)) top items shown a b c first
+    (subst (λ n. AddsLine a b (balances_head answer.question answer.since until objects n)) all h) k)
 
 -- the lines of a summary
 pub summary_added : (symbols : List Range) (until top : Option ℕ) (answer : Found) (a c : Lines) {totals : Totals} {gaps : List Gap}

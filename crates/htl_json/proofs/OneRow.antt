@@ -10,6 +10,7 @@ use Rattle.json.specs.Value.{items_of}
 use Rattle.hex.specs.Hex.{IsBytes, decode_of, encode_lower}
 use Rattle.hex.proofs.HexLemmas.{decode_of-encode_lower}
 use Rattle.htl_lemmas.proofs.Padding.{after_zeros}
+use Rattle.htl_event.specs.Balances.{Balance}
 use Rattle.htl_event.specs.Events.{Event}
 use Rattle.htl_event.specs.Ranges.{InRange}
 use Rattle.htl_event.specs.Sites.{Site}
@@ -26,11 +27,11 @@ use Rattle.htl_symbols.specs.Ranges.{Range}
 use Rattle.htl_taken.specs.declared.gap.Gap.{Gap}
 use Rattle.htl_taken.specs.declared.gap.Gap.TheVariants.{Between, Absent}
 use Rattle.htl_json.specs.Frames.{address_fields, frame, stack_fields}
-use Rattle.htl_json.specs.Laws.{AreAddresses, IsCount, IsGap, IsNumber, IsObjectRow, IsPoint, IsProcessRow, IsSiteRow, IsTag}
-use Rattle.htl_json.specs.Records.{count_fields, quantity, shown_address, shown_handle, tag_fields}
-use Rattle.htl_json.specs.Rows.{absent_fields, bad_fields, bad_reference, balance_fields, between_fields, counted_stack, event_fields}
+use Rattle.htl_json.specs.Laws.{AreAddresses, IsCount, IsGap, IsNumber, IsObjectRow, IsPoint, IsProcessRow, IsSiteRow, IsTag, IsTagRow, IsTagStack}
+use Rattle.htl_json.specs.Records.{count_fields, objects_field, quantity, shown_address, shown_handle, tag_fields}
+use Rattle.htl_json.specs.Rows.{absent_fields, bad_fields, bad_reference, balance_fields, balance_row, between_fields, counted_stack, event_fields}
 use Rattle.htl_json.specs.Rows.{handles_field, handles_fields, leak, listed, missing, moments_fields, opened, point_fields, point_row}
-use Rattle.htl_json.specs.Rows.{process_row, site_fields, site_row, tag_balance, unbalanced_fields, unbalanced_object}
+use Rattle.htl_json.specs.Rows.{process_row, site_fields, site_row, tag_balance, tag_stack, unbalanced_fields, unbalanced_object}
 
 -- ---- parts of a value
 
@@ -198,6 +199,16 @@ module _ (symbols : List Range) where
       let minus = one_number count.minus other.minus c.1 o.1 (ap (value_at 1) same) in
       (one_stack stack frames s f (ap (value_at 2) same), λ t. record { plus = plus t; minus = minus t })
 
+  -- where two stacks have one value over all objects, they are equal
+  pub one_tag_stack : (a b : Balance) → IsTagStack a → IsTagStack b → tag_stack symbols a ≡ tag_stack symbols b → a ≡ b
+  unfolding count_fields objects_field stack_fields
+  one_tag_stack a b fit also same =
+      let stack = one_stack a.by b.by fit.0 also.0 (ap (value_at 3) same) in
+      let plus = one_number a.count.plus b.count.plus fit.1.0 also.1.0 (ap (value_at 0) same) in
+      let minus = one_number a.count.minus b.count.minus fit.1.1 also.1.1 (ap (value_at 1) same) in
+      let objects = one_number a.objects b.objects fit.2 also.2 (ap (value_at 2) same) in
+      λ t. record { by = stack t; count = record { plus = plus t; minus = minus t }; objects = objects t }
+
 -- ---- rows without one
 
 are_bytes : (bytes : List ℕ) → IsTag bytes → IsBytes bytes
@@ -218,6 +229,16 @@ one_balance tag bytes count other s f c o same =
     let plus = one_number count.plus other.plus c.0 o.0 (ap (value_at 2) same) in
     let minus = one_number count.minus other.minus c.1 o.1 (ap (value_at 3) same) in
     (one_tag tag bytes s f (ap (λ value. text_in (value_at 1 value)) same), λ t. record { plus = plus t; minus = minus t })
+
+-- where two tags have one value over all objects, they are equal
+pub one_balance_row : (a b : Balance) → IsTagRow a → IsTagRow b → balance_row a ≡ balance_row b → a ≡ b
+unfolding tag_fields count_fields balance_fields objects_field
+one_balance_row a b fit also same =
+    let tag = one_tag a.by b.by fit.0 also.0 (ap (λ value. text_in (value_at 1 value)) same) in
+    let plus = one_number a.count.plus b.count.plus fit.1.0 also.1.0 (ap (value_at 2) same) in
+    let minus = one_number a.count.minus b.count.minus fit.1.1 also.1.1 (ap (value_at 3) same) in
+    let objects = one_number a.objects b.objects fit.2 also.2 (ap (value_at 6) same) in
+    λ t. record { by = tag t; count = record { plus = plus t; minus = minus t }; objects = objects t }
 
 -- where two points of a growth have one value, they are equal
 pub one_point : (a b : Point) → IsPoint a → IsPoint b → point_row a ≡ point_row b → a ≡ b

@@ -7,8 +7,8 @@ use Rattle.htl_question.specs.Words.{word_of}
 use Rattle.htl_question.specs.declared.answer.Totals.{Totals}
 use Rattle.htl_question.specs.declared.question.Question.{Question}
 use Rattle.htl_question.specs.declared.subject.Subject.{Subject}
-use Rattle.htl_question.specs.declared.subject.Subject.TheVariants.{Process, Object, Tag, Handle}
-use Rattle.htl_json.specs.Records.{Field, quantity, record_of, shown_address, shown_handle, tag_fields}
+use Rattle.htl_question.specs.declared.subject.Subject.TheVariants.{Process, Object, Tag, TagOfAll, Handle}
+use Rattle.htl_json.specs.Records.{Field, objects_field, quantity, record_of, shown_address, shown_handle, tag_fields}
 
 -- ---- what was asked
 
@@ -30,6 +30,7 @@ subject_fields None = []
 subject_fields (Some (Process process)) = process_field process
 subject_fields (Some (Object object)) = object_field object
 subject_fields (Some (Tag object tag)) = object_field object ++ tag_fields tag
+subject_fields (Some (TagOfAll tag)) = tag_fields tag
 subject_fields (Some (Handle process handle)) = process_field process ++ handle_field handle
 
 -- the sequence after which handles count, where it was asked since when
@@ -60,6 +61,11 @@ count_field count = (codes "count", quantity count) ∷ []
 
 abbrev pub head : Question → Option ℕ → Option ℕ → ℕ → Json
 head question since until count = record_of (question_fields question since ++ (until_fields until ++ count_field count))
+
+-- the first line of balances over so many objects
+abbrev pub balances_head : Question → Option ℕ → Option ℕ → ℕ → ℕ → Json
+balances_head question since until objects count =
+    record_of (question_fields question since ++ (objects_field objects ++ (until_fields until ++ count_field count)))
 
 -- the totals: how much was traced, and up to which moment nothing is missing
 unfoldable pub totals_fields : Totals → List Field

@@ -1,6 +1,7 @@
 -- What laws cite: that the numbers of a row are in the ranges of their types, and that a value is of one row only.
 use Rattle.std.specs.Prelude.{◌≡◌, ◌<◌, ◌^◌, ℕ, List}
 use Rattle.std.specs.List.{AllByRecursion}
+use Rattle.htl_event.specs.Balances.{Balance}
 use Rattle.htl_event.specs.Events.{Event}
 use Rattle.htl_event.specs.Ranges.{InRange}
 use Rattle.htl_event.specs.Sites.{Site}
@@ -12,8 +13,8 @@ use Rattle.htl_event.specs.declared.summary.ProcessRow.{ProcessRow}
 use Rattle.htl_symbols.specs.Ranges.{Range}
 use Rattle.htl_taken.specs.declared.gap.Gap.{Gap}
 use Rattle.htl_taken.specs.declared.gap.Gap.TheVariants.{Between, Absent}
-use Rattle.htl_json.specs.Rows.{bad_reference, counted_stack, leak, listed, missing, opened, point_row, process_row, site_row}
-use Rattle.htl_json.specs.Rows.{tag_balance, unbalanced_object}
+use Rattle.htl_json.specs.Rows.{bad_reference, balance_row, counted_stack, leak, listed, missing, opened, point_row, process_row}
+use Rattle.htl_json.specs.Rows.{site_row, tag_balance, tag_stack, unbalanced_object}
 
 -- no type of a row has more than 64 bits
 abbrev pub IsNumber : ℕ → Type 0
@@ -39,6 +40,12 @@ IsGap (Absent processor) = IsNumber processor
 
 abbrev pub IsSiteRow : Site → Type 0
 IsSiteRow site = AreAddresses site.stack × IsNumber site.handles × IsNumber site.processes
+
+abbrev pub IsTagRow : Balance → Type 0
+IsTagRow row = IsTag row.by × IsCount row.count × IsNumber row.objects
+
+abbrev pub IsTagStack : Balance → Type 0
+IsTagStack row = AreAddresses row.by × IsCount row.count × IsNumber row.objects
 
 pub record IsProcessRow (row : ProcessRow) : Type 0 where
   pub process : IsNumber row.process
@@ -75,6 +82,8 @@ pub record IsOneRow (symbols : List Range) : Type 0 where
       → counted_stack symbols (stack, count) ≡ counted_stack symbols (frames, other) → (stack ≡ frames) × (count ≡ other)
   pub tags : (tag bytes : List ℕ) (count other : Count) → IsTag tag → IsTag bytes → IsCount count → IsCount other
       → tag_balance (tag, count) ≡ tag_balance (bytes, other) → (tag ≡ bytes) × (count ≡ other)
+  pub balances : (a b : Balance) → IsTagRow a → IsTagRow b → balance_row a ≡ balance_row b → a ≡ b
+  pub tag_stacks : (a b : Balance) → IsTagStack a → IsTagStack b → tag_stack symbols a ≡ tag_stack symbols b → a ≡ b
   pub growth : (a b : Point) → IsPoint a → IsPoint b → point_row a ≡ point_row b → a ≡ b
   pub gaps : (a b : Gap) → IsGap a → IsGap b → missing a ≡ missing b → a ≡ b
   pub processes : (a b : ProcessRow) → IsProcessRow a → IsProcessRow b → process_row a ≡ process_row b → a ≡ b

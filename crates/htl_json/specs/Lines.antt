@@ -3,15 +3,16 @@ use Rattle.std.specs.Prelude.{◌++◌, ◌∷◌, ◌≡◌, [], ℕ, IsUtf8, L
 use Rattle.json.specs.Json.{Json, document}
 use Rattle.json.specs.Print.{print}
 use Rattle.json.specs.Tree.{json_tokens}
+use Rattle.htl_event.specs.Balances.{Balance}
 use Rattle.htl_event.specs.declared.summary.ObjectRow.{ObjectRow}
 use Rattle.htl_event.specs.declared.summary.ProcessRow.{ProcessRow}
-use Rattle.htl_question.specs.Rows.{Found, Listed, opens, listing, tags, bad, leaks, sites, stacks, points, summary}
+use Rattle.htl_question.specs.Rows.{Found, Listed, opens, listing, tags, bad, leaks, sites, stacks, balances, tag_stacks, points, summary}
 use Rattle.htl_question.specs.declared.answer.Totals.{Totals}
 use Rattle.htl_taken.specs.declared.gap.Gap.{Gap}
 use Rattle.htl_symbols.specs.Ranges.{Range}
-use Rattle.htl_json.specs.Heads.{head, summary_head}
-use Rattle.htl_json.specs.Rows.{bad_reference, counted_stack, leak, listed, missing, opened, point_row, process_row, site_row}
-use Rattle.htl_json.specs.Rows.{tag_balance, unbalanced_object}
+use Rattle.htl_json.specs.Heads.{balances_head, head, summary_head}
+use Rattle.htl_json.specs.Rows.{bad_reference, balance_row, counted_stack, leak, listed, missing, opened, point_row, process_row}
+use Rattle.htl_json.specs.Rows.{site_row, tag_balance, tag_stack, unbalanced_object}
 use Rattle.htl_report.specs.Addresses.{line_feed}
 use Rattle.htl_report.specs.Rows.{first_rows}
 
@@ -31,6 +32,11 @@ abbrev pub list_values : {R : Type 0} → (R → Json) → Found → Option ℕ 
 list_values value_of answer until top rows =
     (head answer.question answer.since until (length rows) ∷ []) ++ map value_of (first_rows top rows)
 
+-- the first line, which counts all objects and all tags, and those of the tags that are printed
+abbrev pub balances_values : Found → Option ℕ → Option ℕ → ℕ → List Balance → List Json
+balances_values answer until top objects rows =
+    (balances_head answer.question answer.since until objects (length rows) ∷ []) ++ map balance_row (first_rows top rows)
+
 -- the totals, and then all gaps, the first processes and the first objects
 abbrev pub summary_values : Found → Option ℕ → Option ℕ → Totals → List Gap → List ProcessRow → List ObjectRow → List Json
 summary_values answer until top totals gaps processes objects =
@@ -46,6 +52,8 @@ values_with symbols until top answer (bad rows) = list_values (bad_reference sym
 values_with symbols until top answer (leaks rows) = list_values (leak symbols) answer until top rows
 values_with symbols until top answer (sites rows) = list_values (site_row symbols) answer until top rows
 values_with symbols until top answer (stacks rows) = list_values (counted_stack symbols) answer until top rows
+values_with symbols until top answer (balances objects rows) = balances_values answer until top objects rows
+values_with symbols until top answer (tag_stacks rows) = list_values (tag_stack symbols) answer until top rows
 values_with symbols until top answer (points rows) = list_values point_row answer until top rows
 values_with symbols until top answer (summary totals gaps processes objects) =
     summary_values answer until top totals gaps processes objects

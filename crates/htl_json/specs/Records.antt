@@ -37,3 +37,7 @@ tag_fields tag = (codes "tag", string (shown_tag tag)) ∷ (codes "bytes", strin
 unfoldable pub count_fields : ℕ → ℕ → List Field
 count_fields references dereferences =
     (codes "references", quantity references) ∷ (codes "dereferences", quantity dereferences) ∷ []
+
+-- how many objects: of all in a first line, and of a tag or a stack in its line
+unfoldable pub objects_field : ℕ → List Field
+objects_field objects = (codes "objects", quantity objects) ∷ []

@@ -1,5 +1,6 @@
 -- The value of a row of each answer.
 use Rattle.std.specs.Prelude.{◌++◌, ◌-◌, ◌∷◌, [], ℕ, List, codes}
+use Rattle.htl_event.specs.Balances.{Balance}
 use Rattle.htl_event.specs.Events.{Event}
 use Rattle.htl_event.specs.Sites.{Site}
 use Rattle.htl_event.specs.Slots.{base_of}
@@ -12,7 +13,7 @@ use Rattle.htl_taken.specs.declared.gap.Gap.{Gap}
 use Rattle.htl_taken.specs.declared.gap.Gap.TheVariants.{Between, Absent}
 use Rattle.json.specs.Json.{Json, string}
 use Rattle.htl_json.specs.Frames.{stack_fields}
-use Rattle.htl_json.specs.Records.{Field, count_fields, quantity, record_of, shown_address, shown_handle, tag_fields}
+use Rattle.htl_json.specs.Records.{Field, count_fields, objects_field, quantity, record_of, shown_address, shown_handle, tag_fields}
 use Rattle.htl_event.specs.Words.{word_of}
 
 -- an event's own fields, with this word and this handle
@@ -62,8 +63,21 @@ counted_stack symbols row = record_of (count_fields row.1.plus row.1.minus ++ st
 unfoldable pub balance_fields : Count → List Field
 balance_fields c = (codes "over", quantity (c.plus - c.minus)) ∷ (codes "under", quantity (c.minus - c.plus)) ∷ []
 
+-- a tag, and how often objects were referenced and dereferenced under it
+abbrev pub tag_balance_fields : List ℕ → Count → List Field
+tag_balance_fields tag c = tag_fields tag ++ (count_fields c.plus c.minus ++ balance_fields c)
+
 abbrev pub tag_balance : List ℕ × Count → Json
-tag_balance row = record_of (tag_fields row.0 ++ (count_fields row.1.plus row.1.minus ++ balance_fields row.1))
+tag_balance row = record_of (tag_balance_fields row.0 row.1)
+
+-- a tag over all objects
+abbrev pub balance_row : Balance → Json
+balance_row row = record_of (tag_balance_fields row.by row.count ++ objects_field row.objects)
+
+-- a stack that used the tag, over all objects
+abbrev pub tag_stack : List Range → Balance → Json
+tag_stack symbols row =
+    record_of (count_fields row.count.plus row.count.minus ++ (objects_field row.objects ++ stack_fields symbols row.by))
 
 -- a moment, and how many handles were outstanding then
 unfoldable pub point_fields : Point → List Field

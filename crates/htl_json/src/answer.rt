@@ -5,10 +5,11 @@ ghost use Rattle.htl_json.specs.Lines.{IsReadBack, json_line, summary_values, va
 ghost use Rattle.htl_json.specs.Writing.{AddsLines};
 
 use crate::bad::write_bad;
+use crate::balances::{write_balances, write_tag_stacks};
 use crate::counts::{write_leaks, write_sites, write_stacks, write_tags};
 use crate::events::{write_listing, write_opens};
 use crate::growths::write_points;
-use crate::heads::{write_head, write_summary_head};
+use crate::heads::{write_balances_head, write_head, write_summary_head};
 use crate::lines::Lines;
 use crate::summary::{write_gaps, write_objects, write_processes};
 use htl_event::{NoMemory, ObjectRow, ProcessRow};
@@ -77,6 +78,14 @@ fn write_answer(
         Rows::Stacks(rows) => {
             write_head(lines, answer, until, rows.len())?;
             write_stacks(lines, symbols, first_rows(top, rows))
+        }
+        Rows::Balances { objects, tags } => {
+            write_balances_head(lines, answer, until, *objects, tags.len())?;
+            write_balances(lines, first_rows(top, tags))
+        }
+        Rows::TagStacks(rows) => {
+            write_head(lines, answer, until, rows.len())?;
+            write_tag_stacks(lines, symbols, first_rows(top, rows))
         }
         Rows::Points(rows) => {
             write_head(lines, answer, until, rows.len())?;

@@ -2,7 +2,7 @@
 
 ghost use Rattle.std.specs.Prelude.{◌≡◌, [], OnOk};
 ghost use Rattle.htl_json.specs.Rows.{balance_fields, counted_stack, handles_field, leak};
-ghost use Rattle.htl_json.specs.Rows.{site_fields, site_row, tag_balance};
+ghost use Rattle.htl_json.specs.Rows.{site_fields, site_row, tag_balance, tag_balance_fields};
 ghost use Rattle.htl_json.specs.Writing.{AddsFields, AddsLine, AddsLines};
 
 use crate::frames::write_stack;
@@ -134,10 +134,21 @@ fn write_tag(lines: &mut Lines, tag: [u8; 4], count: Count) -> Result<(), AllocE
     ensures { OnOk result (AddsLine lines.old lines.new (tag_balance (tag, count))) }
 {
     lines.begin_object()?;
+    write_tag_balance(lines, tag, count)?;
+    lines.end_line()
+}
+
+/// Writes a tag and its balance.
+pub(crate) fn write_tag_balance(
+    lines: &mut Lines,
+    tag: [u8; 4],
+    count: Count,
+) -> Result<(), AllocError>
+    ensures { OnOk result (AddsFields lines.old lines.new (tag_balance_fields tag count)) }
+{
     lines.tag(tag)?;
     lines.counts(count.plus, count.minus)?;
-    write_balance(lines, count)?;
-    lines.end_line()
+    write_balance(lines, count)
 }
 
 #[tactic(auto, unfolding(crate::specs::Rows::balance_fields))]

@@ -1,8 +1,8 @@
 //! The first line of each answer.
 
 ghost use Rattle.std.specs.Prelude.{◌≡◌, ◌++◌, [], OnOk};
-ghost use Rattle.htl_json.specs.Heads.{count_field, handle_field, head, lines_fields};
-ghost use Rattle.htl_json.specs.Heads.{object_field, process_field, question_fields};
+ghost use Rattle.htl_json.specs.Heads.{balances_head, count_field, handle_field, head};
+ghost use Rattle.htl_json.specs.Heads.{lines_fields, object_field, process_field, question_fields};
 ghost use Rattle.htl_json.specs.Heads.{sequence_fields, since_fields, snapshots_fields};
 ghost use Rattle.htl_json.specs.Heads.{subject_fields, summary_head, totals_fields, until_fields};
 ghost use Rattle.htl_json.specs.Heads.{word_field};
@@ -27,6 +27,26 @@ pub(crate) fn write_head(
 {
     lines.begin_object()?;
     write_question(lines, answer.question, answer.since)?;
+    write_until(lines, until)?;
+    write_count(lines, count)?;
+    lines.end_line()
+}
+
+/// Writes the first line of balances, with the numbers of all objects and of all tags.
+pub(crate) fn write_balances_head(
+    lines: &mut Lines,
+    answer: &Answer,
+    until: Option<u64>,
+    objects: u64,
+    count: usize,
+) -> Result<(), AllocError>
+    requires { lines.old.writer.tokens ≡ [] }
+    ensures { OnOk result (AddsLine lines.old lines.new
+        (balances_head answer.now.question answer.now.since until objects count)) }
+{
+    lines.begin_object()?;
+    write_question(lines, answer.question, answer.since)?;
+    lines.objects(objects)?;
     write_until(lines, until)?;
     write_count(lines, count)?;
     lines.end_line()
@@ -83,6 +103,7 @@ fn write_subject(lines: &mut Lines, subject: Option<Subject>) -> Result<(), Allo
         Some(Subject::Process(process)) => write_process(lines, process),
         Some(Subject::Object(object)) => write_object(lines, object),
         Some(Subject::Tag { object, tag }) => write_tag(lines, object, tag),
+        Some(Subject::TagOfAll(tag)) => lines.tag(tag),
         Some(Subject::Handle { process, handle }) => write_handle(lines, process, handle),
     }
 }

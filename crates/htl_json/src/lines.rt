@@ -5,8 +5,8 @@ ghost use Rattle.json.specs.Json.{string};
 ghost use Rattle.json.specs.Print.{print};
 ghost use Rattle.json.specs.Token.{begin_array, begin_object, end_array, end_object};
 ghost use Rattle.json.specs.Token as token;
-ghost use Rattle.htl_json.specs.Records.{count_fields, quantity, shown_address, shown_handle};
-ghost use Rattle.htl_json.specs.Records.{tag_fields};
+ghost use Rattle.htl_json.specs.Records.{count_fields, objects_field, quantity, shown_address};
+ghost use Rattle.htl_json.specs.Records.{shown_handle, tag_fields};
 ghost use Rattle.htl_json.specs.Writing.{AddsFields, AddsTokens, AreRead, EndsLine};
 ghost use Rattle.htl_report.specs.Parts.{shown_tag};
 
@@ -189,5 +189,13 @@ impl Lines {
     {
         self.number("references", references)?;
         self.number("dereferences", dereferences)
+    }
+
+    /// Writes a number of objects.
+    #[tactic(auto, unfolding(crate::specs::Records::objects_field))]
+    pub(crate) fn objects(&mut self, objects: u64) -> Result<(), AllocError>
+        ensures { OnOk result (AddsFields self.old self.new (objects_field objects)) }
+    {
+        self.number("objects", objects)
     }
 }

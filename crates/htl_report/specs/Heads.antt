@@ -7,7 +7,7 @@ use Rattle.htl_question.specs.Questions.{is_since_snapshots, subject_of}
 use Rattle.htl_question.specs.Words.{word_of}
 use Rattle.htl_question.specs.declared.question.Question.{Question}
 use Rattle.htl_question.specs.declared.subject.Subject.{Subject}
-use Rattle.htl_question.specs.declared.subject.Subject.TheVariants.{Process, Object, Tag, Handle}
+use Rattle.htl_question.specs.declared.subject.Subject.TheVariants.{Process, Object, Tag, TagOfAll, Handle}
 use Rattle.htl_report.specs.Parts.{object_part, shown_tag}
 
 unfoldable pub process_part : ℕ → List ℕ
@@ -25,6 +25,7 @@ subject_part None = []
 subject_part (Some (Process process)) = process_part process
 subject_part (Some (Object object)) = object_part object
 subject_part (Some (Tag object tag)) = object_part object ++ tag_part tag
+subject_part (Some (TagOfAll tag)) = tag_part tag
 subject_part (Some (Handle process handle)) = process_part process ++ handle_part handle
 
 -- the sequence after which handles count, where it was asked since when

@@ -12,6 +12,7 @@ pub mod Sites
 pub mod Folded
 pub mod TagBalances
 pub mod ReferenceStacks
+pub mod Balances
 pub mod Summaries
 pub mod Texts
 pub mod Names

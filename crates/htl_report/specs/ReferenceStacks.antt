@@ -5,8 +5,12 @@ use Rattle.htl_symbols.specs.Ranges.{Range}
 use Rattle.htl_report.specs.Addresses.{line_feed, stack_lines}
 use Rattle.htl_report.specs.Parts.{counts}
 
+-- how often a stack referenced and dereferenced
+abbrev pub stack_part : Count → List ℕ
+stack_part c = codes "STACK " ++ counts c
+
 abbrev pub stack_line : Count → List ℕ
-stack_line c = codes "STACK " ++ (counts c ++ line_feed)
+stack_line c = stack_part c ++ line_feed
 
 -- a stack, and how often it referenced and dereferenced
 abbrev pub stacks_lines : List Range → List ℕ × Count → List ℕ

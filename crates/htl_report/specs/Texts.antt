@@ -1,9 +1,10 @@
 -- The printed text of an answer, as bytes: a first line, and for each row a line and its stack's lines. If `top` is given, only the
 -- first `top` rows are printed. If a moment is given up to which events count, the first line says it.
 use Rattle.std.specs.Prelude.{◌++◌, ℕ, List, Option, flat_map, length}
-use Rattle.htl_question.specs.Rows.{Found, Listed, opens, listing, tags, bad, leaks, sites, stacks, points, summary}
+use Rattle.htl_question.specs.Rows.{Found, Listed, opens, listing, tags, bad, leaks, sites, stacks, balances, tag_stacks, points, summary}
 use Rattle.htl_symbols.specs.Ranges.{Range}
 use Rattle.htl_report.specs.BadReferences.{bad_lines}
+use Rattle.htl_report.specs.Balances.{balance_row, objects_part, tag_stack_lines}
 use Rattle.htl_report.specs.Growths.{point_line}
 use Rattle.htl_report.specs.Heads.{head_part}
 use Rattle.htl_report.specs.Leaks.{leak_lines}
@@ -28,6 +29,8 @@ rows_text symbols until top (bad rows) = list_text (bad_lines symbols) until top
 rows_text symbols until top (leaks rows) = list_text (leak_lines symbols) until top rows
 rows_text symbols until top (sites rows) = list_text (site_lines symbols) until top rows
 rows_text symbols until top (stacks rows) = list_text (stacks_lines symbols) until top rows
+rows_text symbols until top (balances objects rows) = objects_part objects ++ list_text balance_row until top rows
+rows_text symbols until top (tag_stacks rows) = list_text (tag_stack_lines symbols) until top rows
 rows_text symbols until top (points rows) = list_text point_line until top rows
 rows_text symbols until top (summary totals gaps processes objects) = summary_text until top totals gaps processes objects
 

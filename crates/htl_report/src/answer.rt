@@ -5,6 +5,7 @@ ghost use Rattle.htl_question.specs.Rows.{listed};
 ghost use Rattle.htl_report.specs.Texts.{rows_text, text_of};
 
 use crate::bad::write_bad;
+use crate::balances::{write_balances, write_objects, write_tag_stacks};
 use crate::growths::write_points;
 use crate::heads::write_head;
 use crate::leaks::write_leaks;
@@ -83,6 +84,15 @@ fn write_rows(
         Rows::Stacks(rows) => {
             write_count(out, until, rows.len())?;
             write_stacks(out, symbols, first_rows(top, rows))
+        }
+        Rows::Balances { objects, tags } => {
+            write_objects(out, *objects)?;
+            write_count(out, until, tags.len())?;
+            write_balances(out, first_rows(top, tags))
+        }
+        Rows::TagStacks(rows) => {
+            write_count(out, until, rows.len())?;
+            write_tag_stacks(out, symbols, first_rows(top, rows))
         }
         Rows::Points(rows) => {
             write_count(out, until, rows.len())?;

@@ -36,6 +36,7 @@ fn write_subject(out: &mut String, subject: Option<Subject>) -> Result<(), Alloc
             write_object(out, object)?;
             write_tag_part(out, &tag)
         }
+        Some(Subject::TagOfAll(tag)) => write_tag_part(out, &tag),
         Some(Subject::Handle { process, handle }) => {
             write_process(out, process)?;
             write_handle(out, handle)

@@ -5,7 +5,7 @@ ghost use Rattle.htl_report.specs.Names.{has_some, is_named, none_named, shown_a
 ghost use Rattle.std.specs.List.{list_any};
 
 use crate::rows::first_rows;
-use htl_event::{Count, SharedEvent, SharedStack, Site};
+use htl_event::{Balance, Count, SharedEvent, SharedStack, Site};
 use htl_question::{Answer, Rows};
 use htl_symbols::Symbols;
 
@@ -60,6 +60,14 @@ impl Stacked for (SharedStack, Count) {
     }
 }
 
+impl Stacked for Balance<SharedStack> {
+    ghost stack_of = { λ row. row.by };
+
+    fn frames(&self) -> &[u64] {
+        self.by.frames()
+    }
+}
+
 /// Whether the rows of the answer that are printed, at most `top`, have addresses, and the symbols
 /// have a name for none of these.
 pub fn shows_no_name(answer: &Answer, symbols: &Symbols, top: Option<u32>) -> bool
@@ -72,7 +80,8 @@ pub fn shows_no_name(answer: &Answer, symbols: &Symbols, top: Option<u32>) -> bo
         Rows::Leaks(rows) => have_no_name(first_rows(top, rows), symbols),
         Rows::Sites(rows) => have_no_name(first_rows(top, rows), symbols),
         Rows::Stacks(rows) => have_no_name(first_rows(top, rows), symbols),
-        Rows::Tags(_) | Rows::Points(_) | Rows::Summary { .. } => false,
+        Rows::TagStacks(rows) => have_no_name(first_rows(top, rows), symbols),
+        Rows::Tags(_) | Rows::Balances { .. } | Rows::Points(_) | Rows::Summary { .. } => false,
     }
 }
 

@@ -1,7 +1,7 @@
 //! Stacks of an object's references and dereferences under a tag.
 
 ghost use Rattle.std.specs.Prelude.{◌≡◌, ◌++◌, OnOk, flat_map, string_bytes};
-ghost use Rattle.htl_report.specs.ReferenceStacks.{stack_line, stacks_lines};
+ghost use Rattle.htl_report.specs.ReferenceStacks.{stack_line, stack_part, stacks_lines};
 
 use crate::address::write_stack;
 use crate::parts::write_counts;
@@ -28,7 +28,15 @@ fn write_line(out: &mut String, count: Count) -> Result<(), AllocError>
     ensures { OnOk result (string_bytes out.new
         ≡ string_bytes out.old ++ stack_line count) }
 {
-    out.push_str("STACK ")?;
-    write_counts(out, count)?;
+    write_stack_counts(out, count)?;
     out.push('\n')
+}
+
+/// Writes the numbers of a stack, without the end of the line.
+pub(crate) fn write_stack_counts(out: &mut String, count: Count) -> Result<(), AllocError>
+    ensures { OnOk result (string_bytes out.new
+        ≡ string_bytes out.old ++ stack_part count) }
+{
+    out.push_str("STACK ")?;
+    write_counts(out, count)
 }

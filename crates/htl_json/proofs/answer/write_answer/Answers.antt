@@ -1,10 +1,10 @@
 -- The first line and then the rows are the values.
 use Rattle.std.proofs.Common.{◌≡◌, ◌∙◌, ap, length, refl, rules, subst, sym}
 use Rattle.std.proofs.lemmas.Result.{on_ok_weaker}
-use Rattle.htl_question.specs.Rows.{Found, Listed, bad, leaks, listed, listing, opens, points, sites, stacks, summary, tags}
-use Rattle.htl_json.proofs.Added.{AddsValues, list_added, summary_added}
+use Rattle.htl_question.specs.Rows.{Found, Listed, bad, balances, leaks, listed, listing, opens, points, sites, stacks, summary, tag_stacks, tags}
+use Rattle.htl_json.proofs.Added.{AddsValues, balances_added, list_added, summary_added}
 use Rattle.htl_json.specs.Lines.{summary_values}
-use Rattle.htl_json.specs.Rows.{bad_reference, counted_stack, leak, listed as listed_row, opened, point_row, site_row, tag_balance}
+use Rattle.htl_json.specs.Rows.{bad_reference, counted_stack, leak, listed as listed_row, opened, point_row, site_row, tag_balance, tag_stack}
 use Rattle.htl_report.specs.Rows.{first_rows}
 use Rattle.htl_json.proofs.answer.write_answer.Goals as goal
 
@@ -87,6 +87,28 @@ returns-in_ok-write_head-in-Stacks c =
     (list_added (counted_stack c.args.symbols.now) _ _ _ _ _ _ _ _ c.args.lines.now c.write_head-in-Stacks.new.lines c.write_stacks.new.lines are
     refl all first c.in_ok-write_head-in-Stacks.ensures)
     c.write_stacks.ensures
+
+pub returns-in_ok-write_balances_head-in-Balances : goal.returns-in_ok-write_balances_head-in-Balances
+returns-in_ok-write_balances_head-in-Balances c =
+    let items = c.in-Balances.tags.items in
+    let all : c.len-in-Balances.result ≡ length items = search rules in
+    let first : c.first_rows-in-Balances.result.now ≡ first_rows c.args.top items = search rules in
+    let are : c.args.answer.now.rows ≡ balances c.in-Balances.objects items = has_rows c.answer.view_is (ap listed c.in-Balances.is) in
+    on_ok_weaker c.write_balances.result
+    (balances_added c.args.symbols.now c.args.until c.args.top c.args.answer.now items _ _ c.args.lines.now c.write_balances_head.new.lines
+    c.write_balances.new.lines are all first c.in_ok-write_balances_head-in-Balances.ensures)
+    c.write_balances.ensures
+
+pub returns-in_ok-write_head-in-TagStacks : goal.returns-in_ok-write_head-in-TagStacks
+returns-in_ok-write_head-in-TagStacks c =
+    let items = c.in-TagStacks.rows.items in
+    let all : c.len-in-TagStacks.result ≡ length items = search rules in
+    let first : c.first_rows-in-TagStacks.result.now ≡ first_rows c.args.top items = search rules in
+    let are : c.args.answer.now.rows ≡ tag_stacks items = has_rows c.answer.view_is (ap listed c.in-TagStacks.is) in
+    on_ok_weaker c.write_tag_stacks.result
+    (list_added (tag_stack c.args.symbols.now) _ _ _ _ _ _ _ _ c.args.lines.now c.write_head-in-TagStacks.new.lines c.write_tag_stacks.new.lines are
+    refl all first c.in_ok-write_head-in-TagStacks.ensures)
+    c.write_tag_stacks.ensures
 
 pub returns-in_ok-write_head-in-Points : goal.returns-in_ok-write_head-in-Points
 returns-in_ok-write_head-in-Points c =

@@ -1,6 +1,4 @@
 -- A stack that isn't empty has an address.
-use Rattle.std.proofs.Common.{◌≡◌, rules}
-use Rattle.std.specs.Prelude.{◌==◌, length, not}
 use Rattle.htl_report.proofs.Stacked.{some_by_length}
 use Rattle.htl_report.proofs.names.has_address.Goals as goal
 

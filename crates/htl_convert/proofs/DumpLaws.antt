@@ -22,7 +22,7 @@ use Rattle.htl_segment.specs.declared.fault.Fault.{Fault}
 use Rattle.htl_segment.proofs.BundleLaws.{late_stays, no_fault_stays, splits_one}
 use Rattle.htl_text.specs.Texts.{segment_text}
 use Rattle.htl_inputs.specs.Faults.{of_digits}
-use Rattle.htl_inputs.specs.Inputs.{HasBytes, IsReportedOfInput}
+use Rattle.htl_inputs.specs.Inputs.{AsksMemory, HasBytes, IsReportedOfInput}
 use Rattle.htl_inputs.specs.Reads.{IsOfDigits}
 use Rattle.htl_inputs.specs.Sources.{EndsBefore}
 use Rattle.htl_inputs.specs.Ends.{IsEnd, IsEndRefused}
@@ -32,7 +32,7 @@ use Rattle.htl_inputs.proofs.DigitsLaws.{digits_reported}
 use Rattle.htl_inputs.proofs.EndLaws.{input_of, rest_at}
 use Rattle.htl_inputs.proofs.InputLaws.{asks_at, decode_next, late_reported}
 use Rattle.htl_inputs.proofs.ReadingLaws.{ill}
-use Rattle.htl_convert.specs.Dumps.{AreWritten, Dumps, InputStops, is_failed_write, texts_of}
+use Rattle.htl_convert.specs.Dumps.{AreWritten, Dumps, InputStops, IsReportedOfDump, is_failed_write, texts_of}
 use Rattle.htl_convert.specs.Dumping.{DumpedSoFar, DumpsInput, DumpEndsAt, FrontDumped, FrontStops, WholeStops}
 use Rattle.htl_reading.specs.declared.outcome.EarlyEnd.{EarlyEnd}
 use Rattle.htl_reading.specs.Digits.{ReadsDigits}
@@ -186,10 +186,16 @@ dumps_front form input bytes rest end old new has front ends =
 segment_at : (bytes rest : List ℕ) (ss : List Content) → Splits bytes ss rest → first_fault rest ≡ None → SegmentAt bytes (length (bundle ss))
 segment_at bytes rest ss split none = record { before = ss; rest = rest; splits = split; offset_is = refl; no_fault = none }
 
-pub input_stops : (form : InputForm) (left : Option (List ℕ)) (ended : Bool) (place : ℕ) (input bytes : List ℕ) (old new : Option (List ℕ))
-    (fault : RunFault) → HasBytes form.hex input bytes → WholeStops form place bytes old new fault
+-- what more is to be known where memory is refused or a write fails
+abbrev Tells : InputForm → Option (List ℕ) → Bool → ℕ → List ℕ → RunFault → Type 0
+Tells form left ended place input Memory = AsksMemory form.hex form.partial input → IsReportedOfDump form left ended place input Memory
+Tells form left ended place input Write = form.hex ≡ false → ended ≡ false
+Tells form left ended place input other = Unit {0}
+
+input_stops : (form : InputForm) (left : Option (List ℕ)) (ended : Bool) (place : ℕ) (input bytes : List ℕ) (old new : Option (List ℕ))
+    (fault : RunFault) → HasBytes form.hex input bytes → WholeStops form place bytes old new fault → Tells form left ended place input fault
     → InputStops form left ended place input old new fault
-input_stops form left ended place input bytes old new (Segment at offset fault) has stops = record {
+input_stops form left ended place input bytes old new (Segment at offset fault) has stops tells = record {
   reported = (
     stops.ends.0,
     record {
@@ -209,19 +215,33 @@ input_stops form left ended place input bytes old new (Segment at offset fault) 
   are = (bytes, stops.rest, has, stops.splits, stops.ends.1);
   written = stops.written;
 }
-input_stops form left ended place input bytes old new Memory has stops = record {
-  reported = inl (asks_at form.hex form.partial input bytes _ has (segment_at bytes stops.rest stops.segments stops.splits stops.ends));
+input_stops form left ended place input bytes old new Memory has stops tells = record {
+  reported = tells (asks_at form.hex form.partial input bytes _ has (segment_at bytes stops.rest stops.segments stops.splits stops.ends));
   segments = stops.segments;
   are = inr (bytes, stops.rest, has, stops.splits);
   written = stops.written;
 }
-input_stops form left ended place input bytes old new Write has stops = record {
-  reported = tt;
+input_stops form left ended place input bytes old new Write has stops tells = record {
+  reported = tells;
   segments = stops.segments;
   are = inr (bytes, stops.rest, has, stops.splits);
   written = stops.written;
 }
-input_stops form left ended place input bytes old new fault has stops = absurd (stops.ends)
+input_stops form left ended place input bytes old new fault has stops tells = absurd (stops.ends)
+
+-- the input ends within a segment and may not
+refused_stops : (form : InputForm) (left : Option (List ℕ)) (ended : Bool) (place offset : ℕ) (input bytes rest : List ℕ)
+    (old new : Option (List ℕ)) (fault : RunFault) → HasBytes form.hex input bytes → IsEndRefused form place offset rest fault
+    → WholeStops form place bytes old new fault → InputStops form left ended place input old new fault
+refused_stops form left ended place offset input bytes rest old new fault has refused stops =
+    rw (refused.is) (input_stops form left ended place input bytes old new (Segment place offset refused.told) has
+    (subst (λ (f : RunFault). WholeStops form place bytes old new f) refused.is stops) tt)
+
+tells_text : (form : InputForm) (left : Option (List ℕ)) (ended : Bool) (place : ℕ) (text : List ℕ) (fault : RunFault) → form.hex ≡ true
+    → Tells form left ended place text fault
+tells_text form left ended place text Memory hex = λ asks. inl (hex, subst (λ (b : Bool). AsksMemory b form.partial text) hex asks)
+tells_text form left ended place text Write hex = λ bytes. absurd (cc (hex, bytes))
+tells_text form left ended place text fault hex = tt
 
 -- where all bytes that a text writes were dumped, the text was
 pub text_dumped : (form : InputForm) (text bytes : List ℕ) (old new : Option (List ℕ)) (result : Result (Option EarlyEnd) RunFault)
@@ -233,19 +253,25 @@ text_dumped form text bytes old new (Err fault) has dumped = tt
 
 -- where the dump of them stops, that of the text does
 pub text_stops : (form : InputForm) (left : Option (List ℕ)) (ended : Bool) (place : ℕ) (text bytes : List ℕ) (old new : Option (List ℕ))
-    (result : Result (Option EarlyEnd) RunFault) → HasBytes form.hex text bytes → IfErr result (WholeStops form place bytes old new)
-    → IfErr result (InputStops form left ended place text old new)
-text_stops form left ended place text bytes old new (Ok end) has stops = tt
-text_stops form left ended place text bytes old new (Err fault) has stops =
-    input_stops form left ended place text bytes old new fault has stops
+    (result : Result (Option EarlyEnd) RunFault) → form.hex ≡ true → HasBytes form.hex text bytes
+    → IfErr result (WholeStops form place bytes old new) → IfErr result (InputStops form left ended place text old new)
+text_stops form left ended place text bytes old new (Ok end) hex has stops = tt
+text_stops form left ended place text bytes old new (Err fault) hex has stops =
+    input_stops form left ended place text bytes old new fault has stops (tells_text form left ended place text fault hex)
 
 -- nothing is dumped of digits that are refused
 pub digits_stop : (form : InputForm) (left : Option (List ℕ)) (ended : Bool) (place : ℕ) (input : List ℕ) (out : Option (List ℕ)) (fault : RunFault)
-    → IsReportedOfInput form place input fault → IsOfDigits place fault → InputStops form left ended place input out out fault
-digits_stop form left ended place input out fault told (inl is) =
+    → form.hex ≡ true → IsReportedOfInput form place input fault → IsOfDigits place fault
+    → InputStops form left ended place input out out fault
+digits_stop form left ended place input out fault hex told (inl is) =
     let asked : IsReportedOfInput form place input Memory = subst (IsReportedOfInput form place input) is told in
-    rw is (record { reported = inl asked; segments = []; are = inl refl; written = Appends-nil out })
-digits_stop form left ended place input out fault told (inr digits) =
+    rw is (record {
+      reported = tells_text form left ended place input Memory hex asked;
+      segments = [];
+      are = inl refl;
+      written = Appends-nil out;
+    })
+digits_stop form left ended place input out fault hex told (inr digits) =
     let found : IsReportedOfInput form place input (Hex place digits.0) = subst (IsReportedOfInput form place input) digits.1 told in
     rw (digits.1) (record { reported = found; segments = []; are = refl; written = Appends-nil out })
 
@@ -318,17 +344,37 @@ stops_behind xs ys zs place start held piece old out new fault so_far read stops
       written = written_after old out new ss ts fault so_far.written stops.written;
     }
 
+-- a source of bytes gave some, and its end isn't found
+refused_bytes : (form : InputForm) (xs : List ℕ) (mid last : Option (List ℕ)) (ended : Bool) (place start : ℕ) (held piece : List ℕ)
+    (old out : Option (List ℕ)) → form.hex ≡ false → DumpedSoFar (Some xs) mid start held old out → Consumes mid last piece → ended ≡ false
+    → 0 < length piece → IsReportedOfDump form last ended place xs Memory
+refused_bytes form xs mid last ended place start held piece old out is so_far read inside some =
+    let before = taken so_far.segments held in
+    inr (
+      inside,
+      before ++ piece,
+      Consumes-trans (Some xs) mid last before piece so_far.given read,
+      rw is (omega (arith, some, length-append before piece)),
+    )
+
+tells_bytes : (form : InputForm) (left : Option (List ℕ)) (ended : Bool) (place : ℕ) (bytes : List ℕ) (fault : RunFault)
+    → IsReportedOfDump form left ended place bytes Memory → ended ≡ false → Tells form left ended place bytes fault
+tells_bytes form left ended place bytes Memory refused inside = λ asks. refused
+tells_bytes form left ended place bytes Write refused inside = λ is. inside
+tells_bytes form left ended place bytes fault refused inside = tt
+
 -- where the dump of the held bytes and a piece stops, that of the source does
 pub so_far_stops : (form : InputForm) (first mid last : Option (List ℕ)) (ended : Bool) (place start : ℕ) (held piece : List ℕ)
     (old out new : Option (List ℕ)) (fault : RunFault) → form.hex ≡ false → DumpedSoFar first mid start held old out → Consumes mid last piece
-    → FrontStops place start (held ++ piece) out new fault
+    → ended ≡ false → 0 < length piece → FrontStops place start (held ++ piece) out new fault
     → IfSome first (λ bytes. InputStops form last ended place bytes old new fault)
-so_far_stops form None mid last ended place start held piece old out new fault is so_far read stops = tt
-so_far_stops form (Some xs) None last ended place start held piece old out new fault is so_far read stops = absurd (so_far.given)
-so_far_stops form (Some xs) (Some ys) None ended place start held piece old out new fault is so_far read stops = absurd read
-so_far_stops form (Some xs) (Some ys) (Some zs) ended place start held piece old out new fault is so_far read stops =
+so_far_stops form None mid last ended place start held piece old out new fault is so_far read inside some stops = tt
+so_far_stops form (Some xs) None last ended place start held piece old out new fault is so_far read inside some stops = absurd (so_far.given)
+so_far_stops form (Some xs) (Some ys) None ended place start held piece old out new fault is so_far read inside some stops = absurd read
+so_far_stops form (Some xs) (Some ys) (Some zs) ended place start held piece old out new fault is so_far read inside some stops =
     input_stops form (Some zs) ended place xs xs old new fault (rw is refl)
-    (stops_behind xs ys zs place start held piece old out new fault so_far read stops form)
+    (stops_behind xs ys zs place start held piece old out new fault so_far read stops form) (tells_bytes form (Some zs) ended place xs fault
+    (refused_bytes form xs (Some ys) (Some zs) ended place start held piece old out is so_far read inside some) inside)
 
 -- the source has ended, and these are its bytes
 record HasEnded (first last : Option (List ℕ)) (start : ℕ) (held : List ℕ) (old new : Option (List ℕ)) (bytes : List ℕ) : Type 0 where
@@ -392,12 +438,7 @@ pub so_far_memory : (form : InputForm) (first mid last : Option (List ℕ)) (end
 so_far_memory form None mid last ended place start held piece old new is so_far read inside some = tt
 so_far_memory form (Some xs) None last ended place start held piece old new is so_far read inside some = absurd (so_far.given)
 so_far_memory form (Some xs) (Some ys) last ended place start held piece old new is so_far read inside some = record {
-  reported = inr (
-    inside,
-    taken so_far.segments held ++ piece,
-    Consumes-trans (Some xs) (Some ys) last (taken so_far.segments held) piece so_far.given read,
-    rw is (omega (arith, some, length-append (taken so_far.segments held) piece)),
-  );
+  reported = refused_bytes form xs (Some ys) last ended place start held piece old new is so_far read inside some;
   segments = so_far.segments;
   are = inr (
     xs,
@@ -459,8 +500,9 @@ finished_cut form first mid last ended place start held old new (Ok is_cut) is s
 finished_cut form None mid last ended place start held old new (Err fault) is so_far none end refused = tt
 finished_cut form (Some xs) mid last ended place start held old new (Err fault) is so_far none end refused =
     let at = so_far_ended (Some xs) mid last start held old new so_far none end in
-    input_stops form last ended place xs xs old new fault (rw is refl) (whole_refused form place xs held old new fault at.front
-    (subst (λ (n : ℕ). IsEndRefused form place n held fault) at.start_is (refused so_far.segments so_far.start_is)))
+    let told = refused so_far.segments so_far.start_is in
+    refused_stops form last ended place start xs xs held old new fault (rw is refl) told (whole_refused form place xs held old new fault at.front
+    (subst (λ (n : ℕ). IsEndRefused form place n held fault) at.start_is told))
 
 -- the bytes that are kept are the rest
 pub kept_last : (bytes rest : List ℕ) (old new : Option (List ℕ)) → FrontDumped bytes rest old new

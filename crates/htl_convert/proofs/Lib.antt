@@ -1,3 +1,4 @@
 pub mod CutCounts
 pub mod DumpLaws
 pub mod EncodeLaws
+pub mod Unasked

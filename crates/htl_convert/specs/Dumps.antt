@@ -11,7 +11,7 @@ use Rattle.htl_segment.specs.Hexadecimal.{digits_of}
 use Rattle.htl_text.specs.Texts.{segment_text}
 use Rattle.htl_inputs.specs.Inputs.{AsksMemory, DecodeAll, HasBytes, IsReportedOfInput}
 use Rattle.htl_inputs.specs.CutInputs.{AreCut}
-use Rattle.htl_inputs.specs.Readings.{AreRead}
+use Rattle.htl_inputs.specs.Readings.{AreRead, AskForReaders}
 use Rattle.htl_inputs.specs.declared.cuts.CutInputs.{CutInputs}
 use Rattle.htl_inputs.specs.declared.fault.RunFault.{RunFault}
 use Rattle.htl_inputs.specs.declared.fault.RunFault.TheVariants.{Segment, Hex, Read, Memory, Write}
@@ -35,12 +35,12 @@ kept_of true read = digits_of read
 kept_of false read = read
 
 -- What is reported of the source at a place that gave some of the input's bytes, has others left, and whose end was
--- found or not. While its end isn't found, memory is asked for to keep what was read too.
+-- found or not. Bytes are dumped as they come, and so memory is refused or a write fails before their end is found.
 abbrev pub IsReportedOfDump : InputForm → Option (List ℕ) → Bool → ℕ → List ℕ → RunFault → Type 0
 IsReportedOfDump form left ended place input (Read at) = at ≡ place
-IsReportedOfDump form left ended place input Write = Unit {0}
+IsReportedOfDump form left ended place input Write = form.hex ≡ false → ended ≡ false
 IsReportedOfDump form left ended place input Memory =
-    AsksMemory form.hex form.partial input
+    ((form.hex ≡ true) × AsksMemory true form.partial input)
     ⊎ ((ended ≡ false) × (read : List ℕ) × Consumes (Some input) left read × (0 < length (kept_of form.hex read)))
 IsReportedOfDump form left ended place input fault = IsReportedOfInput form place input fault
 
@@ -96,8 +96,10 @@ abbrev pub EndsDumping : InputForm → List (List ℕ) → List SourceState → 
 EndsDumping form texts new before after (Ok cut) = Dumps form texts before after × AreCut form.hex texts cut
 EndsDumping form texts new before after (Err fault) = DumpStops form texts (lefts new) (ends new) before after fault
 
+-- One worker reads each source.
 pub record IsDumpedFrom (form : InputForm) (old new : List SourceState) (before after : SinkState)
     (result : Result (Option CutInputs) RunFault) : Type 0 where
   pub outcome : IfKnown old (λ texts. EndsDumping form texts new before.contents after.contents result)
   pub failed : after.failed ≡ is_failed_write result
   pub reading : AreRead form.hex old new result
+  pub readers : AskForReaders form.hex 1 old new

@@ -9,7 +9,7 @@ use Rattle.htl_segment.specs.Content.{Content}
 use Rattle.htl_segment.specs.Bundles.{bundle}
 use Rattle.htl_text.specs.Encoded.{Encodes, event_line, FirstFault, IsRefused}
 use Rattle.htl_text.specs.declared.fault.TextFault.TheVariants as texts
-use Rattle.htl_inputs.specs.Readings.{AreRead}
+use Rattle.htl_inputs.specs.Readings.{AreRead, AskForReaders}
 use Rattle.htl_inputs.specs.declared.fault.RunFault.{RunFault}
 use Rattle.htl_inputs.specs.declared.fault.RunFault.TheVariants.{Text, Read, Memory, Write}
 use Rattle.htl_convert.specs.Dumps.{is_failed_write}
@@ -66,10 +66,12 @@ EndsEncoding hex texts new before after (Ok done) = EncodesInto hex texts before
 EndsEncoding hex texts new before after (Err Write) = EncodesPart hex texts before after
 EndsEncoding hex texts new before after (Err fault) = EncodingStops texts (lefts new) (ends new) fault
 
+-- One worker reads each source.
 pub record IsEncodedFrom {S : Type 0} (hex : Bool) (old new : List SourceState) (before after : SinkState) (result : Result S RunFault)
     : Type 0 where
   pub outcome : IfKnown old (λ texts. EndsEncoding hex texts new before.contents after.contents result)
   pub failed : after.failed ≡ is_failed_write result
   pub reading : AreRead true old new result
+  pub readers : AskForReaders true 1 old new
   -- Nothing was written, unless a write failed.
   pub untouched : IfErr result (λ fault. fault ≢ Write → after ≡ before)

@@ -90,6 +90,7 @@ fn dump_input<R: Source, W: Sink>(
     ensures failed { (W.state out.new).failed ≡ is_failed_write result }
     ensures reading { IsRead form.hex MAX_READS place (R.state source.old)
         (R.state source.new) result }
+    ensures tails { (R.state source.new).tails ≡ (R.state source.old).tails }
 {
     if form.hex {
         return match read_digits(alloc, source) {
@@ -173,6 +174,7 @@ fn dump_within<R: Source, W: Sink>(
     ensures no_fault { (at : ℕ) → result ≡ Err (RunFault.Read at)
         → IsReadToFault 0 (R.state source.old).remaining (R.state source.new).remaining }
     ensures bounded { (R.state source.new).good_reads ≤ (R.state source.old).good_reads + most }
+    ensures tails { (R.state source.new).tails ≡ (R.state source.old).tails }
     ensures named { NamesOnly place result }
     ensures to_fault { IsReadToFault MAX_READ_LEN (R.state source.old).remaining
         (R.state source.new).remaining }

@@ -10,7 +10,7 @@ ghost use Rattle.htl_segment.specs.Content.{Content};
 ghost use Rattle.htl_text.specs.Encoded.{Encodes};
 ghost use Rattle.htl_device.specs.States.{AreOpen, IfKnown, IsOpen, ends, lefts};
 ghost use Rattle.htl_inputs.specs.Reads.{IsRead, NamesOnly, NeverRead, NeverWrite};
-ghost use Rattle.htl_inputs.specs.Readings.{AreRead};
+ghost use Rattle.htl_inputs.specs.Readings.{AreRead, AskForReaders};
 ghost use Rattle.htl_convert.specs.Dumps.{is_failed_write};
 ghost use Rattle.htl_convert.specs.Encodings.{EncodeAll, EncodingStops, IsEncodedFrom};
 ghost use Rattle.htl_convert.specs.Encodings.{IsReportedOfText, written_as};
@@ -49,6 +49,7 @@ fn encode_all<R: Source>(alloc: Global, sources: &mut [R]) -> Result<Vec<u8>, Ru
     ensures stops { IfKnown (map R.state sources.old) (λ texts. IfErr result (EncodingStops texts
         (lefts (map R.state sources.new)) (ends (map R.state sources.new)))) }
     ensures reading { AreRead true (map R.state sources.old) (map R.state sources.new) result }
+    ensures readers { AskForReaders true 1 (map R.state sources.old) (map R.state sources.new) }
     ensures no_write { NeverWrite result }
 {
     let mut bundle = Vec::new(alloc);
@@ -68,6 +69,7 @@ fn encode_input<R: Source>(alloc: Global, place: u64, source: &mut R) -> Result<
         IsReportedOfText (R.state source.new).remaining (R.state source.new).ended place text
         fault)) }
     ensures reading { IsRead true MAX_READS place (R.state source.old) (R.state source.new) result }
+    ensures tails { (R.state source.new).tails ≡ (R.state source.old).tails }
     ensures no_write { NeverWrite result }
 {
     match read_whole(alloc, source) {

@@ -7,9 +7,11 @@ use Rattle.htl_inputs.specs.declared.cuts.CutInputs.{CutInputs}
 use Rattle.htl_inputs.proofs.CutLaws.{is_cut_of}
 use Rattle.htl_inputs.proofs.ReadingLaws.{all_ended, all_texts, at_next, ended_there, ends_there, later_there, left_there, next_of, next_open}
 use Rattle.htl_inputs.proofs.ReadingLaws.{none_before, one_more}
+use Rattle.htl_inputs.proofs.SourceLaws.{none_asked}
 use Rattle.htl_convert.specs.Dumping.{DumpsInput}
 use Rattle.htl_convert.specs.Dumps.{InputStops}
 use Rattle.htl_reading.specs.declared.outcome.EarlyEnd.{EarlyEnd}
+use Rattle.htl_convert.proofs.Unasked.{asks_no_more}
 use Rattle.htl_convert.proofs.CutCounts.{cut_next, fits_next, none_cut, none_fits}
 use Rattle.htl_convert.proofs.DumpLaws.{dumps_next, same_failure, written_after}
 use Rattle.htl_convert.proofs.dumping.dump_from.Goals as goal
@@ -17,6 +19,7 @@ use Rattle.htl_convert.proofs.dumping.dump_from.Goals as goal
 pub loop-place-init : goal.loop-place-init
 loop-place-init g c = record {
   before = none_before _ (map g.R.Source.state c.args.inputs.now) c.requires.ready;
+  readers = none_asked c.args.form.hex 1 (map g.R.Source.state c.args.inputs.now);
   sound = c.requires.out;
   dumped = λ texts all. ([], refl, Appends-nil (g.W.Sink.state c.args.out.now).contents);
   cut = λ texts all. none_cut c.args.form.hex texts;
@@ -33,6 +36,7 @@ loop-place-preserved g c =
     let new_out = (g.W.Sink.state c.dump_input.new.out).contents in
     record {
       before = one_more next c.dump_input.new.source end is.reading;
+      readers = asks_no_more next c.dump_input.new.source 1 l.invariant.readers is.tails;
       sound = is.failed;
       dumped = λ texts all.
           let one = at_next next texts all (λ bytes. DumpsInput c.args.form bytes end old_out new_out) is.ok in
@@ -77,6 +81,7 @@ returns-in_err-end g c =
           };
       failed = is.failed ∙ same_failure (Option EarlyEnd) (Option CutInputs) fault;
       reading = ends_there next y fault is.reading;
+      readers = asks_no_more next y 1 l.invariant.readers is.tails;
     })
 
 pub returns : goal.returns
@@ -89,6 +94,7 @@ returns g c =
           (rw whole at (inv.dumped texts all), rw whole at (inv.cut texts all));
       failed = inv.sound;
       reading = all_ended g.R.Source.state c.args.inputs.now c.loop-place.inputs c.loop-place.place _ inv.before (omega arith);
+      readers = inv.readers;
     }
 
 pub dump_input-requires : goal.dump_input-requires

@@ -2,6 +2,7 @@
 use Rattle.std.proofs.Common.{◌≡◌, map, take, false}
 use Rattle.htl_device.specs.States.{IfKnown}
 use Rattle.htl_inputs.specs.CutInputs.{AreCut}
+use Rattle.htl_inputs.specs.Readings.{AskForReaders}
 use Rattle.htl_inputs.proofs.ReadingLaws.{ReadBefore}
 use Rattle.htl_convert.specs.Dumping.{OthersFit}
 use Rattle.htl_convert.specs.Dumps.{Dumps}
@@ -10,6 +11,7 @@ use Rattle.htl_convert.proofs.dumping.dump_from.Given as goal
 abbrev pub invariant-loop-place : goal.invariant-loop-place
 invariant-loop-place g l = record {
   before : ReadBefore l.form.hex (map g.R.Source.state l.initial.inputs) (map g.R.Source.state l.inputs) l.place;
+  readers : AskForReaders l.form.hex 1 (map g.R.Source.state l.initial.inputs) (map g.R.Source.state l.inputs);
   sound : (g.W.Sink.state l.out).failed ≡ false;
   dumped : IfKnown (map g.R.Source.state l.initial.inputs) (λ texts.
       Dumps l.form (take l.place texts) (g.W.Sink.state l.initial.out).contents (g.W.Sink.state l.out).contents);

@@ -75,8 +75,10 @@ returns-in_err-left-clause-stops g c =
     let p = err_from_is_err_and c.from_residual-in_err-left.result c.from_residual-in_err-left.ensures.1 in
     let all : c.extend_from_slice.new.self.items ≡ c.loop-read.held.items ++ take c.in-Ok.count c.read.new.buffer =
     grind (arith, common_steps) in
+    let some : 0 < length (take c.in-Ok.count c.read.new.buffer) = grind (arith, common_steps) in
+    let inside : (g.R.Source.state c.read.new.self).ended ≡ false = grind (arith, common_steps) in
     rw (p.1, p.2) (so_far_stops c.args.form _ _ _ _ _ _ c.loop-read.held.items (take c.in-Ok.count c.read.new.buffer) _ _ _ _
-    c.requires.bytes c.loop-read.invariant.so_far c.in-Ok.ensures.bytes.0
+    c.requires.bytes c.loop-read.invariant.so_far c.in-Ok.ensures.bytes.0 inside some
     (rw (← all, ← c.deref-in-loop-read.ensures.value) (c.in_err-left.ensures.dumped)))
 
 pub returns-in_err-left-clause-read : goal.returns-in_err-left-clause-read
@@ -142,6 +144,7 @@ loop-read-preserved g c =
       each = rw (kept, len) (omega (arith, inv.each, joined, inside, size, some));
       counted = grind (arith, common_steps);
       reads = grind (arith, common_steps);
+      tails = grind (arith, common_steps);
       bounded = rw (kept, len) (omega (arith, inv.bounded, few, whole, joined, inside, size));
       inside = grind (arith, common_steps);
       whole = whole;

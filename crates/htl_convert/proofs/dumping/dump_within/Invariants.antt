@@ -13,6 +13,7 @@ invariant-loop-read g l = record {
   each : l._read ≤ l.start + length l.held.items;
   counted : l._read ≤ (g.R.Source.state l.source).good_reads;
   reads : (g.R.Source.state l.source).good_reads ≤ (g.R.Source.state l.initial.source).good_reads + l._read;
+  tails : (g.R.Source.state l.source).tails ≡ (g.R.Source.state l.initial.source).tails;
   bounded : l.start + length l.held.items ≤ l._read * MAX_READ_LEN;
   inside : (g.R.Source.state l.source).ended ≡ false;
   whole : length l.buffer ≡ MIN_READ_LEN;

@@ -1,14 +1,17 @@
 -- `encode_all` reads its sources one after another and gives what their texts encode, or reports the first that is refused or can't be read.
-use Rattle.std.proofs.Common.{◌<◌, [], arith, inl, length, map, refl}
+use Rattle.std.proofs.Common.{◌<◌, [], arith, inl, length, map, refl, true}
 use Rattle.std.proofs.lemmas.Option.{IfSome_then}
 use Rattle.std.proofs.lemmas.Result.{err_from_is_err_and}
 use Rattle.htl_inputs.proofs.ReadingLaws.{all_ended, at_next, ends_there, next_of, next_open, none_before, one_more, refused_there}
+use Rattle.htl_inputs.proofs.SourceLaws.{none_asked}
+use Rattle.htl_convert.proofs.Unasked.{asks_no_more}
 use Rattle.htl_convert.proofs.EncodeLaws.{give_next, Gives, some_begin, stops_encoding}
 use Rattle.htl_convert.proofs.encoding.encode_all.Goals as goal
 
 pub loop-place-init : goal.loop-place-init
 loop-place-init g c = record {
   before = none_before _ (map g.R.Source.state c.args.sources.now) c.requires.ready;
+  readers = none_asked true 1 (map g.R.Source.state c.args.sources.now);
   encoded = λ texts all. ([], refl, c.new-bundle.ensures.items);
 }
 
@@ -19,6 +22,7 @@ loop-place-preserved g c =
     let more = c.in_ok-more.more in
     record {
       before = one_more next c.encode_input.new.source more c.in_ok-more.ensures.reading;
+      readers = asks_no_more next c.encode_input.new.source 1 l.invariant.readers c.in_ok-more.ensures.tails;
       encoded = λ texts all.
           let one = at_next next texts all (λ text. Gives text more.items) c.in_ok-more.ensures.ok in
           rw (c.in_ok-append.ensures.items)
@@ -57,6 +61,18 @@ returns-in_err-append-clause-reading g c =
     let l = c.loop-place in
     let next = next_of g.R.Source.state c.args.sources.now l.sources l.place c.index-sources-place.result l.invariant.before (omega arith) in
     rw (p.1, p.2) (refused_there next c.encode_input.new.source c.in_ok-more.more c.in_ok-more.ensures.reading)
+
+pub returns-in_err-more-clause-readers : goal.returns-in_err-more-clause-readers
+returns-in_err-more-clause-readers g c =
+    let l = c.loop-place in
+    let next = next_of g.R.Source.state c.args.sources.now l.sources l.place c.index-sources-place.result l.invariant.before (omega arith) in
+    asks_no_more next c.encode_input.new.source 1 l.invariant.readers c.in_err-more.ensures.tails
+
+pub returns-in_err-append-clause-readers : goal.returns-in_err-append-clause-readers
+returns-in_err-append-clause-readers g c =
+    let l = c.loop-place in
+    let next = next_of g.R.Source.state c.args.sources.now l.sources l.place c.index-sources-place.result l.invariant.before (omega arith) in
+    asks_no_more next c.encode_input.new.source 1 l.invariant.readers c.in_ok-more.ensures.tails
 
 pub returns-clause-reading : goal.returns-clause-reading
 returns-clause-reading g c =

@@ -16,6 +16,7 @@ returns-in_err-bundle g c =
       outcome = λ texts all. ends_unwritten (Unit {0}) c.args.hex texts now out out fault is.no_write (is.stops texts all);
       failed = c.requires.out ∙ sym (no_failure (Unit {0}) fault is.no_write);
       reading = ends_too true (map g.R.Source.state c.args.inputs.now) now fault is.reading;
+      readers = is.readers;
       untouched = λ other. refl;
     })
 
@@ -30,5 +31,6 @@ returns g c =
       failed = c.write_bundle.ensures.failed;
       reading = read_then true (map g.R.Source.state c.args.inputs.now) now c.in_ok-bundle.bundle result c.in_ok-bundle.ensures.reading
           (no_read_of_writes _ result c.write_bundle.ensures.err) (no_input_of_writes _ result c.write_bundle.ensures.err);
+      readers = c.in_ok-bundle.ensures.readers;
       untouched = only_writes _ _ result c.write_bundle.ensures.err;
     }

@@ -3,7 +3,7 @@ use Rattle.std.specs.Prelude.{◌≡◌, ◌⊎◌, ℕ, Bool, false, List, Opti
 use Rattle.std_io.specs.IoError.{error_kind}
 use Rattle.std_io.specs.declared.io.error.Error.{Error}
 use Rattle.std_io.specs.declared.io.kind.ErrorKind.TheVariants.{OutOfMemory}
-use Rattle.htl_program.specs.Worlds.{Known}
+use Rattle.htl_world.specs.Worlds.{Known}
 use Rattle.hleak.specs.declared.disk.Found.{Found}
 
 -- A name gives something only where something is there. Where it gives nothing, memory was refused, or nothing is known of its bytes.

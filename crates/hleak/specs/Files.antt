@@ -1,7 +1,7 @@
 -- What a file holds, and what is left of it.
 use Rattle.std.specs.Prelude.{◌≡◌, ◌<◌, ◌^◌, ◌-◌, ℕ, List, [], Option, Some, length, string_bytes}
 use Rattle.htl_device.specs.Devices.{tail_of}
-use Rattle.htl_program.specs.Worlds.{Known}
+use Rattle.htl_world.specs.Worlds.{Known}
 use Rattle.hleak.specs.declared.file.Place.{Place}
 use Rattle.hleak.specs.declared.file.Place.TheVariants.{Named, Standard}
 use Rattle.hleak.specs.declared.file.Stage.{Stage}

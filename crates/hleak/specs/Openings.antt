@@ -5,8 +5,8 @@ use Rattle.std.specs.Fs.{IsDir, IsFile, file_type, metadata_len}
 use Rattle.std.specs.declared.fs.attrs.Metadata.{Metadata}
 use Rattle.std_io.specs.declared.io.kind.ErrorKind.{ErrorKind}
 use Rattle.std_io.specs.declared.io.kind.ErrorKind.TheVariants.{OutOfMemory}
-use Rattle.htl_program.specs.declared.world.OpenFault.{OpenFault}
-use Rattle.htl_program.specs.declared.world.OpenFault.TheVariants.{NoMemory, Refused}
+use Rattle.htl_world.specs.declared.world.OpenFault.{OpenFault}
+use Rattle.htl_world.specs.declared.world.OpenFault.TheVariants.{NoMemory, Refused}
 
 -- How many bytes it has that the system says this of: a regular file has a known length, and nothing else.
 abbrev pub IsKnownLen : {E : Type 0} → Result Metadata E → Option ℕ → Type 0

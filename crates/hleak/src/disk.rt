@@ -6,7 +6,7 @@
 ghost use Rattle.std.specs.Prelude.{◌≡◌, ℕ, Bool, IfOk, IfSome, List, None, Option, false, is_some};
 ghost use Rattle.std.specs.Prelude.{length, true};
 ghost use Rattle.htl_device.specs.Devices.{tail_of};
-ghost use Rattle.htl_program.specs.Worlds.{Known};
+ghost use Rattle.htl_world.specs.Worlds.{Known};
 ghost use Rattle.hleak.specs.Disks.{IsAnswered, IsFound};
 ghost use Rattle.hleak.specs.Openings.{IsKnownLen, IsStream};
 

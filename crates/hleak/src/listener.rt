@@ -8,12 +8,13 @@ use crate::lacking::Lacking;
 use crate::note::Note;
 use crate::terminals::Terminals;
 use crate::voice::Voice;
+use htl_ask::Speaker;
 use htl_command::Job;
 use htl_dialogue::Host;
 use htl_main::{
     Absence, Added, Between, Coverage, CutInputs, ParseFault, Refused, Remarks, RunFault,
 };
-use htl_program::{Lack, Speaker};
+use htl_program::Lack;
 
 /// Whoever reads standard error while a dialogue goes on.
 #[derive(Drop)]

@@ -13,7 +13,7 @@ use crate::progress::Progress;
 use crate::shown::Shown;
 use crate::voice::Voice;
 use htl_device::Source;
-use htl_program::{OpenFault, World};
+use htl_world::{OpenFault, World};
 use std::io;
 use std::io::Read;
 

@@ -4,7 +4,7 @@ use Rattle.std.specs.Prelude.{Result, Err}
 use Rattle.htl_inputs.specs.declared.fault.RunFault.TheVariants.{Memory}
 use Rattle.htl_main.specs.declared.origin.Between.TheVariants.{Nothing}
 use Rattle.htl_main.specs.declared.refused.Refused.{Refused}
-use Rattle.htl_program.specs.Endings.{RunsOut}
+use Rattle.htl_ask.specs.Asking.{RunsOut}
 
 -- memory was refused to the opening of inputs whose texts are known
 pub ran_out : {S : Type 0} (ended : Result S Refused) (refused : Refused) → ended ≡ Err refused → refused.fault ≡ Memory

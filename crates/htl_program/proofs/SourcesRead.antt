@@ -10,7 +10,7 @@ use Rattle.htl_inputs.specs.declared.fault.RunFault.{RunFault}
 use Rattle.htl_inputs.specs.declared.fault.RunFault.TheVariants.{Case}
 use Rattle.htl_main.specs.Origins.{IsBetween}
 use Rattle.htl_main.specs.declared.origin.Between.TheVariants.{Nothing}
-use Rattle.htl_program.proofs.PassedOn.{no_fault, same_fault}
+use Rattle.htl_world.proofs.PassedOn.{no_fault, same_fault}
 
 -- sources that a run read that ended well were read so whatever it answers
 pub as_answered : {S T : Type 0} (is_text : Bool) (old new : List SourceState) (done : S) (other : T)

@@ -7,7 +7,7 @@ use Rattle.htl_report.specs.Parts.{shown_tag}
 use Rattle.htl_command.specs.declared.question.Job.{Job}
 use Rattle.htl_question.specs.Questions.{subject_of}
 use Rattle.htl_question.specs.declared.subject.Subject.{Subject}
-use Rattle.htl_question.specs.declared.subject.Subject.TheVariants.{Process, Object, Tag, Handle}
+use Rattle.htl_question.specs.declared.subject.Subject.TheVariants.{Process, Object, Tag, TagOfAll, Handle}
 use Rattle.htl_main.specs.Subjects.{since_of}
 use Rattle.htl_main.specs.declared.completed.Absence.{Absence}
 use Rattle.htl_main.specs.declared.completed.Absence.TheVariants as absences
@@ -20,6 +20,7 @@ abbrev pub subject_text : Subject → List ℕ
 subject_text (Process process) = codes "process " ++ decimal process
 subject_text (Object object) = codes "object 0x" ++ padded 16 object
 subject_text (Tag object tag) = codes "tag " ++ (shown_tag tag ++ (codes " of object 0x" ++ padded 16 object))
+subject_text (TagOfAll tag) = codes "tag " ++ shown_tag tag
 subject_text (Handle process handle) = codes "handle 0x" ++ (hex (base_of handle) ++ (codes " of process " ++ decimal process))
 
 -- What a question lacks: an event of what it is about, where a moment may be the cause; an event after the sequence since which it asks; or

@@ -1,7 +1,7 @@
 -- What became of what was opened in a world (this project's own).
 use Rattle.std.specs.Prelude.{◌≡◌, List, Option, map, option_map}
 use Rattle.htl_device.specs.States.{SourceState}
-use Rattle.htl_program.specs.Worlds.{WorldChange, WorldState, change}
+use Rattle.htl_world.specs.Worlds.{WorldChange, WorldState, change}
 use Rattle.htl_program.specs.declared.inputs.Inputs.{Inputs}
 
 -- what became of the files that were opened, or of standard input in their place, and of the lines of a dialogue

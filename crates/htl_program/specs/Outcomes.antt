@@ -1,47 +1,31 @@
--- What comes of a question, a dump, an encoding and a dialogue in a world (this project's own). Each is said of the inputs that were opened
--- for it, as they are by then.
-use Rattle.std.specs.Prelude.{◌≡◌, ◌≢◌, ◌⊎◌, ℕ, Bool, true, List, map, Option, Some, option_map, IfErr, Result, Ok, Err, String}
-use Rattle.std.specs.Prelude.{string_bytes}
-use Rattle.htl_command.specs.declared.command.Dialogue.{Dialogue}
+-- What comes of a question, a dump and an encoding in a world (this project's own). Each is said of the inputs that were opened for it,
+-- as they are by then.
+use Rattle.std.specs.Prelude.{◌≡◌, ◌≢◌, ◌⊎◌, ℕ, Bool, true, List, map, Option, option_map, IfErr, Result, Err, String, string_bytes}
 use Rattle.htl_command.specs.declared.command.Run.{Run}
 use Rattle.htl_command.specs.declared.question.InputForm.{InputForm}
-use Rattle.htl_device.specs.States.{SinkState, SourceState}
+use Rattle.htl_device.specs.States.{SinkState, SourceState, ends, lefts}
 use Rattle.htl_inputs.specs.declared.cuts.CutInputs.{CutInputs}
 use Rattle.htl_inputs.specs.declared.fault.RunFault.{RunFault}
 use Rattle.htl_inputs.specs.declared.fault.RunFault.TheVariants.{Memory, Write}
 use Rattle.htl_convert.specs.Dumps.{EndsDumping, is_failed_write}
 use Rattle.htl_convert.specs.Encodings.{EndsEncoding}
-use Rattle.htl_dialogue.specs.Dialogues.{Converses, DialogueStops}
-use Rattle.htl_dialogue.specs.Notes.{Note}
-use Rattle.htl_dialogue.specs.declared.dialogue.Conversed.{Conversed}
 use Rattle.htl_main.specs.Origins.{by_fault}
-use Rattle.htl_main.specs.Runs.{LeavesSink}
+use Rattle.htl_main.specs.Runs.{LeavesSink, Ends}
 use Rattle.htl_main.specs.declared.completed.Completed.{Completed}
 use Rattle.htl_main.specs.declared.refused.Refused.{Refused}
-use Rattle.htl_program.specs.Asking.{Begins, BeginsAndGets, IsBeginsBetween, IsBeginsCause, Opening, ReportsDevices, Taken, answers_over}
-use Rattle.htl_program.specs.Asking.{before_dialogue}
-use Rattle.htl_program.specs.Endings.{EndsRun, IsUnopened, IsUntabled, RunsOut}
-use Rattle.htl_program.specs.Readings.{AreAskedFor, AreInputs, ReportsRead}
-use Rattle.htl_program.specs.Rounds.{Asks, AsksLater, OpensAgain, OpensInputs, OpensOnce}
-use Rattle.htl_program.specs.Worlds.{IsFirstAbsent, IsTable, IsTableAbsent, Known, WorldChange, of_each, of_inputs}
-use Rattle.htl_program.specs.declared.conversing.ask_fault.AskFault.{AskFault}
-use Rattle.htl_program.specs.declared.conversing.ask_fault.AskFault.TheVariants as asks
+use Rattle.htl_command.specs.declared.question.Job.{Job}
+use Rattle.htl_main.specs.Causes.{IsSourcesCause}
+use Rattle.htl_world.specs.Endings.{IsUnopened, IsUntabled}
+use Rattle.htl_world.specs.Readings.{AreAskedFor, ReadsInputs}
+use Rattle.htl_world.specs.Rounds.{Asks, OpensAgain, OpensInputs, OpensOnce}
+use Rattle.htl_world.specs.Worlds.{IsTable, IsTableAbsent, WorldChange, HaveTexts, IsAbsentAt, of_inputs}
+use Rattle.htl_ask.specs.Asking.{RunsOut}
 
--- the inputs of the names have these texts
-abbrev pub HaveTexts : {A : Type 0} → Known → List (String A) → List (List ℕ) → Type 0
-HaveTexts world names texts = of_inputs world.holds world.standard names ≡ map Some texts
-
--- the name at the place is the first for which there is nothing
-abbrev pub IsAbsentAt : {A : Type 0} → Known → List (String A) → ℕ → Type 0
-IsAbsentAt world names place = IsFirstAbsent (of_each world.holds names) (of_each world.is_absent names) place
-
--- The inputs of the names were opened and read as any run reads its sources. A failed read is reported only of a name that was refused, or
--- of an input whose read failed or that has no end.
-pub record ReadsInputs {A S : Type 0} (world : Known) (is_text : Bool) (names : List (String A)) (inputs : List SourceState)
-    (result : Result S RunFault) : Type 0 where
-  pub reading : AreInputs is_text (of_inputs world.holds world.standard names) (of_each world.holds names) (of_each world.is_absent names)
-      inputs result
-  pub read : ReportsRead world names inputs result
+-- The answer was printed over inputs of these texts, or there is a reason why not, where the sources are these by then.
+abbrev pub EndsRun : Job → List (List ℕ) → Option (List ℕ) → List SourceState → Option (List ℕ) → Option (List ℕ)
+    → Result Completed Refused → Type 0
+EndsRun job texts table sources old new result =
+    Ends (IsSourcesCause job texts (lefts sources) (ends sources) table) job texts table old new result
 
 -- A question was asked of its files and its table of symbols. The first name for which there is nothing is reported by its place. Each file
 -- was opened once, in order, and then the table was read; only files that can be read again were opened more often.
@@ -79,70 +63,3 @@ pub record IsEncoded {A : Type 0} (world : WorldChange) (inputs : List SourceSta
   pub failed : new.failed ≡ is_failed_write ended
   pub untouched : IfErr ended (λ fault. fault ≢ Write → new ≡ old)
   pub asked : Asks world (OpensOnce (map string_bytes names) ended)
-
--- What a dialogue goes over: its questions, as they were and as they are left; the output, as it was and is; how a note changes the
--- speaker, whether they want to know what has no event, and who they were and are.
-pub record Talk (S : Type 0) : Type 0 where
-  pub questions : SourceState
-  pub left : SourceState
-  pub old : SinkState
-  pub new : SinkState
-  pub told : S → Note → S
-  pub wants_absence : Bool
-  pub before : S
-  pub after : S
-
-abbrev pub talk : {S : Type 0} → SourceState → SourceState → SinkState → SinkState → (S → Note → S) → Bool → S → S → Talk S
-talk questions left old new told wants_absence before after = record {
-  questions = questions;
-  left = left;
-  old = old;
-  new = new;
-  told = told;
-  wants_absence = wants_absence;
-  before = before;
-  after = after;
-}
-
--- after the opening the output got these replies, and the speaker these notes
-abbrev pub HasGot : {S : Type 0} → List (List ℕ) → Talk S → Opening → List ℕ → List Note → Type 0
-HasGot names talk opening = BeginsAndGets names talk.old.contents talk.new.contents talk.told talk.before talk.after opening
-
--- A dialogue began over inputs of these texts and with this table, and this holds of what was read before the first line, and of each text
--- of its questions.
-abbrev pub Began : {S : Type 0} → Dialogue → Talk S → List (List ℕ) → Option (List ℕ) → (Taken → Opening → List ℕ → Type 0) → Type 0
-Began of talk texts table Goes =
-    (read : Taken) × (opening : Opening) × Begins of.folds of.setting table texts read opening
-    × ((lines : List ℕ) → talk.questions.remaining ≡ Some lines → Goes read opening lines)
-
--- Each line got what a run of its own prints over what the names hold, or those before a fault did; or no dialogue began, for a reason of
--- the inputs or of the table, or since memory was refused.
-abbrev pub EndsConversing : {S : Type 0} → Known → List SourceState → Dialogue → Talk S → List (List ℕ) → Option (List ℕ)
-    → Result Conversed AskFault → Type 0
-EndsConversing world inputs of talk texts table (Ok conversed) =
-    Began of talk texts table (λ read opening lines.
-    Converses (answers_over world of.setting of.folds table) talk.wants_absence (Some read) lines
-    (HasGot (map string_bytes of.files.items) talk opening) conversed)
-EndsConversing world inputs of talk texts table (Err (asks.Dialogue stopped)) =
-    Began of talk texts table (λ read opening lines.
-    DialogueStops (answers_over world of.setting of.folds table) talk.wants_absence (Some read) lines talk.left.remaining talk.left.failed
-    (HasGot (map string_bytes of.files.items) talk opening) stopped)
-EndsConversing world inputs of talk texts table (Err (asks.Run refused)) =
-    IsBeginsCause of.folds of.setting table texts inputs refused.fault ⊎ (refused.fault ≡ Memory)
-
--- A dialogue was held over the names of its files. What comes before the first line ends as any run does, which is said of the fault alone.
--- Each file was opened once, in order, and then the table of symbols was read; later each line's files were, once and in order.
-pub record IsConversed {S : Type 0} (world : WorldChange) (inputs : List SourceState) (of : Dialogue) (talk : Talk S)
-    (ended : Result Conversed AskFault) : Type 0 where
-  pub outcome : (texts : List (List ℕ)) → (table : Option (List ℕ)) → HaveTexts world.old.known of.files.items texts
-      → IsTable world.old.known.holds of.symbols table → EndsConversing world.old.known inputs of talk texts table ended
-  pub devices : ReportsDevices talk.questions.remaining talk.left talk.new.failed ended
-  pub between : (texts : List (List ℕ)) → HaveTexts world.old.known of.files.items texts
-      → IfErr (before_dialogue ended) (λ refused. IsBeginsBetween of.folds of.setting texts refused.fault refused.between)
-  pub absent : (place : ℕ) → IsAbsentAt world.old.known of.files.items place → IsUnopened place (by_fault (before_dialogue ended))
-  pub untabled : (texts : List (List ℕ)) → HaveTexts world.old.known of.files.items texts
-      → IsTableAbsent world.old.known.is_absent of.symbols → IsUntabled (by_fault (before_dialogue ended))
-  pub reads : ReadsInputs world.old.known of.setting.form.hex of.files.items inputs (by_fault (before_dialogue ended))
-  pub readers : AreAskedFor of.setting (of_inputs world.old.known.holds world.old.known.standard of.files.items) inputs
-  pub asked : Asks world (OpensInputs (map string_bytes of.files.items) (option_map string_bytes of.symbols)
-      (by_fault (before_dialogue ended)) (AsksLater of.folds talk.questions.remaining (before_dialogue ended)))

@@ -24,16 +24,17 @@ use Rattle.htl_dialogue.specs.declared.dialogue.DialogueFault.TheVariants as dia
 use Rattle.htl_main.specs.Origins.{by_fault}
 use Rattle.htl_main.specs.declared.completed.Completed.{Completed}
 use Rattle.htl_main.specs.declared.refused.Refused.{Refused}
-use Rattle.htl_program.specs.Asking.{before_dialogue}
+use Rattle.htl_world.specs.Worlds.{IsAsked, WorldState, change, for_questions}
+use Rattle.htl_ask.specs.Asking.{before_dialogue}
+use Rattle.htl_ask.specs.Outcomes.{IsConversed, Talk, talk}
+use Rattle.htl_ask.specs.declared.ask_fault.AskFault.{AskFault}
+use Rattle.htl_ask.specs.declared.ask_fault.AskFault.TheVariants as asks
 use Rattle.htl_program.specs.Opened.{IsUntouched, Reach}
-use Rattle.htl_program.specs.Worlds.{IsAsked, WorldState, change, for_questions}
-use Rattle.htl_program.specs.Outcomes.{IsAnswered, IsConversed, IsDumped, IsEncoded, Talk, talk}
+use Rattle.htl_program.specs.Outcomes.{IsAnswered, IsDumped, IsEncoded}
 use Rattle.htl_program.specs.Messages.{Hears, HearsAll, HearsRun, Message, alone, cut_noted, fault, fault_said, no_memory, notes_said}
 use Rattle.htl_program.specs.Messages.{stop_said, text, unwritten}
 use Rattle.htl_program.specs.Statuses.{conversion_status, dialogue_status, end_status}
 use Rattle.htl_program.specs.Words.{explained}
-use Rattle.htl_program.specs.declared.conversing.ask_fault.AskFault.{AskFault}
-use Rattle.htl_program.specs.declared.conversing.ask_fault.AskFault.TheVariants as asks
 use Rattle.htl_program.specs.declared.console.Console.{Console}
 
 -- what was written and said: what is known of the output, whether a write to it failed because its reader has gone, and what a person heard

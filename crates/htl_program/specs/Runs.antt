@@ -6,10 +6,10 @@ use Rattle.htl_main.specs.Origins.{by_fault}
 use Rattle.htl_main.specs.Runs.{LeavesSink}
 use Rattle.htl_main.specs.declared.completed.Completed.{Completed}
 use Rattle.htl_main.specs.declared.refused.Refused.{Refused}
-use Rattle.htl_program.specs.Endings.{EndsRun, RunsOut}
-use Rattle.htl_program.specs.Outcomes.{HaveTexts, ReadsInputs}
-use Rattle.htl_program.specs.Readings.{AreAskedFor}
-use Rattle.htl_program.specs.Worlds.{Known, of_inputs}
+use Rattle.htl_world.specs.Worlds.{Known, HaveTexts, of_inputs}
+use Rattle.htl_world.specs.Readings.{AreAskedFor, ReadsInputs}
+use Rattle.htl_ask.specs.Asking.{RunsOut}
+use Rattle.htl_program.specs.Outcomes.{EndsRun}
 
 -- `inputs` are those of the last time.
 pub record IsRunOfNames (world : Known) (inputs : List SourceState) (run : Run) (table : Option (List ℕ)) (before after : SinkState)

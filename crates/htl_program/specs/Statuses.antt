@@ -7,8 +7,8 @@ use Rattle.htl_dialogue.specs.declared.dialogue.Conversed.{Conversed}
 use Rattle.htl_dialogue.specs.declared.dialogue.DialogueFault.{DialogueFault}
 use Rattle.htl_dialogue.specs.declared.dialogue.DialogueFault.TheVariants.{Questions, Write, NoMemory}
 use Rattle.htl_main.specs.declared.completed.Completed.{Completed}
-use Rattle.htl_program.specs.declared.conversing.ask_fault.AskFault.{AskFault}
-use Rattle.htl_program.specs.declared.conversing.ask_fault.AskFault.TheVariants.{Run, Dialogue}
+use Rattle.htl_ask.specs.declared.ask_fault.AskFault.{AskFault}
+use Rattle.htl_ask.specs.declared.ask_fault.AskFault.TheVariants.{Run, Dialogue}
 
 -- the status after a run, which says that the answer finds something only where that is asked for
 abbrev pub end_status : Bool → Result Completed RunFault → ℕ

@@ -6,16 +6,15 @@ ghost use Rattle.htl_device.specs.States.{AreOpen, fresh};
 ghost use Rattle.htl_main.specs.Origins.{by_fault};
 ghost use Rattle.htl_question.specs.Questions.{Serves};
 ghost use Rattle.htl_main.specs.Runs.{IsRun};
+ghost use Rattle.htl_world.specs.Rounds.{Asks, CanBeReadAgain, OpensAgain, Rounds};
+ghost use Rattle.htl_world.specs.Worlds.{change, of_inputs};
 ghost use Rattle.htl_program.specs.Outcomes.{IsAnswered};
-ghost use Rattle.htl_program.specs.Rounds.{Asks, CanBeReadAgain, OpensAgain, Rounds};
 ghost use Rattle.htl_program.specs.Runs.{IsRunOfNames};
-ghost use Rattle.htl_program.specs.Worlds.{change, of_inputs};
 
-use crate::opening::{as_bytes, open_all, open_inputs};
-use crate::world::World;
 use htl_command::{Job, Run};
 use htl_device::{Parted, Sink};
 use htl_main::{Completed, Interest, Lacking, Refused, pick_from, run_from};
+use htl_world::{World, as_bytes, open_all, open_inputs};
 use std::alloc::Global;
 use std::thread::Threads;
 

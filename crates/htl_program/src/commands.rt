@@ -5,14 +5,14 @@ ghost use Rattle.htl_program.specs.Opened.{reach};
 ghost use Rattle.htl_program.specs.Programs.{Does, Obeys, SpeaksIn, spoken, told, with_notes};
 
 use crate::console::Console;
-use crate::conversing::{Files, Speaker};
 use crate::inputs::Inputs;
 use crate::output::Output;
 use crate::performing::{do_answer, do_converse, do_dump, do_encode};
 use crate::printing::{do_explain, refuse};
 use crate::saying::Person;
-use crate::world::World;
+use htl_ask::{Files, Speaker};
 use htl_command::{Command, CommandLine, parse};
+use htl_world::World;
 use std::alloc::Global;
 use std::thread::Threads;
 

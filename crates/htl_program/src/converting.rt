@@ -1,15 +1,14 @@
 //! The runs that print the segments of files as text and make segments of texts, in a world.
 
 ghost use Rattle.std.specs.Prelude.{◌≡◌, ℕ, false, map};
-ghost use Rattle.htl_program.specs.Outcomes.{IsAbsentAt, IsDumped, IsEncoded};
-ghost use Rattle.htl_program.specs.Worlds.{change};
+ghost use Rattle.htl_world.specs.Worlds.{IsAbsentAt, change};
+ghost use Rattle.htl_program.specs.Outcomes.{IsDumped, IsEncoded};
 
-use crate::opening::open_inputs;
-use crate::world::World;
 use htl_command::InputForm;
 use htl_convert::{dump_from, encode_from};
 use htl_device::Sink;
 use htl_inputs::{CutInputs, RunFault};
+use htl_world::{World, open_inputs};
 use std::alloc::Global;
 
 /// Prints the segments of the files as text, or those of standard input where no file is named.

@@ -5,7 +5,7 @@ ghost use Rattle.htl_main.specs.Origins.{by_fault};
 ghost use Rattle.htl_program.specs.Statuses.{conversed_status, conversion_status, dialogue_status};
 ghost use Rattle.htl_program.specs.Statuses.{end_status, stop_status};
 
-use crate::conversing::AskFault;
+use htl_ask::AskFault;
 use htl_dialogue::{Conversed, DialogueFault};
 use htl_main::{Completed, Refused, RunFault};
 

@@ -8,16 +8,16 @@ ghost use Rattle.htl_program.specs.Programs.{EncodesOrRefuses, spoken, told};
 
 use crate::answering::answer;
 use crate::console::Console;
-use crate::conversing::{Files, Speaker, converse};
 use crate::converting::{dump, encode};
 use crate::ending::{status_after, status_of_answer, status_of_conversion};
 use crate::inputs::Inputs;
 use crate::output::Output;
 use crate::printing::refuse;
 use crate::saying::{Person, say_answer, say_dialogue, say_dump, say_encoding};
-use crate::world::World;
+use htl_ask::{Files, Speaker, converse};
 use htl_command::{CommandLine, InputForm, ParseFault, Run};
 use htl_device::Source;
+use htl_world::World;
 use std::alloc::Global;
 use std::thread::Threads;
 

@@ -13,7 +13,7 @@ ghost use Rattle.htl_program.specs.Messages.{HearsAll, alone as alone_of, cut_sa
 ghost use Rattle.htl_program.specs.Messages.{gaps_said, lack_said, notes_said, stop_said};
 ghost use Rattle.htl_program.specs.Messages.{unnamed_said};
 
-use crate::conversing::AskFault;
+use htl_ask::AskFault;
 use htl_command::{Command, Job, Moment, Run};
 use htl_dialogue::{Conversed, DialogueFault};
 use htl_main::{Between, Completed, Coverage, CutInputs, Refused, RunFault};

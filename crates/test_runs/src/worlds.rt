@@ -4,10 +4,12 @@ ghost use Rattle.std.specs.Prelude.{◌≡◌, None, Some, false, find, is_none,
 ghost use Rattle.std.specs.Prelude.{option_map, true};
 ghost use Rattle.std.specs.Str.{bytes_eq};
 
+use htl_ask::Speaker;
 use htl_command::{Command, Job, ParseFault};
 use htl_dialogue::{DialogueFault, Host};
 use htl_main::{Absence, Added, Coverage, CutInputs, Reading, Refused, Remarks, RunFault};
-use htl_program::{Lack, OpenFault, Person, Speaker, World};
+use htl_program::{Lack, Person};
+use htl_world::{OpenFault, World};
 use std::alloc::Global;
 
 /// A name, and the bytes that it holds.

@@ -26,6 +26,10 @@ impl fmt::Display for SubjectText {
                 let tag = ShownTag { tag };
                 write!(f, "tag {tag} of object 0x{object:016x}")
             }
+            Subject::TagOfAll(tag) => {
+                let tag = ShownTag { tag };
+                write!(f, "tag {tag}")
+            }
             Subject::Handle { process, handle } => {
                 let base = base(handle);
                 write!(f, "handle 0x{base:x} of process {process}")

@@ -3,9 +3,9 @@ use Rattle.std.proofs.Common.{◌≡◌, ◌∙◌, ap, inr, map, option_map, ru
 use Rattle.std.specs.Prelude.{Err, option_copied}
 use Rattle.std.proofs.lemmas.Result.{err_from_is_err_and}
 use Rattle.htl_main.specs.Origins.{by_fault}
-use Rattle.htl_program.proofs.Asked.{all_ended, all_then}
-use Rattle.htl_program.proofs.NamesRead.{inputs_unread, unread_asks}
-use Rattle.htl_program.proofs.PassedOn.{ends_so, no_end}
+use Rattle.htl_world.proofs.Asked.{all_ended, all_then}
+use Rattle.htl_world.proofs.NamesRead.{inputs_unread, unread_asks}
+use Rattle.htl_world.proofs.PassedOn.{ends_so, no_end}
 use Rattle.htl_program.proofs.RanOut.{ran_out}
 use Rattle.htl_program.proofs.answering.answer.Goals as goal
 

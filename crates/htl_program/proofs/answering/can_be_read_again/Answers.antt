@@ -1,8 +1,8 @@
 -- One name more can be read again.
 use Rattle.std.proofs.Common.{◌≡◌, ◌∙◌, All, rules, subst, sym, take, true}
 use Rattle.std.proofs.lemmas.List.Elements.{All-push}
-use Rattle.htl_program.specs.Worlds.{of_each}
-use Rattle.htl_program.proofs.Names.{all_taken, names_again, one_more, standard_again}
+use Rattle.htl_world.specs.Worlds.{of_each}
+use Rattle.htl_world.proofs.Names.{all_taken, names_again, one_more, standard_again}
 use Rattle.htl_program.proofs.answering.can_be_read_again.Goals as goal
 
 pub loop-name-preserved : goal.loop-name-preserved

@@ -1,6 +1,6 @@
 -- The names so far can be read again.
 use Rattle.std.proofs.Common.{◌≡◌, All, take, true}
-use Rattle.htl_program.specs.Worlds.{of_each}
+use Rattle.htl_world.specs.Worlds.{of_each}
 use Rattle.htl_program.proofs.answering.can_be_read_again.Given as goal
 
 abbrev pub invariant-loop-name : goal.invariant-loop-name

@@ -1,7 +1,7 @@
 -- An answer over what was picked is that of the run, and so is a fault.
 use Rattle.std.proofs.Common.{◌≡◌, ◌∙◌, Err, ap, drop, false, length, refl, rules, sym}
 use Rattle.htl_lemmas.proofs.Lists.{take_front}
-use Rattle.htl_program.proofs.PassedOn.{no_fault, same_fault}
+use Rattle.htl_world.proofs.PassedOn.{no_fault, same_fault}
 use Rattle.htl_program.proofs.SourcesRead.{about_none, as_answered, as_refused}
 use Rattle.htl_program.proofs.answering.pick_opened.Goals as goal
 

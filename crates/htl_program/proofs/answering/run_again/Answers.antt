@@ -4,10 +4,11 @@ use Rattle.std.specs.Prelude.{Err}
 use Rattle.std.proofs.lemmas.Result.{err_from_is_err_and}
 use Rattle.htl_lemmas.proofs.Lists.{take_front}
 use Rattle.htl_main.specs.Origins.{by_fault}
-use Rattle.htl_program.specs.Worlds.{of_each}
-use Rattle.htl_program.proofs.Asked.{last_round}
-use Rattle.htl_program.proofs.FirstAbsent.{only_memory}
-use Rattle.htl_program.proofs.NamesRead.{inputs_unread, run_of_names, unread_asks}
+use Rattle.htl_world.specs.Worlds.{of_each}
+use Rattle.htl_world.proofs.Asked.{last_round}
+use Rattle.htl_world.proofs.FirstAbsent.{only_memory}
+use Rattle.htl_world.proofs.NamesRead.{inputs_unread, unread_asks}
+use Rattle.htl_program.proofs.NamesRun.{run_of_names}
 use Rattle.htl_program.proofs.RanOut.{ran_out}
 use Rattle.htl_program.proofs.answering.run_again.Goals as goal
 

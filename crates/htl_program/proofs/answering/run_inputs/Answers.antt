@@ -5,10 +5,11 @@ use Rattle.std.proofs.lemmas.Result.{err_from_is_err_and}
 use Rattle.htl_device.specs.States.{fresh}
 use Rattle.htl_lemmas.proofs.Lists.{take_front}
 use Rattle.htl_main.specs.Origins.{by_fault}
-use Rattle.htl_program.specs.Worlds.{of_each, of_inputs}
-use Rattle.htl_program.proofs.Asked.{again, last_round, one_round}
-use Rattle.htl_program.proofs.FirstAbsent.{only_memory}
-use Rattle.htl_program.proofs.NamesRead.{inputs_unread, run_of_names, unread_asks}
+use Rattle.htl_world.specs.Worlds.{of_each, of_inputs}
+use Rattle.htl_world.proofs.Asked.{again, last_round, one_round}
+use Rattle.htl_world.proofs.FirstAbsent.{only_memory}
+use Rattle.htl_world.proofs.NamesRead.{inputs_unread, unread_asks}
+use Rattle.htl_program.proofs.NamesRun.{run_of_names}
 use Rattle.htl_program.proofs.RanOut.{ran_out}
 use Rattle.htl_program.proofs.answering.run_inputs.Goals as goal
 

@@ -1,10 +1,10 @@
 -- An encoding whose name could not be opened ends for the first that is absent, and where all are known for want of memory.
 use Rattle.std.proofs.Common.{◌≡◌, ◌∙◌, Err, ap, drop, inl, inr, length, map, rules, string_bytes}
 use Rattle.htl_lemmas.proofs.Lists.{take_front}
-use Rattle.htl_program.specs.Worlds.{of_each}
-use Rattle.htl_program.proofs.Asked.{once, once_ended}
-use Rattle.htl_program.proofs.FirstAbsent.{first_or_memory, none_absent, only_memory}
-use Rattle.htl_program.proofs.NamesRead.{inputs_read, inputs_unread, lefts_of}
+use Rattle.htl_world.specs.Worlds.{of_each}
+use Rattle.htl_world.proofs.Asked.{once, once_ended}
+use Rattle.htl_world.proofs.FirstAbsent.{first_or_memory, none_absent, only_memory}
+use Rattle.htl_world.proofs.NamesRead.{inputs_read, inputs_unread, lefts_of}
 use Rattle.htl_program.proofs.converting.encode.Goals as goal
 
 pub returns-in_err-open_inputs : goal.returns-in_err-open_inputs

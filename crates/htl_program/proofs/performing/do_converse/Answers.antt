@@ -1,7 +1,7 @@
 -- A dialogue's end is said, and what its speaker heard is what the dialogue told.
 use Rattle.std.proofs.Common.{◌∙◌, ap, rules}
 use Rattle.std.proofs.lemmas.Result.{IfErr-weaker}
-use Rattle.htl_program.specs.Asking.{before_dialogue}
+use Rattle.htl_ask.specs.Asking.{before_dialogue}
 use Rattle.htl_program.proofs.Told.{run_told}
 use Rattle.htl_program.proofs.performing.do_converse.Goals as goal
 

@@ -1,0 +1,145 @@
+-- What is replied and told is what is said of the line, also where the reply could not be written.
+use Rattle.std.proofs.Common.{◌≡◌, ◌∙◌, ℕ, List, [], ◌∷◌, Ok, Err, inl, inr, map, refl, string_bytes}
+use Rattle.std.specs.Prelude.{Result}
+use Rattle.std.proofs.KnownBytes.{Appends-nil}
+use Rattle.std.proofs.lemmas.Result.{err_from_is_err_and}
+use Rattle.htl_dialogue.specs.Dialogues.{reading_reply}
+use Rattle.htl_dialogue.specs.Notes.{first_fault, reads, refuses}
+use Rattle.htl_dialogue.specs.Replying.{fault_of}
+use Rattle.htl_main.specs.declared.loading.adding.Added.{Added}
+use Rattle.htl_main.specs.declared.refused.Refused.{Refused}
+use Rattle.htl_ask.proofs.LinesAsked.{asks_nothing}
+use Rattle.htl_ask.proofs.dialogue.reply.Goals as goal
+use Rattle.htl_dialogue.specs.Sayings.{saying}
+
+fault_is_first : (files : List (List ℕ)) (ended : Result Added Refused) → fault_of ended ≡ first_fault (reads files ended ∷ [])
+fault_is_first files (Ok added) = refl
+fault_is_first files (Err refused) = refl
+
+pub returns-in-Nothing-clause-ok : goal.returns-in-Nothing-clause-ok
+returns-in-Nothing-clause-ok g c =
+    elim c.in-Nothing.is [
+      | inl is ↦ rw is (record {
+        reply = [];
+        early = [];
+        late = [];
+        replied = (refl, refl, refl);
+        told_late = refl;
+        written = Appends-nil (g.O.Sink.state c.args.out.now).contents;
+        all = refl;
+        wrong = c.fine.ensures.wrong;
+        first = c.fine.ensures.first;
+      })
+      | inr is ↦ rw is (record {
+        reply = [];
+        early = [];
+        late = [];
+        replied = (refl, refl, refl);
+        told_late = refl;
+        written = Appends-nil (g.O.Sink.state c.args.out.now).contents;
+        all = refl;
+        wrong = c.fine.ensures.wrong;
+        first = c.fine.ensures.first;
+      })
+    ]
+
+pub returns-in_ok-write-in-Wrong-clause-ok : goal.returns-in_ok-write-in-Wrong-clause-ok
+returns-in_ok-write-in-Wrong-clause-ok g c =
+    rw (c.in-Wrong.is) (record {
+      reply = 10 ∷ [];
+      early = refuses c.in-Wrong.fault ∷ [];
+      late = [];
+      replied = (refl, refl, (c.in-Wrong.fault, refl, refl));
+      told_late = refl;
+      written = c.in_ok-write-in-Wrong.ensures.ok;
+      all = c.refuses.ensures.told;
+      wrong = refl;
+      first = refl;
+    })
+
+pub returns-in_err-write-in-Wrong-clause-err : goal.returns-in_err-write-in-Wrong-clause-err
+returns-in_err-write-in-Wrong-clause-err g c =
+    let p = err_from_is_err_and c.from_residual.result c.from_residual.ensures.1 in
+    let failed = c.in_err-write-in-Wrong.ensures.err in
+    rw (p.1, p.2, failed.0, c.in-Wrong.is) (
+      failed.1,
+      record {
+        after = c.args.kept.now;
+        reply = 10 ∷ [];
+        early = refuses c.in-Wrong.fault ∷ [];
+        replied = (refl, refl, (c.in-Wrong.fault, refl, refl));
+        written = failed.2;
+        all = c.refuses.ensures.told;
+      },
+    )
+
+pub returns-in_ok-write-in-Reads-clause-ok : goal.returns-in_ok-write-in-Reads-clause-ok
+returns-in_ok-write-in-Reads-clause-ok g c =
+    let ended = c.in_ok-ended-in-Reads.ended in
+    let files = map string_bytes c.in-Reads.names.items in
+    rw (c.in-Reads.is) (record {
+      reply = reading_reply ended;
+      early = reads files ended ∷ [];
+      late = [];
+      replied = (ended, rw (c.deref.ensures.value) at c.in_ok-ended-in-Reads.ensures.read, refl, refl);
+      told_late = refl;
+      written = rw (c.as_bytes.ensures.value, c.in_ok-text-in-Reads.ensures) at c.in_ok-write-in-Reads.ensures.ok;
+      all = rw (c.deref-in-Reads.ensures.value) at c.reads.ensures.told;
+      wrong = refl;
+      first = c.fault_of.ensures ∙ fault_is_first files ended;
+    })
+
+pub returns-in_err-write-in-Reads-clause-err : goal.returns-in_err-write-in-Reads-clause-err
+returns-in_err-write-in-Reads-clause-err g c =
+    let p = err_from_is_err_and c.from_residual-in_err-write-in-Reads.result c.from_residual-in_err-write-in-Reads.ensures.1 in
+    let failed = rw (c.as_bytes.ensures.value, c.in_ok-text-in-Reads.ensures) at c.in_err-write-in-Reads.ensures.err in
+    let ended = c.in_ok-ended-in-Reads.ended in
+    let files = map string_bytes c.in-Reads.names.items in
+    rw (p.1, p.2, failed.0, c.in-Reads.is) (
+      failed.1,
+      record {
+        after = c.read.new.kept;
+        reply = reading_reply ended;
+        early = reads files ended ∷ [];
+        replied = (ended, rw (c.deref.ensures.value) at c.in_ok-ended-in-Reads.ensures.read, refl, refl);
+        written = failed.2;
+        all = rw (c.deref-in-Reads.ensures.value) at c.reads.ensures.told;
+      },
+    )
+
+pub returns-in_err-write-in-Wrong-clause-asked : goal.returns-in_err-write-in-Wrong-clause-asked
+returns-in_err-write-in-Wrong-clause-asked g c =
+    asks_nothing (g.W.World.state c.args.world.now) (saying c.args.said.now) (rw c.in-Wrong.is refl)
+
+pub returns-in_ok-write-in-Wrong-clause-asked : goal.returns-in_ok-write-in-Wrong-clause-asked
+returns-in_ok-write-in-Wrong-clause-asked g c =
+    asks_nothing (g.W.World.state c.args.world.now) (saying c.args.said.now) (rw c.in-Wrong.is refl)
+
+pub returns-in-Nothing-clause-asked : goal.returns-in-Nothing-clause-asked
+returns-in-Nothing-clause-asked g c =
+    elim c.in-Nothing.is [
+      | inl is ↦ asks_nothing (g.W.World.state c.args.world.now) (saying c.args.said.now) (rw is refl)
+      | inr is ↦ asks_nothing (g.W.World.state c.args.world.now) (saying c.args.said.now) (rw is refl)
+    ]
+
+pub returns-in-Asks-clause-ok : goal.returns-in-Asks-clause-ok
+returns-in-Asks-clause-ok g c = rw c.in-Asks.is (c.reply_to.ensures.ok (g.W.World.state c.args.world.now).known)
+
+pub returns-in-Asks-clause-err : goal.returns-in-Asks-clause-err
+returns-in-Asks-clause-err g c = rw c.in-Asks.is (c.reply_to.ensures.err (g.W.World.state c.args.world.now).known)
+
+pub returns-in-Asks-clause-asked : goal.returns-in-Asks-clause-asked
+returns-in-Asks-clause-asked g c =
+    asks_nothing (g.W.World.state c.args.world.now) (saying c.args.said.now) (rw c.in-Asks.is refl)
+
+pub returns-in_err-ended-in-Reads-clause-asked : goal.returns-in_err-ended-in-Reads-clause-asked
+returns-in_err-ended-in-Reads-clause-asked g c = rw c.in-Reads.is (rw c.deref.ensures.value at c.read.ensures.asked)
+
+pub returns-in_err-text-in-Reads-clause-asked : goal.returns-in_err-text-in-Reads-clause-asked
+returns-in_err-text-in-Reads-clause-asked g c = rw c.in-Reads.is (rw c.deref.ensures.value at c.read.ensures.asked)
+
+pub returns-in_ok-write-in-Reads-clause-asked : goal.returns-in_ok-write-in-Reads-clause-asked
+returns-in_ok-write-in-Reads-clause-asked g c = rw c.in-Reads.is (rw c.deref.ensures.value at c.read.ensures.asked)
+
+pub returns-in_err-write-in-Reads-clause-asked : goal.returns-in_err-write-in-Reads-clause-asked
+returns-in_err-write-in-Reads-clause-asked g c = rw c.in-Reads.is (rw c.deref.ensures.value at c.read.ensures.asked)

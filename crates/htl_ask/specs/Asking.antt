@@ -1,0 +1,275 @@
+-- What asking comes to (this project's own). Who answers is known by what was read so far, as far as that is known: the texts of all
+-- inputs, where their segments are kept, or the segments that were taken, where these are forgotten. A question gets the text that a run of
+-- its own over these prints, or isn't answered while a segment is missing of a trace that is asked for complete.
+use Rattle.std.specs.Prelude.{◌≡◌, ◌≢◌, ◌≤◌, ◌⊎◌, ◌++◌, ◌∷◌, [], ⊤, ℕ, Bool, true, false, List, Option, None, Some, Result, Ok, Err, IfErr}
+use Rattle.std.specs.Prelude.{IfSome, is_some, length, map, option_map}
+use Rattle.htl_case.specs.Cases.{IsCaseOf}
+use Rattle.htl_command.specs.declared.question.Job.{Job}
+use Rattle.htl_command.specs.declared.question.Setting.{Setting}
+use Rattle.htl_device.specs.States.{SourceState, ends, good_reads, has_failed, lefts}
+use Rattle.htl_device.specs.declared.whole.TheConstants.{MAX_READS}
+use Rattle.htl_inputs.specs.CutInputs.{AreCut}
+use Rattle.htl_inputs.specs.Inputs.{DecodeAll}
+use Rattle.htl_inputs.specs.Sources.{IsEndless, IsTrueAt}
+use Rattle.htl_inputs.specs.declared.cuts.CutInputs.{CutInputs}
+use Rattle.htl_inputs.specs.declared.fault.RunFault.{RunFault}
+use Rattle.htl_inputs.specs.declared.fault.RunFault.TheVariants.{Incomplete, Memory, Read}
+use Rattle.htl_dialogue.specs.Dialogues.{Answers, Gets, answers_by}
+use Rattle.htl_dialogue.specs.Lines.{lines_of_dialogue}
+use Rattle.htl_dialogue.specs.Notes.{Note, begins}
+use Rattle.htl_dialogue.specs.declared.dialogue.DialogueFault.TheVariants.{Questions, Write}
+use Rattle.htl_main.specs.Completeness.{IsComplete, IsLeastMissing}
+use Rattle.htl_main.specs.Coverages.{IsCoverage}
+use Rattle.htl_main.specs.Folding.{Folding, IsAskedOver, IsBeginningRefused, IsCollectionOf, IsFolded, IsFoldingRefused, IsHalfKnown}
+use Rattle.htl_main.specs.Folding.{folding}
+use Rattle.htl_main.specs.Loading.{AreLoadedOf, in_setting}
+use Rattle.htl_main.specs.Origins.{IsBetween, by_fault}
+use Rattle.htl_main.specs.Printed.{HasSymbols, IsText, Printed}
+use Rattle.htl_main.specs.Causes.{IsSourcesCause}
+use Rattle.htl_main.specs.Remarks.{RemarksOver, ReportsRemarks}
+use Rattle.htl_main.specs.Runs.{EndsAdding}
+use Rattle.htl_main.specs.Subjects.{ReportsAbsence}
+use Rattle.htl_main.specs.declared.loading.adding.Added.{Added}
+use Rattle.htl_main.specs.declared.completed.Absence.{Absence}
+use Rattle.htl_main.specs.declared.coverage.Coverage.{Coverage}
+use Rattle.htl_main.specs.declared.origin.Between.{Between}
+use Rattle.htl_main.specs.declared.printing.AnswerText.{AnswerText}
+use Rattle.htl_main.specs.declared.refused.Refused.{Refused}
+use Rattle.htl_main.specs.declared.remarks.Remarks.{Remarks}
+use Rattle.htl_segment.specs.Content.{Content}
+use Rattle.htl_segment.specs.Traces.{Trace}
+use Rattle.htl_symbols.specs.Ranges.{Range}
+use Rattle.htl_main.specs.declared.origin.Between.TheVariants.{Nothing}
+use Rattle.htl_world.specs.Endings.{IsUnopened}
+use Rattle.htl_world.specs.Readings.{AreAskedFor, AreInputs}
+use Rattle.htl_world.specs.Worlds.{Known, IsFirstAbsent, IsFirstRefused}
+use Rattle.htl_ask.specs.declared.ask_fault.AskFault.{AskFault}
+use Rattle.htl_ask.specs.declared.ask_fault.AskFault.TheVariants.{Run, Dialogue}
+
+-- the job of a run of its own, whose status says nothing of what its answer finds
+abbrev pub own_run : Setting → Job → Job
+own_run setting job = record (in_setting setting job) { exit_code = false }
+
+-- This is what a run of its own prints for the job, over these inputs and symbols, read in this setting.
+abbrev pub IsRunsText : Setting → Option (List ℕ) → List (List ℕ) → Job → List ℕ → Type 0
+IsRunsText setting symbols inputs job text = Printed (own_run setting job) inputs symbols (Ok text)
+
+-- This is what it tells of its answer, and why nothing can be found of what is asked about.
+abbrev pub AreRunsRemarks : Setting → Option (List ℕ) → List (List ℕ) → Job → Remarks → Type 0
+AreRunsRemarks setting symbols inputs job remarks = ReportsRemarks (own_run setting job) inputs symbols remarks
+
+abbrev pub IsRunsAbsence : Setting → List (List ℕ) → Job → Option Absence → Type 0
+IsRunsAbsence setting inputs job absence = ReportsAbsence inputs (own_run setting job) absence
+
+-- This answers the job over a trace, with these names of addresses.
+pub record IsAnswerText (T : Trace) (table : List Range) (job : Job) (answer : AnswerText) : Type 0 where
+  pub text : IsText T table job answer.lines.items
+  pub remarks : RemarksOver T table job answer.remarks
+
+-- ---- what was read
+
+-- what was read so far: inputs of these texts, whose segments are kept; or these segments, which were taken and forgotten
+pub data Taken : Type 0 where
+  inputs : List (List ℕ) → Taken
+  segments : List Content → Taken
+
+-- This is what a run prints and tells over the first segment of each key, where the question can be asked over these: the answer by the
+-- definition's value over all of them. Where a complete trace is asked for, none is missing.
+abbrev pub IsFoldsAnswer : Setting → Option (List ℕ) → List Content → Job → AnswerText → Type 0
+IsFoldsAnswer setting symbols taken job answer =
+    (T : Trace) → IsAskedOver job.question taken T
+    → ((table : List Range) × HasSymbols symbols table × IsAnswerText T table job answer) × (setting.complete ≡ true → IsComplete T [])
+
+-- A complete trace is asked for, and of the segments that were taken this is the least key that is missing.
+abbrev pub IsFoldsGap : Setting → List Content → RunFault → Type 0
+IsFoldsGap setting taken (Incomplete processor number) =
+    (setting.complete ≡ true) × ((T : Trace) → IsCollectionOf taken T → IsLeastMissing T [] processor number)
+IsFoldsGap setting taken fault = ⊥
+
+-- The answer to a question, or why it isn't answered: a gap of what was taken and forgotten. (Inputs whose segments are kept have none
+-- where a complete trace is asked for, since they would have been refused.)
+abbrev pub IsOutcomeOver : Setting → Option (List ℕ) → Option Taken → Job → Result AnswerText RunFault → Type 0
+IsOutcomeOver setting symbols None job outcome = ⊤
+IsOutcomeOver setting symbols (Some (inputs texts)) job (Ok answer) =
+    IsRunsText setting symbols texts job answer.lines.items × AreRunsRemarks setting symbols texts job answer.remarks
+IsOutcomeOver setting symbols (Some (inputs texts)) job (Err fault) = ⊥
+IsOutcomeOver setting symbols (Some (segments taken)) job (Ok answer) = IsFoldsAnswer setting symbols taken job answer
+IsOutcomeOver setting symbols (Some (segments taken)) job (Err fault) = IsFoldsGap setting taken fault
+
+-- Why nothing can be found of what a question is about. Where events were forgotten, it is never told that nothing can.
+abbrev pub IsAbsenceOver : Setting → Option Taken → Job → Option Absence → Type 0
+IsAbsenceOver setting None job absence = ⊤
+IsAbsenceOver setting (Some (inputs texts)) job absence = IsRunsAbsence setting texts job absence
+IsAbsenceOver setting (Some (segments taken)) job absence = absence ≡ None
+
+-- ---- reading more
+
+-- memory was refused
+abbrev pub RunsOut : {S : Type 0} → Result S Refused → Type 0
+RunsOut (Ok done) = ⊥
+RunsOut (Err refused) = (refused.fault ≡ Memory) × (refused.between ≡ Nothing)
+
+-- The names were opened and read as any run reads its sources, which these are by now. The first name for which there is nothing is
+-- reported by its place, and a failed read of a name that was refused, or of a source whose read failed or gave bytes too often.
+pub record ReadsNames {S : Type 0} (world : Known) (setting : Setting) (names : List (List ℕ)) (sources : List SourceState)
+    (result : Result S RunFault) : Type 0 where
+  pub absent : (place : ℕ) → IsFirstAbsent (map world.holds names) (map world.is_absent names) place → IsUnopened place result
+  pub reading : AreInputs setting.form.hex (map world.holds names) (map world.holds names) (map world.is_absent names) sources result
+  pub readers : AreAskedFor setting (map world.holds names) sources
+  pub read : (place : ℕ) → result ≡ Err (Read place)
+      → IsFirstRefused (map world.holds names) (map world.is_absent names) place
+      ⊎ (IsTrueAt (map has_failed sources) place ⊎ IsEndless (map good_reads sources) (map world.holds names) place)
+
+-- What came of adding sources of these texts to what was read of inputs.
+pub record AddsTo (setting : Setting) (inputs texts : List (List ℕ)) (sources : List SourceState) (ended : Result Added Refused)
+    : Type 0 where
+  pub segments : List Content
+  pub decoded : DecodeAll setting.form inputs segments
+  pub before : Trace
+  pub case : IsCaseOf segments before
+  pub after : Trace
+  pub adds : EndsAdding setting before.segments texts sources after ended
+
+-- what comes of a reading that folds, where this holds of all segments that were taken then
+abbrev pub IsFolding : Folding → (List Content → Type 0) → Result Added Refused → Type 0
+IsFolding of Keeps (Ok added) = IsFolded of.setting of.before of.inputs Keeps added
+IsFolding of Keeps (Err refused) = IsFoldingRefused of Keeps refused.fault × IsHalfKnown refused.fault refused.between
+
+-- What is known of names: they all hold these texts; or there is nothing to open for one of them, and what those before it hold is known;
+-- or it is unknown what one of them holds.
+pub data Found : Type 0 where
+  all_hold : List (List ℕ) → Found
+  one_is_absent : Found
+  unknown : Found
+
+-- the same with one name more in front, by what it holds and whether there is nothing to open
+abbrev pub found_with : Option (List ℕ) → Bool → Found → Found
+found_with (Some text) absent (all_hold texts) = all_hold (text ∷ texts)
+found_with (Some text) absent more = more
+found_with None true more = one_is_absent
+found_with None false more = unknown
+
+abbrev pub found : Known → List (List ℕ) → Found
+found world [] = all_hold []
+found world (name ∷ more) = found_with (world.holds name) (world.is_absent name) (found world more)
+
+-- this holds of their texts, where these are known
+abbrev pub IfAllHold : Found → (List (List ℕ) → Type 0) → Type 0
+IfAllHold (all_hold texts) P = P texts
+IfAllHold other P = ⊤
+
+-- the inputs once all files were read: files of unknown texts leave them unknown
+abbrev pub inputs_with : List (List ℕ) → Found → Option Taken
+inputs_with before (all_hold texts) = Some (inputs (before ++ texts))
+inputs_with before other = None
+
+-- the inputs by then: refused files leave those from before
+abbrev pub inputs_then : List (List ℕ) → Found → Result Added Refused → Option Taken
+inputs_then before more (Ok added) = inputs_with before more
+inputs_then before more (Err refused) = Some (inputs before)
+
+-- The dialogue goes on: where memory was refused to what forgets, it isn't known what was taken, and nothing more is answered.
+abbrev pub GoesOn : Result Added Refused → Type 0
+GoesOn ended = IfErr ended (λ refused. refused.fault ≢ Memory)
+
+-- What was read before leads to what was read then, where files were read, of whose names this is known. If one of them couldn't be opened,
+-- nothing was read of any.
+abbrev pub LeadsTo : Setting → Option Taken → Found → List SourceState → Option Taken → Result Added Refused → Type 0
+LeadsTo setting None more sources after ended = after ≡ None
+LeadsTo setting (Some (inputs before)) more sources after ended =
+    (after ≡ inputs_then before more ended) × IfAllHold more (λ texts. AddsTo setting before texts sources ended ⊎ RunsOut ended)
+LeadsTo setting (Some (segments before)) unknown sources after ended = GoesOn ended × (after ≡ None)
+LeadsTo setting (Some (segments before)) one_is_absent sources after ended = GoesOn ended × (after ≡ Some (segments before))
+LeadsTo setting (Some (segments before)) (all_hold texts) sources after ended =
+    GoesOn ended × (taken : List Content) × (after ≡ Some (segments taken))
+    × IsFolding (folding setting before texts sources) (λ all. all ≡ taken) ended
+
+-- Files of these names were read in a world, and that ended so.
+pub record ReadsMore (world : Known) (setting : Setting) (before : Option Taken) (names : List (List ℕ))
+    (after : Option Taken) (ended : Result Added Refused) : Type 0 where
+  pub sources : List SourceState
+  pub reads : ReadsNames world setting names sources (by_fault ended)
+  pub leads : LeadsTo setting before (found world names) sources after ended
+
+-- Who answers from what was read so far.
+abbrev pub answers_over : Known → Setting → Bool → Option (List ℕ) → Answers (Option Taken)
+answers_over world setting forgets symbols =
+    answers_by forgets (is_some symbols) (IsOutcomeOver setting symbols) (IsAbsenceOver setting) (ReadsMore world setting)
+
+-- ---- the beginning
+
+-- what an audience is told before the first line: how much of their trace the inputs have, and which of them end within a segment
+pub record Opening : Type 0 where
+  pub coverage : Coverage
+  pub cut : Option CutInputs
+
+-- All segments of the inputs were loaded, with the names of the table, as a run does before its answer; and what is told holds of them.
+pub record OpensLoaded (setting : Setting) (symbols : Option (List ℕ)) (texts : List (List ℕ)) (opening : Opening) : Type 0 where
+  pub case : Trace
+  pub names : List Range
+  pub loaded : AreLoadedOf texts symbols setting None case names
+  pub coverage : IsCoverage case opening.coverage
+  pub cut : AreCut setting.form.hex texts opening.cut
+
+-- All segments of the inputs were taken and folded, and the table has no fault. It is told how much of their trace the segments have that
+-- are a case.
+pub record OpensFolded (setting : Setting) (symbols : Option (List ℕ)) (texts : List (List ℕ)) (taken : List Content) (opening : Opening)
+    : Type 0 where
+  pub added : Added
+  pub folded : IsFolded setting [] texts (λ all. all ≡ taken) added
+  pub names : List Range
+  pub named : HasSymbols symbols names
+  pub coverage : opening.coverage ≡ added.coverage
+  pub cut : opening.cut ≡ added.cut
+
+-- What was read before the first line, of inputs of these texts and of a table of symbols. So no dialogue begins over a table that has a
+-- fault, or over a gap where a complete trace is asked for.
+abbrev pub Begins : Bool → Setting → Option (List ℕ) → List (List ℕ) → Taken → Opening → Type 0
+Begins false setting symbols texts (inputs read) opening = (read ≡ texts) × OpensLoaded setting symbols texts opening
+Begins true setting symbols texts (segments taken) opening = OpensFolded setting symbols texts taken opening
+Begins folds setting symbols texts read opening = ⊥
+
+-- the first note, on files of these names
+abbrev pub opening_note : List (List ℕ) → Coverage → Option CutInputs → Note
+opening_note names coverage cut =
+    begins names coverage.gaps coverage.complete_to (option_map (λ inputs. (inputs.first, inputs.others)) cut)
+
+-- A sink got these replies, and the audience these notes, after it was told this of the files of these names.
+abbrev pub BeginsAndGets : {Host : Type 0} → List (List ℕ) → Option (List ℕ) → Option (List ℕ) → (Host → Note → Host) → Host → Host
+    → Opening → List ℕ → List Note → Type 0
+BeginsAndGets names old new told audience after opening replies notes =
+    Gets old new told audience after replies (opening_note names opening.coverage opening.cut ∷ notes)
+
+-- why a run of its own over sources of these bytes would end, whatever it is asked of all events
+abbrev pub IsRunsCause : Setting → Option (List ℕ) → List (List ℕ) → List SourceState → RunFault → Type 0
+IsRunsCause setting symbols texts sources fault =
+    (job : Job) → job.until ≡ None → IsSourcesCause (in_setting setting job) texts (lefts sources) (ends sources) symbols fault
+
+-- why nothing can be asked, in each form
+abbrev pub IsBeginsCause : Bool → Setting → Option (List ℕ) → List (List ℕ) → List SourceState → RunFault → Type 0
+IsBeginsCause false setting symbols texts sources fault = IsRunsCause setting symbols texts sources fault
+IsBeginsCause true setting symbols texts sources fault = IsBeginningRefused setting symbols texts sources fault
+
+-- which two segments that is about
+abbrev pub IsBeginsBetween : Bool → Setting → List (List ℕ) → RunFault → Between → Type 0
+IsBeginsBetween false setting texts fault between = IsBetween setting.form texts fault between
+IsBeginsBetween true setting texts fault between = IsHalfKnown fault between
+
+-- After 2^32 reads that gave bytes, or as many lines where the text is known, the questions are taken for endless.
+abbrev pub AreEndless : Option (List ℕ) → SourceState → Type 0
+AreEndless text left = (MAX_READS ≤ left.good_reads) ⊎ IfSome text (λ text. MAX_READS ≤ length (lines_of_dialogue text))
+
+-- What failed of the questions and of the output is reported, and nothing else is reported as failed. It is given what text the questions
+-- have, where that is known, and how they are left.
+pub record ReportsDevices {S : Type 0} (text : Option (List ℕ)) (left : SourceState) (write_failed : Bool) (ended : Result S AskFault)
+    : Type 0 where
+  pub lines : left.failed ≡ true → ended ≡ Err (Dialogue Questions)
+  pub unread : ended ≡ Err (Dialogue Questions) → (left.failed ≡ true) ⊎ AreEndless text left
+  pub full : write_failed ≡ true → ended ≡ Err (Dialogue Write)
+  pub unwritten : ended ≡ Err (Dialogue Write) → write_failed ≡ true
+
+-- how what comes before the dialogue ends: what ends the dialogue is no fault of it
+abbrev pub before_dialogue : {S : Type 0} → Result S AskFault → Result (Unit {0}) Refused
+before_dialogue (Ok conversed) = Ok tt
+before_dialogue (Err (Run refused)) = Err refused
+before_dialogue (Err (Dialogue fault)) = Ok tt

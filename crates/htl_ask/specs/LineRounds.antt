@@ -1,0 +1,38 @@
+-- What a world is asked for by the lines of a dialogue (this project's own): by each line that reads, its names once and in order.
+use Rattle.std.specs.Prelude.{◌≡◌, ◌++◌, ◌∷◌, ◌⊎◌, [], ⊤, ℕ, Bool, List, All, Option, Some, None, Result, Ok, Err}
+use Rattle.htl_inputs.specs.declared.fault.RunFault.{RunFault}
+use Rattle.htl_dialogue.specs.Dialogues.{asked_lines}
+use Rattle.htl_dialogue.specs.Sayings.{Saying, reads, saying_in}
+use Rattle.htl_world.specs.Worlds.{Ask, to_open}
+use Rattle.htl_world.specs.Rounds.{EndsEarly, all_opened}
+
+-- a name was asked for: not standard input, and no table of symbols
+abbrev pub IsOfName : Ask → Type 0
+IsOfName (to_open name why) = ⊤
+IsOfName other = ⊥
+
+-- Names were asked for one after the other, each once: all of them, or those up to one at which that ended.
+abbrev pub AsksNames : List (List ℕ) → List Ask → Type 0
+AsksNames names asks = (asks ≡ all_opened names) ⊎ ((fault : RunFault) × EndsEarly names (all_opened names) fault asks)
+
+-- what is asked for by what a line says: the names that it reads
+abbrev pub LineAsks : Saying → List Ask → Type 0
+LineAsks (reads names) asks = AsksNames names asks
+LineAsks other asks = asks ≡ []
+
+-- The same by lines, one after the other, in a dialogue that forgets events or keeps them.
+abbrev pub LinesAsk : Bool → List (List ℕ) → List Ask → Type 0
+LinesAsk forgets [] asks = asks ≡ []
+LinesAsk forgets (line ∷ more) asks =
+    (own later : List Ask) × LineAsks (saying_in forgets line) own × LinesAsk forgets more later × (asks ≡ own ++ later)
+
+-- The lines of a text asked for what they read, up to one of them. Where the text isn't known, only names were asked for.
+abbrev pub DialogueAsks : Bool → Option (List ℕ) → List Ask → Type 0
+DialogueAsks forgets None asks = All IsOfName asks
+DialogueAsks forgets (Some text) asks =
+    (earlier later : List (List ℕ)) × (asked_lines text ≡ earlier ++ later) × LinesAsk forgets earlier asks
+
+-- Once a dialogue began, its lines asked; where it didn't begin, nothing more was asked for.
+abbrev pub AsksLater : {S E : Type 0} → Bool → Option (List ℕ) → Result S E → List Ask → Type 0
+AsksLater forgets text (Ok began) asks = DialogueAsks forgets text asks
+AsksLater forgets text (Err why) asks = asks ≡ []

@@ -1,0 +1,137 @@
+-- For the clauses of private functions: what is kept answers the lines of a dialogue, before files are read and after.
+use Rattle.std.specs.Prelude.{◌≡◌, ◌⊎◌, [], ⊤, ℕ, Bool, true, false, List, IfErr, IfOk, OnOk, None, Some, Option, Result, Ok, Err, map}
+use Rattle.htl_command.specs.Needs.{needs_events}
+use Rattle.htl_command.specs.declared.question.Job.{Job}
+use Rattle.htl_command.specs.declared.question.Setting.{Setting}
+use Rattle.htl_device.specs.States.{SourceState, IfKnown}
+use Rattle.htl_inputs.specs.declared.fault.RunFault.{RunFault}
+use Rattle.htl_inputs.specs.declared.fault.RunFault.TheVariants.{Incomplete, Memory}
+use Rattle.htl_dialogue.specs.Dialogues.{Answers, answers_by}
+use Rattle.htl_dialogue.specs.declared.saying.Said.{Said}
+use Rattle.htl_dialogue.specs.declared.saying.Said.TheVariants as said
+use Rattle.htl_main.specs.Completeness.{IsComplete, IsLeastMissing}
+use Rattle.htl_main.specs.Coverages.{IsCoverage}
+use Rattle.htl_main.specs.Folding.{AreFolded, IsAskedOver, IsCollectionOf, folding}
+use Rattle.htl_main.specs.Loading.{AreLoadedOf}
+use Rattle.htl_main.specs.Origins.{by_fault}
+use Rattle.htl_main.specs.Printed.{HasSymbols, WorkersFit}
+use Rattle.htl_inputs.specs.Readings.{AreRead, AskForReaders}
+use Rattle.htl_main.specs.Runs.{EndsAdding}
+use Rattle.htl_main.specs.Subjects.{HasAbsence}
+use Rattle.htl_main.specs.declared.loading.adding.Added.{Added}
+use Rattle.htl_main.specs.declared.completed.Absence.{Absence}
+use Rattle.htl_main.specs.declared.folding.Folded.{Folded}
+use Rattle.htl_main.specs.declared.loading.Loaded.{Loaded}
+use Rattle.htl_main.specs.declared.printing.AnswerText.{AnswerText}
+use Rattle.htl_main.specs.declared.refused.Refused.{Refused}
+use Rattle.htl_segment.specs.Content.{Content}
+use Rattle.htl_segment.specs.Traces.{Trace}
+use Rattle.htl_world.specs.Worlds.{Known}
+use Rattle.htl_ask.specs.Asking.{Begins, GoesOn, IsAnswerText, IsBeginsBetween, IsBeginsCause, IsFolding, ReadsNames, Taken, RunsOut, found}
+use Rattle.htl_ask.specs.Asking.{inputs, one_is_absent, segments}
+use Rattle.htl_ask.specs.declared.kept.Begun.{Begun}
+use Rattle.htl_ask.specs.declared.kept.Kept.{Kept}
+use Rattle.htl_ask.specs.declared.kept.Kept.TheVariants.{Case, State}
+
+abbrev pub is_state : Kept → Bool
+is_state (Case loaded) = false
+is_state (State folded) = true
+
+-- memory was refused
+abbrev pub is_memory : RunFault → Bool
+is_memory Memory = true
+is_memory fault = false
+
+-- a question is one that what is kept answers
+abbrev pub IsOfForm : Bool → Said → Type 0
+IsOfForm forgets (said.Asks job) = forgets ≡ true → needs_events job ≡ false
+IsOfForm forgets other = ⊤
+
+-- ---- what is kept
+
+-- This answers the job, or it isn't answered for this fault. That the coverage of a case is known is a premise, which every step keeps; and
+-- so is that a state was folded of segments. What is asked for complete and misses a segment isn't answered.
+abbrev pub HasOutcomeIn : Bool → Kept → Job → Result AnswerText RunFault → Type 0
+HasOutcomeIn complete (Case loaded) job (Ok answer) =
+    IsCoverage loaded.case loaded.coverage → IsAnswerText loaded.case loaded.symbols job answer
+HasOutcomeIn complete (State folded) job (Ok answer) =
+    (taken : List Content) (T : Trace) → AreFolded folded.analyst taken → IsAskedOver job.question taken T
+    → IsAnswerText T folded.symbols job answer × (complete ≡ true → IsComplete T [])
+HasOutcomeIn complete (State folded) job (Err (Incomplete processor number)) =
+    (complete ≡ true) × ((taken : List Content) (T : Trace) → AreFolded folded.analyst taken → IsCollectionOf taken T
+    → IsLeastMissing T [] processor number)
+HasOutcomeIn complete kept job (Err fault) = ⊥
+
+-- a state can't tell that nothing can be found
+abbrev pub HasAbsenceIn : Kept → Job → Option Absence → Type 0
+HasAbsenceIn (Case loaded) job absence = IsCoverage loaded.case loaded.coverage → HasAbsence loaded.case job absence
+HasAbsenceIn (State folded) job absence = absence ≡ None
+
+-- What is kept is of what was read, where that is known.
+abbrev pub AreKept : Setting → Option (List ℕ) → Kept → Taken → Type 0
+AreKept setting symbols (Case loaded) (inputs texts) = AreLoadedOf texts symbols setting None loaded.case loaded.symbols
+AreKept setting symbols (State folded) (segments taken) = AreFolded folded.analyst taken × HasSymbols symbols folded.symbols
+AreKept setting symbols kept read = ⊥
+
+-- ---- reading more
+
+-- Files of these names were read in a world and added to what was loaded, and that ended so.
+pub record AddsFiles (world : Known) (setting : Setting) (before : Loaded) (names : List (List ℕ)) (after : Loaded)
+    (ended : Result Added Refused) : Type 0 where
+  pub sources : List SourceState
+  pub reads : ReadsNames world setting names sources (by_fault ended)
+  pub adds : (texts : List (List ℕ)) → map world.holds names ≡ map Some texts
+      → EndsAdding setting before.case.segments texts sources after.case ended ⊎ RunsOut ended
+  pub coverage : IfOk ended (λ added. IsCoverage after.case after.coverage)
+  pub symbols : after.symbols ≡ before.symbols
+  pub same : IfErr ended (λ refused. after ≡ before)
+
+-- The same of files that were folded behind what was folded. After refused memory it isn't known how they were read and what was taken.
+pub record FoldsFiles (world : Known) (setting : Setting) (before : Folded) (names : List (List ℕ)) (after : Folded)
+    (ended : Result Added Refused) : Type 0 where
+  pub sources : List SourceState
+  pub reads : GoesOn ended → ReadsNames world setting names sources (by_fault ended)
+  pub folds : GoesOn ended → (taken : List Content) (texts : List (List ℕ)) → AreFolded before.analyst taken
+      → map world.holds names ≡ map Some texts
+      → IsFolding (folding setting taken texts sources) (AreFolded after.analyst) ended
+  pub unopened : found world names ≡ one_is_absent → after ≡ before
+  pub symbols : after.symbols ≡ before.symbols
+
+abbrev pub ReadsFiles : Known → Setting → Kept → List (List ℕ) → Kept → Result Added Refused → Type 0
+ReadsFiles world setting (Case before) names (Case after) ended = AddsFiles world setting before names after ended
+ReadsFiles world setting (State before) names (State after) ended = FoldsFiles world setting before names after ended × GoesOn ended
+ReadsFiles world setting before names after ended = ⊥
+
+-- ---- a dialogue
+
+-- who answers from what is kept
+abbrev pub answers_from : Known → Setting → Bool → Bool → Answers Kept
+answers_from world setting forgets has_table =
+    answers_by forgets has_table (HasOutcomeIn setting.complete) HasAbsenceIn (ReadsFiles world setting)
+
+-- What there is before the first line, by what was read.
+pub record IsBegun (folds : Bool) (setting : Setting) (symbols : Option (List ℕ)) (texts : List (List ℕ)) (begun : Begun) : Type 0 where
+  pub read : Taken
+  pub kept : AreKept setting symbols begun.kept read
+  pub opens : Begins folds setting symbols texts read (record { coverage = begun.coverage; cut = begun.cut })
+
+-- how much of its trace a case has is known
+abbrev pub IsCovered : Kept → Type 0
+IsCovered (Case loaded) = IsCoverage loaded.case loaded.coverage
+IsCovered (State folded) = ⊤
+
+-- A dialogue has something before its first line; or there is a reason why not, and two segments that it is about.
+abbrev pub EndsKeeping : Bool → Setting → Option (List ℕ) → List (List ℕ) → List SourceState → Result Begun Refused → Type 0
+EndsKeeping folds setting symbols texts new (Ok begun) = IsBegun folds setting symbols texts begun
+EndsKeeping folds setting symbols texts new (Err refused) =
+    IsBeginsCause folds setting symbols texts new refused.fault × IsBeginsBetween folds setting texts refused.fault refused.between
+
+-- Inputs were read, and their segments kept or folded.
+pub record KeepsAs (folds : Bool) (setting : Setting) (symbols : Option (List ℕ)) (old new : List SourceState)
+    (result : Result Begun Refused) : Type 0 where
+  pub outcome : IfKnown old (λ texts. EndsKeeping folds setting symbols texts new result)
+  pub form : IfOk result (λ begun. is_state begun.kept ≡ folds)
+  pub coverage : IfOk result (λ begun. IsCovered begun.kept)
+  pub workers : OnOk result (WorkersFit setting.workers)
+  pub reading : AreRead setting.form.hex old new (by_fault result)
+  pub readers : AskForReaders setting.form.hex setting.workers old new

@@ -1,0 +1,124 @@
+//! A dialogue in a world: the files are read once, and each line of standard input gets its reply.
+
+ghost use Rattle.std.specs.Prelude.{◌≡◌, IfErr, false, map, option_copied};
+ghost use Rattle.htl_device.specs.States.{AreOpen, IfKnown, IsOpen};
+ghost use Rattle.htl_inputs.specs.Readings.{AreRead, AskForReaders};
+ghost use Rattle.htl_main.specs.Origins.{by_fault};
+ghost use Rattle.htl_world.specs.Rounds.{Asks};
+ghost use Rattle.htl_world.specs.Worlds.{change};
+ghost use Rattle.htl_ask.specs.Asking.{IsBeginsBetween, ReportsDevices, before_dialogue};
+ghost use Rattle.htl_ask.specs.Outcomes.{EndsConversing, IsConversed, talk};
+ghost use Rattle.htl_ask.specs.LineRounds.{AsksLater};
+
+use crate::ask_fault::AskFault;
+use crate::dialogue::converse_lines;
+use crate::files::Files;
+use crate::kept::{Begun, begin};
+use crate::speaker::Speaker;
+use htl_device::{Sink, Source};
+use htl_dialogue::Conversed;
+use htl_main::{Between, Refused};
+use htl_world::{World, as_bytes, open_all};
+use std::alloc::Global;
+use std::thread::Threads;
+
+/// Opens the named files and the table of symbols, and then replies to each line of the questions.
+/// The first file that can't be opened is reported, or else the table, before a question is read.
+///
+/// Afterwards `inputs` has what was opened, as far as it was read.
+pub fn converse<Rt: Threads + Sync, W: World, Q: Source, O: Sink, H: Speaker>(
+    alloc: Global,
+    world: &mut W,
+    files: &Files<Rt>,
+    inputs: &mut Vec<W::Input>,
+    questions: &mut Q,
+    out: &mut O,
+    speaker: &mut H,
+) -> Result<Conversed, AskFault>
+    requires questions { IsOpen (Q.state questions.old) }
+    requires out { (O.state out.old).failed ≡ false }
+    ensures conversed { IsConversed (change (W.state world.old) (W.state world.new))
+        (map W.Input.state inputs.new.items) files.now.dialogue.now
+        (talk (Q.state questions.old) (Q.state questions.new) (O.state out.old) (O.state out.new)
+        H.told (H.wants_absence speaker.old) speaker.old speaker.new) result }
+    ensures untouched { IfErr (before_dialogue result)
+        (λ _. (questions.new ≡ questions.old) × (out.new ≡ out.old)
+        × (speaker.new ≡ speaker.old)) }
+{
+    let of = files.dialogue;
+    match open_all(alloc, world, &of.files, of.symbols.as_ref(), inputs) {
+        Ok(table) => {
+            let symbols = as_bytes(&table);
+            ask_opened(
+                alloc, world, files, inputs, symbols, questions, out, speaker,
+            )
+        }
+        Err(fault) => Err(AskFault::Run(Refused {
+            fault,
+            between: Between::Nothing,
+        })),
+    }
+}
+
+/// Replies to the lines over opened inputs.
+fn ask_opened<Rt: Threads + Sync, W: World, Q: Source, O: Sink, H: Speaker>(
+    alloc: Global,
+    world: &mut W,
+    files: &Files<Rt>,
+    inputs: &mut Vec<W::Input>,
+    symbols: Option<&[u8]>,
+    questions: &mut Q,
+    out: &mut O,
+    speaker: &mut H,
+) -> Result<Conversed, AskFault>
+    requires ready { AreOpen (map W.Input.state inputs.old.items) }
+    requires questions { IsOpen (Q.state questions.old) }
+    requires out { (O.state out.old).failed ≡ false }
+    ensures outcome { IfKnown (map W.Input.state inputs.old.items) (λ texts. EndsConversing
+        (W.state world.old).known (map W.Input.state inputs.new.items) files.now.dialogue.now
+        (talk (Q.state questions.old) (Q.state questions.new) (O.state out.old) (O.state out.new)
+        H.told (H.wants_absence speaker.old) speaker.old speaker.new)
+        texts (option_copied symbols.entry) result) }
+    ensures devices { ReportsDevices (Q.state questions.old).remaining (Q.state questions.new)
+        (O.state out.new).failed result }
+    ensures between { IfKnown (map W.Input.state inputs.old.items) (λ texts.
+        IfErr (before_dialogue result) (λ refused. IsBeginsBetween files.now.dialogue.now.folds
+        files.now.dialogue.now.setting texts refused.fault refused.between)) }
+    ensures reading { AreRead files.now.dialogue.now.setting.form.hex
+        (map W.Input.state inputs.old.items) (map W.Input.state inputs.new.items)
+        (by_fault (before_dialogue result)) }
+    ensures readers { AskForReaders files.now.dialogue.now.setting.form.hex
+        files.now.dialogue.now.setting.workers (map W.Input.state inputs.old.items)
+        (map W.Input.state inputs.new.items) }
+    ensures asked { Asks (change (W.state world.old) (W.state world.new))
+        (AsksLater files.now.dialogue.now.folds (Q.state questions.old).remaining
+        (before_dialogue result)) }
+    ensures untouched { IfErr (before_dialogue result)
+        (λ _. (questions.new ≡ questions.old) × (out.new ≡ out.old)
+        × (speaker.new ≡ speaker.old)) }
+{
+    let Begun {
+        mut kept,
+        coverage,
+        cut,
+    } = begin(
+        files.rt,
+        alloc,
+        files.dialogue.folds,
+        files.dialogue.setting,
+        inputs,
+        symbols,
+    )?;
+    speaker.begins(&files.dialogue.files, coverage, cut);
+    let conversed = converse_lines(
+        alloc,
+        world,
+        files,
+        &mut kept,
+        symbols.is_some(),
+        questions,
+        out,
+        speaker,
+    )?;
+    Ok(conversed)
+}

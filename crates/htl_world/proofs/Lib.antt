@@ -1,0 +1,5 @@
+pub mod Names
+pub mod FirstAbsent
+pub mod PassedOn
+pub mod Asked
+pub mod NamesRead

@@ -27,6 +27,8 @@ const SITES: Question = Question::Sites {
     at_least: 1,
 };
 
+const BALANCE: Question = Question::Balance { all: true };
+
 const GROWTH: Question = Question::Growth {
     process: 4,
     points: 20,
@@ -41,6 +43,7 @@ const TRACE: Question = Question::Trace {
 const RUNS: &[(&str, Question, u32)] = &[
     ("run for leaks", LEAKS, 1),
     ("run for sites", SITES, 1),
+    ("run for a balance", BALANCE, 1),
     ("run for a trace", TRACE, 1),
     ("run for a growth", GROWTH, 1),
     ("run for a summary by one worker", Question::Summary, 1),

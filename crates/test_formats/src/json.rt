@@ -1,6 +1,6 @@
-//! Lines of JSON that say a moment, the rows of a growth, and sites.
+//! Lines of JSON that say a moment, the rows of a growth, sites, and balances.
 use crate::rows::assert_row;
-use htl_event::{Point, SharedStack, Site};
+use htl_event::{Balance, Count, Point, SharedStack, Site};
 use htl_json::json_lines;
 use htl_question::{Answer, Question, Rows, Since, Totals};
 use htl_samples::shared_stack;
@@ -100,6 +100,45 @@ fn lines_of_sites(rt: HostRuntime) {
     );
     let wanted = "{\"answer\":\"sites\",\"count\":0}\n";
     assert_lines(&rt, alloc, &sites(None, Vec::new(alloc)), None, wanted);
+}
+
+fn balance<By>(by: By, plus: u64, minus: u64, objects: u64) -> Balance<By> {
+    Balance {
+        by,
+        count: Count { plus, minus },
+        objects,
+    }
+}
+
+#[test]
+fn lines_of_balances(rt: HostRuntime) {
+    let alloc = rt.alloc();
+    let tags = [
+        balance(*b"Lky8", 1_830, 1_811, 19),
+        balance([1, 0x41, 0x42, 0x43], 0, 3, 0),
+    ];
+    let rows = Rows::Balances {
+        objects: 5_021,
+        tags: Vec::from_array(alloc, tags).expect(&rt, "the memory"),
+    };
+    let balances = answer_to(Question::Balance { all: true }, rows);
+    let wanted = r#"{"answer":"balance","objects":5021,"until":12,"count":2}
+{"tag":"Lky8","bytes":"4c6b7938","references":1830,"dereferences":1811,"over":19,"under":0,"objects":19}
+{"tag":".ABC","bytes":"01414243","references":0,"dereferences":3,"over":0,"under":3,"objects":0}
+"#;
+    assert_lines(&rt, alloc, &balances, Some(12), wanted);
+}
+
+#[test]
+fn lines_of_tag_stacks(rt: HostRuntime) {
+    let alloc = rt.alloc();
+    let stack = shared_stack(alloc, &[0x60]).expect(&rt, "a stack");
+    let rows = Vec::from_array(alloc, [balance(stack, 9_120, 0, 19)]).expect(&rt, "the memory");
+    let stacks = answer_to(Question::TagStacks { tag: *b"Lky8" }, Rows::TagStacks(rows));
+    let wanted = r#"{"answer":"balance","tag":"Lky8","bytes":"4c6b7938","count":1}
+{"references":9120,"dereferences":0,"objects":19,"stack":[{"address":"0x0000000000000060"}]}
+"#;
+    assert_lines(&rt, alloc, &stacks, None, wanted);
 }
 
 #[test]

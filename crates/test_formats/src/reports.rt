@@ -1,6 +1,6 @@
-//! The ten texts, what a moment changes in them, and how addresses print.
+//! The texts of all questions, what a moment changes in them, and how addresses print.
 use crate::rows::assert_row;
-use htl_event::{Count, ObjectRow, Point, ProcessRow, SharedEvent, SharedStack, Site};
+use htl_event::{Balance, Count, ObjectRow, Point, ProcessRow, SharedEvent, SharedStack, Site};
 use htl_question::{Answer, Question, Rows, Since, Totals};
 use htl_report::text;
 use htl_samples::{shared_events, shared_stack};
@@ -236,6 +236,56 @@ STACK refs=1 derefs=0
     )
 }
 
+fn balance<By>(by: By, plus: u64, minus: u64, objects: u64) -> Balance<By> {
+    Balance {
+        by,
+        count: count(plus, minus),
+        objects,
+    }
+}
+
+/// A tag balances over all objects where what is missing on one is over on another.
+fn balances(rt: &impl Abort, alloc: Global) -> (Answer, &'static str) {
+    let tags = [
+        balance(*b"Lky8", 18_230, 18_211, 19),
+        balance(*b"Copy", 2, 2, 2),
+        balance([1, 0x41, 0x42, 0x43], 0, 3, 1),
+        balance(*b"Dflt", 4, 4, 0),
+    ];
+    let rows = Rows::Balances {
+        objects: 5_021,
+        tags: list(rt, alloc, tags),
+    };
+    (
+        answer_to(Question::Balance { all: true }, rows),
+        "balance objects=5021 count=4
+TAG Lky8 refs=18230 derefs=18211 over=19 objects=19
+TAG Copy refs=2 derefs=2 balanced objects=2
+TAG .ABC refs=0 derefs=3 under=3 objects=1
+TAG Dflt refs=4 derefs=4 balanced objects=0
+",
+    )
+}
+
+fn tag_stacks(rt: &impl Abort, alloc: Global) -> (Answer, &'static str) {
+    let rows = [
+        balance(stack(rt, alloc, &[]), 0, 9_111, 12),
+        balance(stack(rt, alloc, &[0x30, 0x10]), 9_120, 0, 19),
+    ];
+    (
+        answer_to(
+            Question::TagStacks { tag: *b"Lky8" },
+            Rows::TagStacks(list(rt, alloc, rows)),
+        ),
+        "balance tag=Lky8 count=2
+STACK refs=0 derefs=9111 objects=12
+STACK refs=9120 derefs=0 objects=19
+  0x0000000000000030
+  0x0000000000000010
+",
+    )
+}
+
 /// A listing has events of the first three kinds alone; the others print by the kind's word.
 fn trace(rt: &impl Abort, alloc: Global) -> (Answer, &'static str) {
     let lines =
@@ -346,6 +396,8 @@ fn texts_of_handles(rt: HostRuntime) {
 fn texts_of_references(rt: HostRuntime) {
     assert_text(&rt, rt.alloc(), tags(&rt, rt.alloc()));
     assert_text(&rt, rt.alloc(), stacks(&rt, rt.alloc()));
+    assert_text(&rt, rt.alloc(), balances(&rt, rt.alloc()));
+    assert_text(&rt, rt.alloc(), tag_stacks(&rt, rt.alloc()));
 }
 
 #[test]
@@ -387,6 +439,10 @@ fn moments_of_references(rt: HostRuntime) {
     assert_moment(&rt, alloc, tags(&rt, alloc), wanted);
     let wanted = "stacks object=0x0000000000001000 tag=Lky8 until=12 count=3\n";
     assert_moment(&rt, alloc, stacks(&rt, alloc), wanted);
+    let wanted = "balance objects=5021 until=12 count=4\n";
+    assert_moment(&rt, alloc, balances(&rt, alloc), wanted);
+    let wanted = "balance tag=Lky8 until=12 count=2\n";
+    assert_moment(&rt, alloc, tag_stacks(&rt, alloc), wanted);
     let wanted = "summary processors=2 segments=1 events=19 complete_to=0 \
 gaps=2 processes=2 objects=4 unbalanced=1 until=12
 GAP processor=0 from=0 to=4294967292

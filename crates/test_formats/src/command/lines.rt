@@ -130,6 +130,9 @@ const QUESTIONS: &[(&str, Question)] = &[
             tag: *b"Lky8",
         },
     ),
+    ("balance", Question::Balance { all: false }),
+    ("balance|a.hls|--all", Question::Balance { all: true }),
+    ("balance|--tag|Lky8", Question::TagStacks { tag: *b"Lky8" }),
     (
         "trace|--process|4|--handle|44",
         Question::Trace {
@@ -224,6 +227,10 @@ const QUESTIONS: &[(&str, Question)] = &[
             tag: [0xc3, 0xa9, 0xc3, 0xbc],
         },
     ),
+    (
+        "balance|--tag|0x4c6b7938",
+        Question::TagStacks { tag: *b"Lky8" },
+    ),
     // other ways to write a line
     ("bad|--process=4", Question::Bad { process: 4 }),
     ("bad|a.hls|--process|4|b.hls", Question::Bad { process: 4 }),
@@ -234,6 +241,7 @@ const QUESTIONS: &[(&str, Question)] = &[
             tag: *b"-abc",
         },
     ),
+    ("balance|--tag=-abc", Question::TagStacks { tag: *b"-abc" }),
     (
         "trace|--handle|44|--process|4",
         Question::Trace {
@@ -291,6 +299,8 @@ const TOPS: &[(&str, Option<u32>)] = &[
     ("bad|--top|10|--process|4", Some(10)),
     ("leaks|--process|4|--top=005", Some(5)),
     ("stacks|--object|1|--tag|Lky8|--top|2", Some(2)),
+    ("balance|--top|2|--all", Some(2)),
+    ("balance|--tag|Lky8|--top|3", Some(3)),
     ("trace|--process|4|--handle|44|--top|3|a.hls", Some(3)),
 ];
 
@@ -299,6 +309,7 @@ const MOMENTS: &[(&str, Option<Moment>)] = &[
     ("summary", None),
     ("summary|--until|0", Some(Moment::Sequence(0))),
     ("tags|--object|1|--until|complete", Some(Moment::Complete)),
+    ("balance|--until|77", Some(Moment::Sequence(77))),
     (
         "growth|--until|18446744073709551615|--process|4",
         Some(Moment::Sequence(u64::MAX)),
@@ -332,6 +343,8 @@ const CHECKS: &[(&str, bool, bool)] = &[
     ("bad|--process|4|--exit-code", false, true),
     ("leaks|--complete|--process|4|--exit-code", true, true),
     ("stacks|--object|1|--tag|Lky8|--complete", true, false),
+    ("balance|--exit-code|--all", false, true),
+    ("balance|--tag|Lky8|--complete", true, false),
     ("trace|--process|4|--handle|44|--complete", true, false),
 ];
 
@@ -340,6 +353,8 @@ const FORMATS: &[(&str, Format)] = &[
     ("summary|--json", Format::Json),
     ("tags|--json|--object|1|--exit-code", Format::Json),
     ("trace|--process|4|--handle|44|a.hls|--json", Format::Json),
+    ("balance|--json|--exit-code", Format::Json),
+    ("balance|--tag|Lky8|--json", Format::Json),
     ("leaks|--process|4|--folded|--top|5", Format::Folded),
     ("leaks|--process|4", Format::Plain),
 ];
@@ -486,6 +501,18 @@ const ASKED: &[(&str, Question, Option<u32>, Format)] = &[
         None,
         Format::Json,
     ),
+    (
+        "balance|--all|--top|3",
+        Question::Balance { all: true },
+        Some(3),
+        Format::Plain,
+    ),
+    (
+        "balance|--json|--tag|Lky8",
+        Question::TagStacks { tag: *b"Lky8" },
+        None,
+        Format::Json,
+    ),
 ];
 
 /// Lines that are no question of a dialogue, and after an arrow what their text names.
@@ -495,6 +522,8 @@ summary|--hex => a question with its own options
 summary|--partial => a question with its own options
 summary|--complete => a question with its own options
 summary|--exit-code => a question with its own options
+balance|--exit-code => a question with its own options
+balance|--tag|Lky8|--exit-code => a question with its own options
 summary|--workers|2 => a question with its own options
 summary|--workers|x => a question with its own options
 summary|--symbols|names.csv => a question with its own options
@@ -509,6 +538,7 @@ leaks|--process|x => 'x' for '--process <N>'
 leaks|--process|4|--at-least|0 => '0' for '--at-least <N>'
 summary|--until|x => 'x' for '--until <N>'
 summary|--top|0 => '0' for '--top <N>'
+balance|--tag|Lky8|--all => '--tag <TAG>' cannot be used with '--all'
 outstandin => 'outstandin'
 quit|now => 'quit'
 ";
@@ -565,6 +595,11 @@ stacks|--object|1|--tag| => '' for '--tag <TAG>'
 stacks|--object|1|--tag|0xgggggggg => '0xgggggggg' for '--tag <TAG>'
 stacks|--object|1|--tag|0X4c6b7938 => '0X4c6b7938' for '--tag <TAG>'
 stacks|--object|1|--tag|0x4c6b793 => '0x4c6b793' for '--tag <TAG>'
+balance|--tag|abc => 'abc' for '--tag <TAG>'
+balance|--tag| => '' for '--tag <TAG>'
+balance|--tag|0X4c6b7938 => write 0x4c6b7938
+balance|--top|0|--tag|abc|--all => 'abc' for '--tag <TAG>'
+balance|--top|0|--tag|Lky8|--all => '0' for '--top <N>'
 bad|--process|4|--workers|0 => '0' for '--workers <N>'
 bad|--process|4|--workers|9 => '9' for '--workers <N>'
 bad|--process|4|--workers| => '' for '--workers <N>'
@@ -655,6 +690,16 @@ summary|--fold => '--fold'
 dump|--fold => '--fold'
 bad|--process|4|--folded => '--folded'
 leaks|--process|4|--folded|--json => '--json' cannot be used with '--folded'
+balance|--tag|Lky8|--all => '--tag <TAG>' cannot be used with '--all'
+balance|--tag|Lky8|--exit-code => '--tag <TAG>' cannot be used with '--exit-code'
+balance|--tag|Lky8|--exit-code|--all => '--tag <TAG>' cannot be used with '--all'
+balance|--all|--all => '--all'
+balance|--tag|Lky8|--tag|Copy => '--tag <TAG>'
+balance|--folded => '--folded'
+balance|--object|1 => '--object'
+balance|--since|5 => '--since'
+stacks|--object|1|--tag|Lky8|--all => '--all'
+tags|--object|1|--all => '--all'
 bad|--process|4|--workers => '--workers <N>'
 ";
 

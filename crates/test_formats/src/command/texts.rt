@@ -21,6 +21,7 @@ Commands:
   leaks        Stacks by how many of their handles are still open, most first
   sites        Stacks by how many of their handles are open, over all processes
   stacks       Stacks behind one tag of an object (!obtrace)
+  balance      Tags that do not balance on some object, over all objects
   trace        Each open, close and bad reference of a handle (!htrace HANDLE)
   growth       How many handles are open as of each of many moments
   ask          Many questions over the same segments, a line each
@@ -303,6 +304,41 @@ Example:
   hleak stacks --object 0xffffa00000001000 --tag Lky8 cpu0.hls cpu1.hls
 ";
 
+const BALANCE: &str = "\
+Tags that do not balance on some object, over all objects
+
+Usage: hleak balance [OPTIONS] [FILES]...
+
+Arguments:
+  [FILES]...  Trace segments; standard input where no file is given
+
+Options:
+      --tag <TAG>       The stacks that used this tag, instead of tags: four
+                        bytes of text, as Lky8, or 0x and eight hexadecimal
+                        digits, as 0x4c6b7938; not with --all or --exit-code
+      --top <N>         At most N rows: decimal, 1 to 4294967295
+      --all             Also tags that balance on each object
+      --exit-code       End with status 1 where the answer finds something
+      --until <N>       Only events up to this sequence count: decimal, at most
+                        18446744073709551615, or 'complete' for complete_to,
+                        up to which answers are final: 0 if a processor is idle
+      --symbols <FILE>  Names for addresses: CSV of start,end,module,name
+      --workers <N>     Use up to N threads: 1 to 8 [default: 1]
+      --json            One JSON object a line, for other programs
+      --complete        Refuse segments with a gap (C8). Without a gap the last
+                        segments of a processor may still be missing
+      --hex             The files hold hexadecimal digits, not bytes
+      --partial         Behind its whole segments a file may have bytes that
+                        begin as a segment does; they are left out
+      --notes           Notes, and the file and the words of a fault, also where
+                        standard error is no terminal
+  -h, --help            Print help
+
+Examples:
+  hleak balance cpu0.hls cpu1.hls
+  hleak balance --tag Lky8 --symbols names.csv cpu0.hls cpu1.hls
+";
+
 const TRACE: &str = "\
 Each open, close and bad reference of a handle (!htrace HANDLE)
 
@@ -470,6 +506,7 @@ Commands:
   leaks        Stacks by how many of their handles are still open, most first
   sites        Stacks by how many of their handles are open, over all processes
   stacks       Stacks behind one tag of an object (!obtrace)
+  balance      Tags that do not balance on some object, over all objects
   trace        Each open, close and bad reference of a handle (!htrace HANDLE)
   growth       How many handles are open as of each of many moments
   help         Print this message or the help of the given subcommand(s)
@@ -517,6 +554,25 @@ Options:
   -h, --help          Print help
 ";
 
+/// What `balance --help` shows in a dialogue.
+const DIALOGUE_BALANCE: &str = "\
+Tags that do not balance on some object, over all objects
+
+Usage: balance [OPTIONS]
+
+Options:
+      --tag <TAG>  The stacks that used this tag, instead of tags: four
+                   bytes of text, as Lky8, or 0x and eight hexadecimal
+                   digits, as 0x4c6b7938; not with --all or --exit-code
+      --top <N>    At most N rows: decimal, 1 to 4294967295
+      --all        Also tags that balance on each object
+      --until <N>  Only events up to this sequence count: decimal, at most
+                   18446744073709551615, or 'complete' for complete_to,
+                   up to which answers are final: 0 if a processor is idle
+      --json       One JSON object a line, for other programs
+  -h, --help       Print help
+";
+
 const CODE: &str = "\
 error: invalid value 'S18' for '<CODE>'
   [expected: S1 to S17, H1 to H3, C1 to C10, Y1 to Y7, E1 or E2]
@@ -545,6 +601,18 @@ error: invalid value 'complete' for '--since <N>'
   [expected: decimal digits, at most 18446744073709551615, or snapshot]
 
 For more information, try 'leaks --help'.
+";
+
+const TAG_AND_ALL: &str = "\
+error: the argument '--tag <TAG>' cannot be used with '--all'
+
+For more information, try 'hleak balance --help'.
+";
+
+const DIALOGUE_TAG_AND_ALL: &str = "\
+error: the argument '--tag <TAG>' cannot be used with '--all'
+
+For more information, try 'balance --help'.
 ";
 
 const DIALOGUE_OPTION: &str = "\
@@ -728,6 +796,16 @@ Usage: hleak stacks [OPTIONS] --object <HEX> --tag <TAG> [FILES]...
 For more information, try '--help'.
 ";
 
+const SEPARATED_TAG: &str = "\
+error: unexpected argument '-a' found
+
+  tip: a value that begins with '-' follows '=', as in '--tag=-abc'
+
+Usage: hleak balance [OPTIONS] [FILES]...
+
+For more information, try '--help'.
+";
+
 const SEPARATED_NUMBER: &str = "\
 error: unexpected argument '-4' found
 
@@ -742,6 +820,16 @@ error: unexpected argument '--since' found
   tip: --since is an option of diff, leaks, sites
 
 Usage: hleak bad --process <N> [FILES]...
+
+For more information, try '--help'.
+";
+
+const OTHER_TAG: &str = "\
+error: unexpected argument '--tag' found
+
+  tip: --tag is an option of stacks, balance
+
+Usage: hleak tags --object <HEX> [FILES]...
 
 For more information, try '--help'.
 ";
@@ -809,6 +897,7 @@ const HELP: &[(&str, &str)] = &[
     ("bad|--help", BAD),
     ("leaks|--help", LEAKS),
     ("stacks|--help", STACKS),
+    ("balance|--help", BALANCE),
     ("trace|--help", TRACE),
     ("growth|--help", GROWTH),
     ("ask|--help", ASK),
@@ -828,6 +917,8 @@ const USAGE: &[(&str, &str)] = &[
     ("bad|--proces|4", MISSPELT_OPTION),
     ("diff", MISSING_OPTION),
     ("stacks|--object|1|--tag|-abc", SEPARATED_VALUE),
+    ("balance|--tag|-abc", SEPARATED_TAG),
+    ("balance|--all|--tag|Lky8", TAG_AND_ALL),
     ("leaks|--process|0x4b0", HEXADECIMAL),
     ("growth|--process|4|--until|0x4b0", MOMENT),
     ("tags|--object|ffffa000`00001000", BACKQUOTED),
@@ -835,6 +926,7 @@ const USAGE: &[(&str, &str)] = &[
     ("leaks|--process|4|--until|-4", SEPARATED_NUMBER),
     ("leaks|--process|4|--at-least|-4", SEPARATED_NUMBER),
     ("bad|--process|4|--since|4", OTHER_OPTION),
+    ("tags|--object|1|--tag|Lky8", OTHER_TAG),
     ("leaks|--process|4|-x", SEPARATED_FILE),
     ("ask|--folded|a.hls", FOLDED_DIALOGUE),
     ("leaks|--process|4|--fold", FOLDING_QUESTION),
@@ -852,11 +944,13 @@ const DIALOGUE_HELP: &[(&str, &str)] = &[
     ("--help", DIALOGUE),
     ("leaks|--help", DIALOGUE_LEAKS),
     ("help|leaks", DIALOGUE_LEAKS),
+    ("balance|--help", DIALOGUE_BALANCE),
 ];
 
 /// Lines that are refused in a dialogue, and what they are answered.
 const DIALOGUE_USAGE: &[(&str, &str)] = &[
     ("leaks|--process|4|--since|complete", DIALOGUE_VALUE),
+    ("balance|--tag|Lky8|--all", DIALOGUE_TAG_AND_ALL),
     ("leaks|--process|4|-x", DIALOGUE_OPTION),
     ("leaks|--proces|4", DIALOGUE_MISSPELT),
     ("leak|--process|4", DIALOGUE_COMMAND),

@@ -31,6 +31,7 @@ _hleak_command() {
     leaks) options='--process --since --at-least --top --exit-code --folded --until --symbols --workers --json --complete --hex --partial --notes --help' needed='--process' words='' ;;
     sites) options='--since --at-least --top --exit-code --folded --until --symbols --workers --json --complete --hex --partial --notes --help' needed='' words='' ;;
     stacks) options='--object --tag --top --until --symbols --workers --json --complete --hex --partial --notes --help' needed='--object --tag' words='' ;;
+    balance) options='--tag --top --all --exit-code --until --symbols --workers --json --complete --hex --partial --notes --help' needed='' words='' ;;
     trace) options='--process --handle --top --until --symbols --workers --json --complete --hex --partial --notes --help' needed='--process --handle' words='' ;;
     growth) options='--process --points --until --symbols --workers --json --complete --hex --partial --notes --help' needed='--process' words='' ;;
     ask) options='--symbols --workers --fold --complete --hex --partial --notes --help' needed='' words='' ;;
@@ -48,12 +49,12 @@ _hleak() {
   if ((COMP_CWORD == 1)); then
     case $typed in
       -*) _hleak_offer '--help --version' ;;
-      *) _hleak_offer 'summary outstanding diff tags bad leaks sites stacks trace growth ask explain dump encode help' ;;
+      *) _hleak_offer 'summary outstanding diff tags bad leaks sites stacks balance trace growth ask explain dump encode help' ;;
     esac
     return
   fi
   if [[ $command == help ]]; then
-    ((COMP_CWORD > 2)) || _hleak_offer 'summary outstanding diff tags bad leaks sites stacks trace growth ask explain dump encode'
+    ((COMP_CWORD > 2)) || _hleak_offer 'summary outstanding diff tags bad leaks sites stacks balance trace growth ask explain dump encode'
     return
   fi
   _hleak_command "$command" || return

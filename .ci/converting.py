@@ -1,11 +1,14 @@
 """The tools that read logs of the debugger, tried on logs: what the scripts about them share."""
 
+import itertools
 import os
 import subprocess
 import sys
 import tempfile
 
 from program import TOP, Asking
+
+BLOCK = 1 << 20  # letters that a tool reads at once, and then the rest of their line
 
 
 class Converting:
@@ -51,6 +54,12 @@ class Converting:
         plain = *self.run(words, logs), self.written("names.csv")
         to_file = *self.run([*words, "-o", "written"], logs), self.written("names.csv"), self.written("written")
         self.demand(name, ((0, text, lines, table), (0, "", lines, table, text)), (plain, to_file))
+
+    def expect_in_blocks(self, log):
+        """The text is that of the log where blanks before it make the first block that is read end behind each of its lines."""
+        wanted = self.run([], [log])
+        for size in itertools.accumulate(map(len, log.splitlines(keepends=True))):
+            self.demand(f"a block that ends behind {size} letters", wanted, self.run([], [" " * (BLOCK + 1 - size) + log]))
 
     def refuse(self, logs, why, words=()):
         """Nothing is written for logs with this fault."""

@@ -11,6 +11,8 @@ import sys
 GREATEST = 2**64 - 1
 GREATEST_NUMBER = 2**32 - 2
 MOST_EVENTS, MOST_FRAMES, MOST_FRAMES_OF_VERSION_1 = 4096, 64, 32
+BLOCK = 1 << 20  # letters of a log that are read at once
+MOST_TEXTS = 20_000  # of stacks, as a log has them, that are kept to be found again
 HEADER = ("start", "end", "module", "name")
 # a prompt of the kernel's or of a user program's debugger, as `0: kd>` and `0:004>`
 PROMPT = re.compile(r"\s*(?:(?:\d+:\s*)?l?kd|\d+:\d+(?::[\w.]+)?)>\s*(.*)$", re.I)
@@ -37,6 +39,25 @@ def open_log(path):
             file.close()
             raise Fault(1, f"the log is in UTF-16 without a byte order mark: convert it, as 'iconv -f {form} -t UTF-8' does")
     return io.TextIOWrapper(file, "utf-16" if is_wide else "utf-8-sig", errors="replace", newline="\n")
+
+
+def blocks_of(path):
+    """The text of a log in blocks of whole lines, each with the number of its first line, from 1. Their ends are line feeds."""
+    with open_log(path) as file:
+        yield from blocks_in(file)
+
+
+def blocks_in(file):
+    line = 1
+    while text := file.read(BLOCK):
+        text = (text + file.readline()).replace("\r\n", "\n")
+        yield line, text
+        line += text.count("\n")
+
+
+def numbered(line, text):
+    """The lines of a text, each with its end, and their numbers from this one on."""
+    return enumerate(io.StringIO(text, newline="\n"), line)
 
 
 def lines_of(path):

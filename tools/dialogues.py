@@ -2,7 +2,6 @@
 import collections
 import contextlib
 import fcntl
-import itertools
 import os
 import re
 import stat
@@ -72,6 +71,7 @@ class Dialogues:
     def __init__(self, program, options, files):
         self.command, self.files = (program, [workers(), *options, "--", *files]), files
         self.dialogues = [Dialogue(*self.command, is_first=True)]
+        self.questions, self.waiting = collections.deque(), collections.deque()  # (those that are asked: their dialogues)
 
     def add(self):
         """Begins others, once the first one has answered: then nothing is wrong with the files, and the program is built."""
@@ -81,18 +81,22 @@ class Dialogues:
     def __enter__(self):
         return self
 
-    def __exit__(self, *_):
+    def __exit__(self, fault, *_):
+        while self.waiting and not fault:
+            collections.deque(self.answer(), maxlen=0)  # (else the program would say that it can't write answers that nobody needed)
         for dialogue in self.dialogues:
             dialogue.end()
 
-    def answers(self, questions):
-        """The lines of the answers to questions, in their order. Questions are asked ahead, so that an answer is made while those before
-        it are read."""
-        waiting = collections.deque()
-        for dialogue, question in zip(itertools.cycle(self.dialogues), questions):
-            if len(waiting) == MOST_AHEAD:
-                yield waiting.popleft().lines()
-            dialogue.ask(question)
-            waiting.append(dialogue)
-        while waiting:
-            yield waiting.popleft().lines()
+    def ask(self, questions):
+        """Asks questions ahead, so that answers are made while those before them are read and told of."""
+        self.questions.extend(questions)
+        while self.questions and len(self.waiting) < MOST_AHEAD:
+            self.dialogues[0].ask(self.questions.popleft())
+            self.waiting.append(self.dialogues[0])
+            self.dialogues.append(self.dialogues.pop(0))  # the next question is another one's
+
+    def answer(self):
+        """The lines of the next answer, in the order of the questions."""
+        dialogue = self.waiting.popleft()
+        self.ask([])
+        return dialogue.lines()

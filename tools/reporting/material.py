@@ -1,6 +1,7 @@
 """What is known before a page is made: the answers that several of its sections need."""
 import collections
 
+from .pages import element, joined
 from .rows import Lines
 from .telling import System
 
@@ -44,6 +45,11 @@ class Material:
     def before(self):
         """How many handles each stack had in the older answer, without known ones."""
         return collections.Counter({names: count for names, count in self.files.before.items() if names not in self.files.known})
+
+    def name_of(self, number):
+        """An object, with what it is where that is known."""
+        name = self.files.names.get(number)
+        return joined("Object ", element("code", number), *([" (", element("code", name), ")"] if name else []))
 
     def as_of(self):
         """As of when handles count, and since when, in words."""

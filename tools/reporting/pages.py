@@ -3,6 +3,8 @@ import functools
 import html
 import itertools
 
+MOST_TEXTS = 50_000  # that are kept as HTML, since many come again
+
 
 class Html(str):
     """What is HTML already."""
@@ -10,12 +12,16 @@ class Html(str):
 
 def shown(text):
     """A text in which what can't be seen, or turns the direction of writing, is shown by its number."""
-    text = str(text)
     return text if text.isprintable() else "".join(it if it.isprintable() else f"\\u{{{ord(it):x}}}" for it in text)
 
 
 def html_of(part):
-    return part if isinstance(part, Html) else html.escape(shown(part))
+    return part if isinstance(part, Html) else escaped(str(part))
+
+
+@functools.lru_cache(MOST_TEXTS)
+def escaped(text):
+    return html.escape(shown(text))
 
 
 @functools.lru_cache(None)
@@ -29,8 +35,9 @@ def joined(*parts):
 
 def element(name, *parts, **attributes):
     """An element with these parts. An attribute is named as Python allows it: `class_`, `aria_label`."""
-    words = "".join([f' {attribute_of(key)}="{html_of(value)}"' for key, value in attributes.items()])
-    return Html(f"<{name}{words}>{joined(*parts)}</{name}>")
+    words = "".join([f' {attribute_of(key)}="{html_of(value)}"' for key, value in attributes.items()]) if attributes else ""
+    inside = "".join([part if type(part) is Html else html_of(part) for part in parts])
+    return Html(f"<{name}{words}>{inside}</{name}>")
 
 
 def counted(number, one, more=None):

@@ -11,6 +11,8 @@ POINTS = 100  # of the curve of a process
 LEAK = re.compile(rb'{"handles":(\d+)(?:,"processes":\d+)?$')
 BAD = re.compile(rb'{"event":"BAD REF","handle":"(0x[0-9a-f]+)","times":(\d+)$')
 
+# The stacks that used a tag, and where this is over all objects, the most of them on which a stack with these names did.
+Uses = collections.namedtuple("Uses", "sites objects")
 # A question, and what reads the lines of its answer: the first one, and those of its rows, which have all to be taken.
 Question = collections.namedtuple("Question", "text read")
 
@@ -39,9 +41,9 @@ class Questions:
 
     def summary(self, most):
         """The summary with all gaps, and at most so many processes and objects."""
-        return self.about("summary" + ("" if most is None else f" --top {most}"), self.read_summary)
+        return self.about("summary" + ("" if most is None else f" --top {most}"), self.read_all)
 
-    def read_summary(self, head, lines):
+    def read_all(self, head, lines):
         head, *rows = self.rows.read([head, *lines])
         return head, rows
 
@@ -95,13 +97,24 @@ class Questions:
     def read_tags(self, _, lines):
         return sorted(self.rows.read(lines), key=lambda tag: -tag["over"] - tag["under"])
 
+    def balance(self, most):
+        """The tags that don't balance on some object, those with most such objects first, and at most so many."""
+        return self.about(f"balance --top {most}", self.read_all)
+
     def uses(self, number, tag):
         """The stacks that used a tag of an object, and how often they took and dropped a reference."""
         return self.about(f"stacks --object {number} --tag 0x{tag['bytes']}", self.read_uses)
 
+    def uses_of_all(self, tag):
+        """The same of all objects."""
+        return self.about(f"balance --tag 0x{tag['bytes']}", self.read_uses)
+
     def read_uses(self, _, lines):
-        sites = Sites()
+        sites, objects = Sites(), {}
         for row in self.rows.read(lines):
+            names = row["stack"].names
+            if "objects" in row:
+                objects[names] = max(objects.get(names, 0), row["objects"])
             for side in ("references", "dereferences"):
                 sites.add(row["stack"], side, row[side])
-        return sites
+        return Uses(sites, objects)

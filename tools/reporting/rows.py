@@ -2,10 +2,8 @@
 import collections
 import functools
 
-from hleaklib import name_of
-
 from .pages import Html, counted, element, html_of, joined, left_out, note
-from .sites import frame_of, frames_of
+from .sites import call_of, frames_of
 from .telling import Apart
 
 MOST_LETTERS = 200  # of a call in a line; within the stack it is whole
@@ -54,11 +52,10 @@ def stack_of(numbers, line, *inside, **attributes):
 
 
 @functools.lru_cache(None)
-def call_of(text):
+def call_with_address(text):
     """A call with how far within its function it is, and its address, by its JSON. (Of all elements a page has most of these.)"""
-    frame = frame_of(text)
-    address = f' <code class="at">{html_of(frame["address"])}</code>' if "name" in frame else ""
-    return Html(f"<li><code>{html_of(name_of(frame))}</code>{address}</li>")
+    address, _, name = call_of(text)
+    return Html(f'<li><code>{html_of(name)}</code> <code class="at">{address}</code></li>' if name else f"<li><code>{address}</code></li>")
 
 
 def calls_of(names):
@@ -70,7 +67,7 @@ def calls_of_site(site):
     if not site.names:
         return calls_of(())
     stacks = site.texts()
-    lists = [element("ol", *map(call_of, frames_of(text))) for text, _ in stacks[:MOST_STACKS]]
+    lists = [element("ol", *map(call_with_address, frames_of(text))) for text, _ in stacks[:MOST_STACKS]]
     if len(stacks) == 1:
         return lists[0]
     head = element("summary", f"{counted(len(stacks), 'stack')} with these names, by their addresses")

@@ -5,7 +5,7 @@ import os
 import string
 import time
 
-from . import objects, processes, stacks, summary
+from . import objects, processes, stacks, summary, tags
 from .material import Material
 from .pages import Html, counted, element, joined, left_out, table
 from .trace import Trace
@@ -34,6 +34,9 @@ def sections_of(material):
         sections.append(("changes", "What changed", stacks.changes_of(material)))
     sections.append(("certain", "What is certain", summary.certain_of(material)))
     sections.append(("processes", "Processes", processes.processes_of(material)))
+    tags.add_findings(material)
+    if material.trace.balance:
+        sections.append(("tags", "Tags, over all objects", tags.tags_of(material)))
     if not material.given.process:
         sections.append(("objects", "Objects", objects.objects_of(material)))
     summary.add_gaps(material)

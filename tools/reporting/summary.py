@@ -61,9 +61,10 @@ def numbers_of(material):
     head, processes = material.trace.head, material.trace.processes
     handles, bad = (sum(row[of] for row in processes) for of in ("outstanding", "bad"))
     opened = "open handles" if material.trace.since is None else "open handles, older ones too"
-    of_objects = [] if material.given.process else [("unbalanced objects", head["unbalanced"]), ("objects", head["objects"])]
-    numbers = [(opened, handles), ("bad references", bad), *of_objects[:1], ("gaps", head["gaps"]), ("processes", len(processes))]
-    numbers += [*of_objects[1:], *((name, head[name]) for name in ("events", "segments", "processors"))]
+    unbalanced = ("unbalanced tags", material.trace.unbalanced), ("unbalanced objects", head["unbalanced"])
+    numbers = [(opened, handles), ("bad references", bad), *([] if material.given.process else unbalanced), ("gaps", head["gaps"])]
+    names = ("events", "segments", "processors") if material.given.process else ("objects", "events", "segments", "processors")
+    numbers += [("processes", len(processes)), *((name, head[name]) for name in names)]
     return facts(*((name, f"{number:,}") for name, number in numbers))
 
 

@@ -8,7 +8,12 @@ from .sites import Sites
 
 MOST_ROWS = 1000  # of a summary, where no more are needed
 MOST_PROCESSES = 100  # whose stacks are asked for, those with most open handles
+MOST_EXAMPLES = 3  # of objects on which a tag doesn't balance, where its stacks are asked for
 MOST_MOMENTS, MOST_QUESTIONS = 7, 48  # as of which it is asked how many handles stacks had, and of how many processes each by itself
+
+
+def is_unbalanced(tag):
+    return tag["over"] or tag["under"]
 
 
 def is_before(since, moment):
@@ -17,11 +22,12 @@ def is_before(since, moment):
 
 
 class Trace:
-    """A trace as of the moment that was given, or of its end. What sections tell is asked for before any is made, in two turns, so that the
-    program has always something to answer."""
+    """A trace as of the moment that was given, or of its end. What sections tell is asked for before any is made, in the order in which they
+    tell it, so that the program has always something to answer."""
 
     def __init__(self, dialogues, given):
         self.dialogues, self.questions, self.answers, self.own = dialogues, Questions(given), {}, {}
+        self.asked_ahead = collections.deque()
         self.since, self.top, self.is_over_all = given.since, given.top, not given.process
         self.head, rows = self.summary(max(MOST_ROWS, given.top))
         self.until = self.questions.until = self.head.get("until")
@@ -35,23 +41,36 @@ class Trace:
         for number in given.process or ():
             if all(row["process"] != number for row in every):
                 raise Fault(f"process {number}", "it has no open, close or bad reference here, or none up to --until")
-        self.ask([*map(self.questions.growth, self.shown()), *(self.questions.tags(row["object"]) for row in self.objects)])
+        of_objects = [] if given.process else [self.questions.balance(given.top)]
+        self.ask([*of_objects, *map(self.questions.growth, self.shown()), *(self.questions.tags(row["object"]) for row in self.objects)])
+        self.ask([*self.questions_of_handles()])
+        head, self.balance = self.told(of_objects[0]) if of_objects else ({"count": 0}, [])
+        self.unbalanced = head["count"]  # tags, of which these are the first
         points = self.growth(self.found[0]) if self.found else [(0, 0)]
         self.first, self.last = points[0][0], points[-1][0]
-        self.ask([*self.questions_of_processes(), *self.questions_of_moments(), *self.questions_of_objects()])
+        self.ask([*self.questions_of_moments(), *map(self.questions.bad, self.used_badly())])
+        self.tags_shown = self.examples()
+        self.ask([*self.questions_of_objects()])
 
     def ask(self, questions):
-        """Asks questions, and keeps what is taken of their answers."""
-        for question, lines in zip(questions, self.dialogues.answers(question.text for question in questions)):
-            head = next(lines, None)
-            if head is None:
-                raise Fault(question.text, "the program has no answer")
-            self.answers[question.text] = question.read(head, lines)
+        """Asks questions, whose answers are read once one of them is told."""
+        self.asked_ahead.extend(questions)
+        self.dialogues.ask(question.text for question in questions)
+
+    def read_answer(self):
+        """Keeps what is taken of the next answer."""
+        question, lines = self.asked_ahead.popleft(), self.dialogues.answer()
+        head = next(lines, None)
+        if head is None:
+            raise Fault(question.text, "the program has no answer")
+        self.answers[question.text] = question.read(head, lines)
 
     def told(self, question):
         """What was taken of the answer to a question."""
-        if question.text not in self.answers:
-            self.ask([question])
+        while question.text not in self.answers:
+            if not self.asked_ahead:
+                self.ask([question])
+            self.read_answer()
         return self.answers[question.text]
 
     def summary(self, most):
@@ -61,12 +80,8 @@ class Trace:
 
     # ---- what is asked ahead
 
-    def questions_of_processes(self):
-        for process in self.shown():
-            if process["outstanding"]:
-                yield self.questions.handles(process)
-            if process["bad"]:
-                yield self.questions.bad(process)
+    def questions_of_handles(self):
+        yield from (self.questions.handles(process) for process in self.shown() if process["outstanding"])
         for process in self.asked():
             if not self.is_told_by_handles(process) and self.is_after(process, self.until):
                 yield self.questions.leaks(process, self.until)
@@ -84,15 +99,20 @@ class Trace:
         return [self.questions.leaks(process, moment) for process in self.asked() if self.is_after(process, moment)]
 
     def questions_of_objects(self):
-        for row in self.objects:
-            for tag in self.tags_shown(row["object"]):
-                yield self.questions.uses(row["object"], tag)
+        yield from map(self.questions.uses_of_all, self.balance)
+        for number, tags in self.tags_shown.items():
+            for tag in tags:
+                yield self.questions.uses(number, tag)
 
     # ---- what is told of processes
 
     def shown(self):
         """The processes of which all is told."""
         return self.found[: self.top]
+
+    def used_badly(self):
+        """Those of them that used handles which weren't open."""
+        return [process for process in self.shown() if process["bad"]]
 
     def asked(self):
         """The processes that are asked for the stacks of their open handles."""
@@ -170,10 +190,19 @@ class Trace:
     def tags(self, number):
         return self.told(self.questions.tags(number))
 
-    def tags_shown(self, number):
-        """The first of an object's tags that don't balance: their stacks are shown, of some as many tags as the lists have rows."""
-        unbalanced = [tag for tag in self.tags(number) if tag["over"] or tag["under"]]
-        return unbalanced[: max(1, self.top // len(self.objects))]
+    def examples(self):
+        """By object the tags whose stacks are shown there: the first that don't balance, each on few objects, as most look alike; and in all
+        some as many as the lists have rows. On the only object they would be those of all objects."""
+        shown, times = {}, collections.Counter()
+        most = 0 if self.head["objects"] == 1 else MOST_EXAMPLES
+        for row in self.objects:
+            tags = [tag for tag in self.tags(row["object"]) if is_unbalanced(tag) and times[tag["bytes"]] < most]
+            shown[row["object"]] = first = tags[: max(1, self.top // len(self.objects))]
+            times.update(tag["bytes"] for tag in first)
+        return shown
 
     def uses(self, number, tag):
         return self.told(self.questions.uses(number, tag))
+
+    def uses_of_all(self, tag):
+        return self.told(self.questions.uses_of_all(tag))

@@ -3,6 +3,7 @@ segments, and what is written where."""
 import argparse
 import codecs
 import collections
+import gc
 import io
 import itertools
 import re
@@ -223,6 +224,7 @@ def say(tool, text):
 def run(tool, work, given):
     """Makes what is to be written, writes it where all went well, and then the notes. The status is 0, 3 for a fault of a log, and 5 for
     one of files."""
+    gc.disable()  # (nothing that the tools make refers to itself, and there is much of it to look at)
     try:
         made = work(given)
         notes = list(made.notes)

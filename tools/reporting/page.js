@@ -39,6 +39,7 @@ function graphTools(graph) {
       call.style.display = right - left > 0.02 ? "" : "none";
       call.setAttribute("x", left + "%");
       call.setAttribute("width", Math.max(0, right - left) + "%");
+      call.classList.toggle("thin", right - left < 0.5); // a line around it would hide it
     }
   }
 

@@ -10,6 +10,7 @@ from .telling import common_of
 
 MOST_BOXES, LEAST_SHARE = 800, 1 / 2000  # of a flame graph: how many calls at most, and the least share of its handles that is drawn
 ROW, COLOURS, MOST_LETTERS = 20, 6, 120  # how high a call is, in how many colours modules are, and how long its label may be
+THIN = 1 / 200  # below this share a call has no line around it, which would hide it (page.js has the same)
 
 
 def place(part, whole):
@@ -112,4 +113,5 @@ def box_of(box, whole, system):
     title = element("title", f"{box.name}: {box.count:,}, {share_of(box.count, whole)}")
     parts = title, element("rect", width="100%", height="100%"), element("text", label, x=4, y=14)
     x, width = f"{100 * box.at / max(whole, 1):.3f}%", f"{100 * box.count / max(whole, 1):.3f}%"
-    return element("svg", joined(*parts), class_=colour, x=x, y=ROW * box.depth, width=width, height=ROW - 1)
+    thin = " thin" if box.count < THIN * whole else ""
+    return element("svg", joined(*parts), class_=colour + thin, x=x, y=ROW * box.depth, width=width, height=ROW - 1)

@@ -47,8 +47,10 @@ def note_on_curves(material):
         return ""
     first, middle = material.moments[0][0], material.middle()[0]
     curves = f"Curves have {len(material.moments) + 1} moments from sequence {first:,} to {material.trace.last:,}"
-    of_some = "" if material.trace.is_by_sites() else " Both are of processes with open handles."
-    return note(f"{curves}; a number with a sign is the difference to sequence {middle:,}.{of_some}")
+    has_signs = any(material.growth_of(site) for site in material.leaking[: material.given.top])
+    signs = f"; a number with a sign is the difference to sequence {middle:,}" if has_signs else ""
+    of_some = "" if material.trace.is_by_sites() else " Only processes with open handles count for this."
+    return note(f"{curves}{signs}.{of_some}")
 
 
 def row_of(material, site, with_curve):

@@ -389,15 +389,25 @@ class Frames:
 
     def __init__(self):
         self.files, self.names = {}, logs.Names()
+        self.known, self.stacks = {}, {}  # the texts of frames by their lines, and stacks by theirs
 
     def file(self, path):
         """The first address of a file's own."""
         return self.files.setdefault(path, (len(self.files) + 1) << 40)
 
-    def stack(self, frames):
-        """The stack of the texts of these frames."""
-        frames = frames[: logs.MOST_FRAMES]
-        return Stack("".join(frames), len(frames))
+    def stack(self, texts, line, new_frame):
+        """The stack of the frames that stand before a line, as these lines. Each that wasn't there before is read by a call, which gives the
+        empty text for one that isn't shown."""
+        lines = "".join(texts)
+        if lines not in self.stacks:
+            for place, text in enumerate(texts, line - len(texts)):
+                if text not in self.known:
+                    self.known[text] = new_frame(place, text.rstrip("\r\n"))
+            if len(self.stacks) >= logs.MOST_TEXTS:
+                self.stacks.clear()
+            frames = [shown for shown in map(self.known.get, texts) if shown][: logs.MOST_FRAMES]
+            self.stacks[lines] = Stack("".join(frames), len(frames))
+        return self.stacks[lines]
 
 
 def process(text):

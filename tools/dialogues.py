@@ -85,6 +85,8 @@ class Dialogues:
         while self.waiting and not fault:
             collections.deque(self.answer(), maxlen=0)  # (else the program would say that it can't write answers that nobody needed)
         for dialogue in self.dialogues:
+            if fault:
+                dialogue.hleak.kill()  # (for the same reason)
             dialogue.end()
 
     def ask(self, questions):

@@ -1,5 +1,5 @@
 pub mod ShownTags
 pub mod Told
-pub mod RanOut
 mod SourcesRead
+mod Converted
 pub mod NamesRun

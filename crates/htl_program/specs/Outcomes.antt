@@ -1,14 +1,9 @@
--- What comes of a question, a dump and an encoding in a world (this project's own). Each is said of the inputs that were opened for it,
--- as they are by then.
-use Rattle.std.specs.Prelude.{◌≡◌, ◌≢◌, ◌⊎◌, ℕ, Bool, true, List, map, Option, option_map, IfErr, Result, Err, String, string_bytes}
+-- What comes of a question and of a conversion in a world (this project's own). Each is said of the inputs that were opened for it, as they
+-- are by then.
+use Rattle.std.specs.Prelude.{◌≡◌, ◌⊎◌, [], ℕ, false, All, List, map, Option, option_map, Result, Err, String, string_bytes}
 use Rattle.htl_command.specs.declared.command.Run.{Run}
-use Rattle.htl_command.specs.declared.question.InputForm.{InputForm}
-use Rattle.htl_device.specs.States.{SinkState, SourceState, ends, lefts}
-use Rattle.htl_inputs.specs.declared.cuts.CutInputs.{CutInputs}
+use Rattle.htl_device.specs.States.{SinkState, SourceState, ends, fresh, lefts}
 use Rattle.htl_inputs.specs.declared.fault.RunFault.{RunFault}
-use Rattle.htl_inputs.specs.declared.fault.RunFault.TheVariants.{Memory, Write}
-use Rattle.htl_convert.specs.Dumps.{EndsDumping, is_failed_write}
-use Rattle.htl_convert.specs.Encodings.{EndsEncoding}
 use Rattle.htl_main.specs.Origins.{by_fault}
 use Rattle.htl_main.specs.Runs.{LeavesSink, Ends}
 use Rattle.htl_main.specs.declared.completed.Completed.{Completed}
@@ -16,9 +11,9 @@ use Rattle.htl_main.specs.declared.refused.Refused.{Refused}
 use Rattle.htl_command.specs.declared.question.Job.{Job}
 use Rattle.htl_main.specs.Causes.{IsSourcesCause}
 use Rattle.htl_world.specs.Endings.{IsUnopened, IsUntabled}
-use Rattle.htl_world.specs.Readings.{AreAskedFor, ReadsInputs}
+use Rattle.htl_world.specs.Readings.{AreAskedFor, IsUnopenedFor, ReadsInputs}
 use Rattle.htl_world.specs.Rounds.{Asks, OpensAgain, OpensInputs, OpensOnce}
-use Rattle.htl_world.specs.Worlds.{IsTable, IsTableAbsent, WorldChange, HaveTexts, IsAbsentAt, of_inputs}
+use Rattle.htl_world.specs.Worlds.{IsTable, IsTableAbsent, Known, WorldChange, HaveTexts, IsAbsentAt, of_each, of_inputs}
 use Rattle.htl_ask.specs.Asking.{RunsOut}
 
 -- The answer was printed over inputs of these texts, or there is a reason why not, where the sources are these by then.
@@ -43,23 +38,25 @@ pub record IsAnswered (world : WorldChange) (inputs : List SourceState) (run : R
   pub asked : Asks world (OpensInputs (map string_bytes run.files.items) (option_map string_bytes run.symbols) (by_fault ended)
       (OpensAgain world.old.known run.job.setting.form.hex (map string_bytes run.files.items) (by_fault ended)))
 
--- Segments were printed as text. Each file was opened once, in order.
-pub record IsDumped {A : Type 0} (world : WorldChange) (inputs : List SourceState) (form : InputForm) (names : List (String A))
-    (old new : SinkState) (ended : Result (Option CutInputs) RunFault) : Type 0 where
-  pub ends : (texts : List (List ℕ)) → HaveTexts world.old.known names texts
-      → EndsDumping form texts inputs old.contents new.contents ended ⊎ ((ended ≡ Err Memory) × (new ≡ old))
-  pub absent : (place : ℕ) → IsAbsentAt world.old.known names place → IsUnopened place ended × (new ≡ old)
-  pub reads : ReadsInputs world.old.known form.hex names inputs ended
-  pub failed : new.failed ≡ is_failed_write ended
-  pub asked : Asks world (OpensOnce (map string_bytes names) ended)
+-- Not all inputs of the names could be opened, as is reported. None is left open, and nothing was written.
+pub record IsNoneOpened {A S : Type 0} (world : Known) (names : List (String A)) (inputs : List SourceState) (old new : SinkState)
+    (ended : Result S RunFault) : Type 0 where
+  pub fault : RunFault
+  pub reported : ended ≡ Err fault
+  pub unopened : IsUnopenedFor (of_each world.holds names) (of_each world.is_absent names) fault
+  pub none : inputs ≡ []
+  pub unwritten : new ≡ old
+  pub fine : new.failed ≡ false
 
--- Segments were made of texts. Each file was opened once, in order.
-pub record IsEncoded {A : Type 0} (world : WorldChange) (inputs : List SourceState) (hex : Bool) (names : List (String A))
-    (old new : SinkState) (ended : Result (Unit {0}) RunFault) : Type 0 where
-  pub ends : (texts : List (List ℕ)) → HaveTexts world.old.known names texts
-      → EndsEncoding hex texts inputs old.contents new.contents ended ⊎ (ended ≡ Err Memory)
-  pub absent : (place : ℕ) → IsAbsentAt world.old.known names place → IsUnopened place ended
-  pub reads : ReadsInputs world.old.known true names inputs ended
-  pub failed : new.failed ≡ is_failed_write ended
-  pub untouched : IfErr ended (λ fault. fault ≢ Write → new ≡ old)
+-- All inputs of the names were opened: none is absent. What a conversion promises of sources holds of these.
+pub record IsConvertedOf {A S : Type 0} (Converts : List SourceState → List SourceState → SinkState → SinkState → Result S RunFault → Type 0)
+    (world : Known) (names : List (String A)) (inputs : List SourceState) (old new : SinkState) (ended : Result S RunFault) : Type 0 where
+  pub there : All (λ absent. absent ≡ false) (of_each world.is_absent names)
+  pub converted : Converts (map fresh (of_inputs world.holds world.standard names)) inputs old new ended
+
+-- Segments were printed as text, or made of texts, which a conversion of sources promises. Each file was opened once, in order.
+pub record IsConverted {A S : Type 0} (Converts : List SourceState → List SourceState → SinkState → SinkState → Result S RunFault → Type 0)
+    (world : WorldChange) (inputs : List SourceState) (names : List (String A)) (old new : SinkState) (ended : Result S RunFault)
+    : Type 0 where
+  pub is : IsConvertedOf Converts world.old.known names inputs old new ended ⊎ IsNoneOpened world.old.known names inputs old new ended
   pub asked : Asks world (OpensOnce (map string_bytes names) ended)

@@ -17,6 +17,8 @@ use Rattle.htl_device.specs.States.{SinkState, SourceState, fresh}
 use Rattle.htl_inputs.specs.declared.cuts.CutInputs.{CutInputs}
 use Rattle.htl_inputs.specs.declared.fault.RunFault.{RunFault}
 use Rattle.htl_inputs.specs.declared.fault.RunFault.TheVariants as faults
+use Rattle.htl_convert.specs.Dumps.{IsDumpedFrom}
+use Rattle.htl_convert.specs.Encodings.{IsEncodedFrom}
 use Rattle.htl_dialogue.specs.Notes.{Note}
 use Rattle.htl_dialogue.specs.declared.dialogue.Conversed.{Conversed}
 use Rattle.htl_dialogue.specs.declared.dialogue.DialogueFault.{DialogueFault}
@@ -30,7 +32,7 @@ use Rattle.htl_ask.specs.Outcomes.{IsConversed, Talk, talk}
 use Rattle.htl_ask.specs.declared.ask_fault.AskFault.{AskFault}
 use Rattle.htl_ask.specs.declared.ask_fault.AskFault.TheVariants as asks
 use Rattle.htl_program.specs.Opened.{IsUntouched, Reach}
-use Rattle.htl_program.specs.Outcomes.{IsAnswered, IsDumped, IsEncoded}
+use Rattle.htl_program.specs.Outcomes.{IsAnswered, IsConverted}
 use Rattle.htl_program.specs.Messages.{Hears, HearsAll, HearsRun, Message, alone, cut_noted, fault, fault_said, no_memory, notes_said}
 use Rattle.htl_program.specs.Messages.{stop_said, text, unwritten}
 use Rattle.htl_program.specs.Statuses.{conversion_status, dialogue_status, end_status}
@@ -69,55 +71,56 @@ HearsUnless true old new messages = new ≡ old
 HearsUnless false old new messages = HearsAll old new messages
 
 -- The fault that ended a run is said, once, and in words where these are wanted; a failed write may go unsaid.
-abbrev pub SaysFault : Bool → Bool → Option (List Message) → Option (List Message) → Command → Refused → Type 0
-SaysFault quiet in_words old new command refused =
+abbrev pub SaysFault : Bool → Bool → Command → Refused → Option (List Message) → Option (List Message) → Type 0
+SaysFault quiet in_words command refused old new =
     HearsUnless (is_unsaid quiet refused.fault) old new (fault_said in_words command refused)
 
--- how a question's end is said, once its run is over
-abbrev pub SaysAnswer : Bool → Bool → Option (List Message) → Option (List Message) → Command → Run → Result Completed Refused → Type 0
-SaysAnswer quiet in_words old new command run (Ok completed) = HearsAll old new (notes_said in_words command run completed)
-SaysAnswer quiet in_words old new command run (Err refused) = SaysFault quiet in_words old new command refused
+-- A run of a command, as a person meets it: it ended so, and this is its status. It was said that the run begins and that it has ended, and
+-- then how.
+pub record IsPerformed {E : Type 0} (Ends : E → Type 0) (status_of : E → ℕ) (Says : E → Option (List Message) → Option (List Message) → Type 0)
+    (command : Command) (old new : Option (List Message)) (status : ℕ) : Type 0 where
+  pub ended : E
+  pub is : Ends ended
+  pub status_is : status ≡ status_of ended
+  pub after_run : Option (List Message)
+  pub hears_run : HearsRun command old after_run
+  pub said : Says ended after_run new
 
-pub record DoesAnswer (watches in_words : Bool) (reach : Reach) (old new : Told) (command : Command) (run : Run) (status : ℕ) : Type 0
-  where
-    pub ended : Result Completed Refused
-    pub is : IsAnswered reach.world reach.after.files run old.out new.out ended
-    pub questions : reach.after.questions ≡ reach.before.questions
-    pub status_is : status ≡ end_status run.job.exit_code (by_fault ended)
-    pub after_run : Option (List Message)
-    pub hears_run : HearsRun command old.heard after_run
-    pub said : SaysAnswer (is_quiet watches new) in_words after_run new.heard command run ended
+-- the same of a run that reads no lines of a dialogue, in a world
+abbrev pub Performs : {E : Type 0} → Reach → (E → Type 0) → (E → ℕ) → (E → Option (List Message) → Option (List Message) → Type 0)
+    → Command → Told → Told → ℕ → Type 0
+Performs reach Ends status_of Says command old new status =
+    (reach.after.questions ≡ reach.before.questions) × IsPerformed Ends status_of Says command old.heard new.heard status
+
+-- how a question's end is said
+abbrev pub SaysAnswer : Bool → Bool → Command → Run → Result Completed Refused → Option (List Message) → Option (List Message) → Type 0
+SaysAnswer quiet in_words command run (Ok completed) old new = HearsAll old new (notes_said in_words command run completed)
+SaysAnswer quiet in_words command run (Err refused) old new = SaysFault quiet in_words command refused old new
+
+abbrev pub DoesAnswer : Bool → Bool → Reach → Told → Told → Command → Run → ℕ → Type 0
+DoesAnswer watches in_words reach old new command run status =
+    Performs reach (IsAnswered reach.world reach.after.files run old.out new.out) (λ ended. end_status run.job.exit_code (by_fault ended))
+    (SaysAnswer (is_quiet watches new) in_words command run) command old new status
 
 -- how a conversion's end is said: nothing, if it ended well
-abbrev pub SaysConversion : {S : Type 0} → Bool → Bool → Option (List Message) → Option (List Message) → Command → Result S RunFault
-    → Type 0
-SaysConversion quiet in_words old new command (Ok done) = new ≡ old
-SaysConversion quiet in_words old new command (Err reported) = SaysFault quiet in_words old new command (alone reported)
+abbrev pub SaysConversion : {S : Type 0} → Bool → Bool → Command → Result S RunFault → Option (List Message) → Option (List Message) → Type 0
+SaysConversion quiet in_words command (Ok done) old new = new ≡ old
+SaysConversion quiet in_words command (Err reported) old new = SaysFault quiet in_words command (alone reported) old new
 
 -- the same of a dump: which inputs end within a segment, where they may
-abbrev pub SaysDump : Bool → Bool → Option (List Message) → Option (List Message) → Command → Result (Option CutInputs) RunFault → Type 0
-SaysDump quiet in_words old new command (Ok cut) = HearsAll old new (cut_noted in_words command cut)
-SaysDump quiet in_words old new command (Err reported) = SaysFault quiet in_words old new command (alone reported)
+abbrev pub SaysDump : Bool → Bool → Command → Result (Option CutInputs) RunFault → Option (List Message) → Option (List Message) → Type 0
+SaysDump quiet in_words command (Ok cut) old new = HearsAll old new (cut_noted in_words command cut)
+SaysDump quiet in_words command (Err reported) old new = SaysFault quiet in_words command (alone reported) old new
 
-pub record DoesDump {A : Type 0} (watches in_words : Bool) (reach : Reach) (old new : Told) (command : Command) (form : InputForm)
-    (files : List (String A)) (status : ℕ) : Type 0 where
-  pub ended : Result (Option CutInputs) RunFault
-  pub is : IsDumped reach.world reach.after.files form files old.out new.out ended
-  pub questions : reach.after.questions ≡ reach.before.questions
-  pub status_is : status ≡ conversion_status ended
-  pub after_run : Option (List Message)
-  pub hears_run : HearsRun command old.heard after_run
-  pub said : SaysDump (is_quiet watches new) in_words after_run new.heard command ended
+abbrev pub DoesDump : {A : Type 0} → Bool → Bool → Reach → Told → Told → Command → InputForm → List (String A) → ℕ → Type 0
+DoesDump watches in_words reach old new command form files status =
+    Performs reach (IsConverted (IsDumpedFrom form) reach.world reach.after.files files old.out new.out) conversion_status
+    (SaysDump (is_quiet watches new) in_words command) command old new status
 
-pub record DoesEncode {A : Type 0} (watches in_words : Bool) (reach : Reach) (old new : Told) (command : Command) (hex : Bool)
-    (files : List (String A)) (status : ℕ) : Type 0 where
-  pub ended : Result (Unit {0}) RunFault
-  pub is : IsEncoded reach.world reach.after.files hex files old.out new.out ended
-  pub questions : reach.after.questions ≡ reach.before.questions
-  pub status_is : status ≡ conversion_status ended
-  pub after_run : Option (List Message)
-  pub hears_run : HearsRun command old.heard after_run
-  pub said : SaysConversion (is_quiet watches new) in_words after_run new.heard command ended
+abbrev pub DoesEncode : {A : Type 0} → Bool → Bool → Reach → Told → Told → Command → Bool → List (String A) → ℕ → Type 0
+DoesEncode watches in_words reach old new command hex files status =
+    Performs reach (IsConverted (IsEncodedFrom {S = Unit {0}} hex) reach.world reach.after.files files old.out new.out) conversion_status
+    (SaysConversion (is_quiet watches new) in_words command) command old new status
 
 -- A text that was asked for: it is written and nothing is said, with status 0; or its write fails, with status 5, which is said unless a
 -- person watches and the output's reader has gone.
@@ -146,11 +149,11 @@ EncodesOrRefuses true watches in_words reach old new command hex files status =
 EncodesOrRefuses false watches in_words reach old new command hex files status =
     DoesEncode watches in_words reach old new command hex files status
 
--- how a dialogue's end is said, once it is over: nothing, if it ended well
-abbrev pub SaysDialogue : {S : Type 0} → Bool → Bool → Option (List Message) → Option (List Message) → Command → Result S AskFault → Type 0
-SaysDialogue quiet in_words old new command (Ok done) = new ≡ old
-SaysDialogue quiet in_words old new command (Err (asks.Run refused)) = SaysFault quiet in_words old new command refused
-SaysDialogue quiet in_words old new command (Err (asks.Dialogue stopped)) =
+-- how a dialogue's end is said: nothing, if it ended well
+abbrev pub SaysDialogue : {S : Type 0} → Bool → Bool → Command → Result S AskFault → Option (List Message) → Option (List Message) → Type 0
+SaysDialogue quiet in_words command (Ok done) old new = new ≡ old
+SaysDialogue quiet in_words command (Err (asks.Run refused)) old new = SaysFault quiet in_words command refused old new
+SaysDialogue quiet in_words command (Err (asks.Dialogue stopped)) old new =
     HearsUnless (is_stop_unsaid quiet stopped) old new (stop_said in_words stopped)
 
 -- The speaker of a dialogue, before it and after. `told`, `noted` and `left` say how a note, the wish for notes, and the end of the replies
@@ -189,9 +192,8 @@ talk_of questions left speaker listening old new =
 
 -- The lines of standard input get their replies. The speaker is given as they were when the last reply had come. The lines are asked for
 -- first, and once.
-pub record DoesConverse {S : Type 0} (watches in_words : Bool) (speaker : Spoken S) (reach : Reach) (old new : Told) (command : Command)
-    (of : Dialogue) (status : ℕ) : Type 0 where
-  pub ended : Result Conversed AskFault
+pub record Converses {S : Type 0} (speaker : Spoken S) (reach : Reach) (old new : Told) (of : Dialogue) (ended : Result Conversed AskFault)
+    : Type 0 where
   pub listening : S
   pub questions : SourceState
   pub handed : reach.after.questions ≡ Some questions
@@ -203,10 +205,11 @@ pub record DoesConverse {S : Type 0} (watches in_words : Bool) (speaker : Spoken
   pub untouched : IfErr (before_dialogue ended) (λ refused.
       (questions ≡ fresh reach.world.old.known.standard) × (new.out ≡ old.out) × (listening ≡ speaker.before))
   pub after : speaker.after ≡ speaker.left listening questions.ended
-  pub status_is : status ≡ dialogue_status speaker.counts_wrong ended
-  pub after_run : Option (List Message)
-  pub hears_run : HearsRun command old.heard after_run
-  pub said : SaysDialogue (is_quiet watches new) in_words after_run new.heard command ended
+
+abbrev pub DoesConverse : {S : Type 0} → Bool → Bool → Spoken S → Reach → Told → Told → Command → Dialogue → ℕ → Type 0
+DoesConverse watches in_words speaker reach old new command of status =
+    IsPerformed (Converses speaker reach old new of) (dialogue_status speaker.counts_wrong)
+    (SaysDialogue (is_quiet watches new) in_words command) command old.heard new.heard status
 
 -- What is done for a command, and the status with which the program ends. Whether a person sees the output is given first, then
 -- whether one watches what is said, and then whether that is said in words too.

@@ -1,9 +1,10 @@
 //! Where answers are written, and who reads the messages beside them.
 
 ghost use Rattle.std.specs.Prelude.{◌≡◌, ◌&&◌, ◌||◌};
+ghost use Rattle.htl_program.specs.Messages.{Hears, begun, over};
 
 use crate::output::Output;
-use crate::saying::Person;
+use crate::saying::{Audience, Manner, Person};
 use htl_command::CommandLine;
 
 /// Where answers go, and who reads what is said beside them.
@@ -15,12 +16,36 @@ pub struct Console<O, P> {
     pub person: P,
 }
 
-impl<O, P: Person> Console<O, P> {
-    /// Whether faults are explained and notes are given: a person watches, or notes are asked for.
-    pub(crate) fn says_words(&self, line: &CommandLine) -> bool
-        ensures { result ≡ (P.is_watching self.now.person || line.now.notes) }
+impl<O: Output, P: Person> Console<O, P> {
+    /// Says that the run of the command line begins.
+    pub(crate) fn begin(&mut self, line: &CommandLine) -> Audience
+        ensures watching { result.is_watching ≡ P.is_watching self.old.person }
+        ensures words { result.wants_words ≡ (P.is_watching self.old.person || line.now.notes) }
+        ensures told { Hears (P.heard self.old.person) (P.heard self.new.person)
+            (begun line.now.command) }
+        ensures out { self.new.out ≡ self.old.out }
     {
-        self.person.is_watching() || line.notes
+        let is_watching = self.person.is_watching();
+        self.person.begins(&line.command);
+        Audience {
+            is_watching,
+            wants_words: is_watching || line.notes,
+        }
+    }
+
+    /// Says that the run has ended, and in which manner it is told how.
+    pub(crate) fn end(&mut self, audience: Audience) -> Manner
+        ensures quiet { result.is_quiet
+            ≡ (audience.is_watching && O.has_lost_reader self.new.out) }
+        ensures words { result.in_words ≡ audience.wants_words }
+        ensures told { Hears (P.heard self.old.person) (P.heard self.new.person) over }
+        ensures out { self.new.out ≡ self.old.out }
+    {
+        self.person.ends();
+        Manner {
+            is_quiet: self.is_quiet(audience.is_watching),
+            in_words: audience.wants_words,
+        }
     }
 }
 

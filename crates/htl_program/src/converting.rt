@@ -1,8 +1,10 @@
 //! The runs that print the segments of files as text and make segments of texts, in a world.
 
 ghost use Rattle.std.specs.Prelude.{◌≡◌, ℕ, false, map};
+ghost use Rattle.htl_convert.specs.Dumps.{IsDumpedFrom};
+ghost use Rattle.htl_convert.specs.Encodings.{IsEncodedFrom};
 ghost use Rattle.htl_world.specs.Worlds.{IsAbsentAt, change};
-ghost use Rattle.htl_program.specs.Outcomes.{IsDumped, IsEncoded};
+ghost use Rattle.htl_program.specs.Outcomes.{IsConverted};
 
 use htl_command::InputForm;
 use htl_convert::{dump_from, encode_from};
@@ -24,9 +26,9 @@ pub fn dump<W: World, O: Sink>(
     out: &mut O,
 ) -> Result<Option<CutInputs>, RunFault>
     requires { (O.state out.old).failed ≡ false }
-    ensures dumped { IsDumped (change (W.state world.old) (W.state world.new))
-        (map W.Input.state inputs.new.items) form files.now (O.state out.old) (O.state out.new)
-        result }
+    ensures dumped { IsConverted (IsDumpedFrom form)
+        (change (W.state world.old) (W.state world.new)) (map W.Input.state inputs.new.items)
+        files.now (O.state out.old) (O.state out.new) result }
     ensures untouched { (place : ℕ) → IsAbsentAt (W.state world.old).known files.now place
         → out.new ≡ out.old }
 {
@@ -47,8 +49,8 @@ pub fn encode<W: World, O: Sink>(
     out: &mut O,
 ) -> Result<(), RunFault>
     requires { (O.state out.old).failed ≡ false }
-    ensures { IsEncoded (change (W.state world.old) (W.state world.new))
-        (map W.Input.state inputs.new.items) hex files.now (O.state out.old) (O.state out.new)
+    ensures { IsConverted (IsEncodedFrom hex) (change (W.state world.old) (W.state world.new))
+        (map W.Input.state inputs.new.items) files.now (O.state out.old) (O.state out.new)
         result }
 {
     open_inputs(alloc, world, files, inputs)?;

@@ -39,20 +39,10 @@ pub(crate) fn do_answer<Rt: Threads + Sync, W: World, O: Output, P: Person>(
         (told O.state O.has_lost_reader P.heard console.new)
         line.now.command run.now result }
 {
-    let is_watched = console.person.is_watching();
-    let in_words = console.says_words(line);
-    console.person.begins(&line.command);
+    let audience = console.begin(line);
     let ended = answer(rt, alloc, world, run, &mut inputs.files, &mut console.out);
-    console.person.ends();
-    let is_quiet = console.is_quiet(is_watched);
-    say_answer(
-        &line.command,
-        run,
-        is_quiet,
-        in_words,
-        ended,
-        &mut console.person,
-    );
+    let manner = console.end(audience);
+    say_answer(&line.command, run, manner, ended, &mut console.person);
     status_of_answer(run.job.exit_code, ended)
 }
 
@@ -74,9 +64,7 @@ pub(crate) fn do_dump<W: World, O: Output, P: Person>(
         (told O.state O.has_lost_reader P.heard console.new)
         line.now.command form files.now result }
 {
-    let is_watched = console.person.is_watching();
-    let in_words = console.says_words(line);
-    console.person.begins(&line.command);
+    let audience = console.begin(line);
     let ended = dump(
         alloc,
         world,
@@ -85,15 +73,8 @@ pub(crate) fn do_dump<W: World, O: Output, P: Person>(
         &mut inputs.files,
         &mut console.out,
     );
-    console.person.ends();
-    let is_quiet = console.is_quiet(is_watched);
-    say_dump(
-        &line.command,
-        is_quiet,
-        in_words,
-        ended,
-        &mut console.person,
-    );
+    let manner = console.end(audience);
+    say_dump(&line.command, manner, ended, &mut console.person);
     status_of_conversion(ended)
 }
 
@@ -140,9 +121,7 @@ fn encode_into<W: World, O: Output, P: Person>(
         (told O.state O.has_lost_reader P.heard console.new)
         line.now.command hex files.now result }
 {
-    let is_watched = console.person.is_watching();
-    let in_words = console.says_words(line);
-    console.person.begins(&line.command);
+    let audience = console.begin(line);
     let ended = encode(
         alloc,
         world,
@@ -151,15 +130,8 @@ fn encode_into<W: World, O: Output, P: Person>(
         &mut inputs.files,
         &mut console.out,
     );
-    console.person.ends();
-    let is_quiet = console.is_quiet(is_watched);
-    say_encoding(
-        &line.command,
-        is_quiet,
-        in_words,
-        ended,
-        &mut console.person,
-    );
+    let manner = console.end(audience);
+    say_encoding(&line.command, manner, ended, &mut console.person);
     status_of_conversion(ended)
 }
 
@@ -182,9 +154,7 @@ pub(crate) fn do_converse<Rt: Threads + Sync, W: World, O: Output, P: Person, S:
         (told O.state O.has_lost_reader P.heard console.new)
         line.now.command files.now.dialogue.now result }
 {
-    let is_watched = console.person.is_watching();
-    let in_words = console.says_words(line);
-    console.person.begins(&line.command);
+    let audience = console.begin(line);
     let mut questions = world.questions();
     let ended = converse(
         alloc,
@@ -197,14 +167,7 @@ pub(crate) fn do_converse<Rt: Threads + Sync, W: World, O: Output, P: Person, S:
     );
     speaker.leaves(questions.ended());
     inputs.questions = Some(questions);
-    console.person.ends();
-    let is_quiet = console.is_quiet(is_watched);
-    say_dialogue(
-        &line.command,
-        is_quiet,
-        in_words,
-        ended,
-        &mut console.person,
-    );
+    let manner = console.end(audience);
+    say_dialogue(&line.command, manner, ended, &mut console.person);
     status_after(speaker.counts_wrong(), ended)
 }

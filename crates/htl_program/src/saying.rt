@@ -1,9 +1,10 @@
-//! What is said to a person of how a run ended. Where that is `quiet`, a person watches and the output's
-//! reader has gone: then a failed write goes unsaid.
+//! What is said to a person of how a run ended.
 //!
-//! `person.rt` is who reads it, and `lack.rt` what a person is told that a question lacks.
+//! `person.rt` is who reads it, `manner.rt` how it is told, and `lack.rt` what a person is told that a
+//! question lacks.
 
 mod lack;
+mod manner;
 mod person;
 
 ghost use Rattle.std.specs.Prelude.{◌≡◌, ◌&&◌, is_some};
@@ -18,23 +19,23 @@ use htl_command::{Command, Job, Moment, Run};
 use htl_dialogue::{Conversed, DialogueFault};
 use htl_main::{Between, Completed, Coverage, CutInputs, Refused, RunFault};
 pub use lack::Lack;
+pub(crate) use manner::{Audience, Manner};
 pub use person::Person;
 
 /// Says how the run of a question ended.
 pub(crate) fn say_answer<P: Person>(
     command: &Command,
     run: &Run,
-    is_quiet: bool,
-    in_words: bool,
+    manner: Manner,
     ended: Result<Completed, Refused>,
     person: &mut P,
 )
-    ensures { SaysAnswer is_quiet in_words (P.heard person.old) (P.heard person.new) command.now run.now
-        ended }
+    ensures { SaysAnswer manner.is_quiet manner.in_words command.now run.now ended
+        (P.heard person.old) (P.heard person.new) }
 {
     match ended {
-        Ok(completed) => note(command, run, in_words, completed, person),
-        Err(refused) => report(command, is_quiet, in_words, refused, person),
+        Ok(completed) => note(command, run, manner.in_words, completed, person),
+        Err(refused) => report(command, manner, refused, person),
     }
 }
 
@@ -106,33 +107,32 @@ fn note_cut<P: Person>(command: &Command, cut: Option<CutInputs>, person: &mut P
 /// Says how the printing of segments ended: where words are wanted, which inputs end within one.
 pub(crate) fn say_dump<P: Person>(
     command: &Command,
-    is_quiet: bool,
-    in_words: bool,
+    manner: Manner,
     ended: Result<Option<CutInputs>, RunFault>,
     person: &mut P,
 )
-    ensures { SaysDump is_quiet in_words (P.heard person.old) (P.heard person.new) command.now ended }
+    ensures { SaysDump manner.is_quiet manner.in_words command.now ended
+        (P.heard person.old) (P.heard person.new) }
 {
     match ended {
-        Ok(cut) if in_words => note_cut(command, cut, person),
+        Ok(cut) if manner.in_words => note_cut(command, cut, person),
         Ok(_) => {}
-        Err(fault) => report(command, is_quiet, in_words, alone(fault), person),
+        Err(fault) => report(command, manner, alone(fault), person),
     }
 }
 
 /// Reports why segments could not be made, if they could not.
 pub(crate) fn say_encoding<P: Person>(
     command: &Command,
-    is_quiet: bool,
-    in_words: bool,
+    manner: Manner,
     ended: Result<(), RunFault>,
     person: &mut P,
 )
-    ensures { SaysConversion is_quiet in_words (P.heard person.old) (P.heard person.new) command.now
-        ended }
+    ensures { SaysConversion manner.is_quiet manner.in_words command.now ended
+        (P.heard person.old) (P.heard person.new) }
 {
     if let Err(fault) = ended {
-        report(command, is_quiet, in_words, alone(fault), person);
+        report(command, manner, alone(fault), person);
     }
 }
 
@@ -140,15 +140,15 @@ pub(crate) fn say_encoding<P: Person>(
 /// write goes unsaid where that is quiet.
 pub(crate) fn report<P: Person>(
     command: &Command,
-    is_quiet: bool,
-    in_words: bool,
+    manner: Manner,
     refused: Refused,
     person: &mut P,
 )
-    ensures { SaysFault is_quiet in_words (P.heard person.old) (P.heard person.new) command.now refused }
+    ensures { SaysFault manner.is_quiet manner.in_words command.now refused
+        (P.heard person.old) (P.heard person.new) }
 {
-    if !is_unsaid(is_quiet, refused.fault) {
-        say_fault(command, in_words, refused, person);
+    if !is_unsaid(manner.is_quiet, refused.fault) {
+        say_fault(command, manner.in_words, refused, person);
     }
 }
 
@@ -186,20 +186,19 @@ pub(crate) fn alone(fault: RunFault) -> Refused
 /// Reports why a dialogue ended early, if it did.
 pub(crate) fn say_dialogue<P: Person>(
     command: &Command,
-    is_quiet: bool,
-    in_words: bool,
+    manner: Manner,
     ended: Result<Conversed, AskFault>,
     person: &mut P,
 )
-    ensures { SaysDialogue is_quiet in_words (P.heard person.old) (P.heard person.new) command.now
-        ended }
+    ensures { SaysDialogue manner.is_quiet manner.in_words command.now ended
+        (P.heard person.old) (P.heard person.new) }
 {
     match ended {
         Ok(_) => {}
-        Err(AskFault::Run(refused)) => report(command, is_quiet, in_words, refused, person),
+        Err(AskFault::Run(refused)) => report(command, manner, refused, person),
         Err(AskFault::Dialogue(fault)) => {
-            if !is_stop_unsaid(is_quiet, fault) {
-                say_stop(in_words, fault, person);
+            if !is_stop_unsaid(manner.is_quiet, fault) {
+                say_stop(manner.in_words, fault, person);
             }
         }
     }

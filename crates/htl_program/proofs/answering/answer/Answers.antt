@@ -6,7 +6,7 @@ use Rattle.htl_main.specs.Origins.{by_fault}
 use Rattle.htl_world.proofs.Asked.{all_ended, all_then}
 use Rattle.htl_world.proofs.NamesRead.{inputs_unread, unread_asks}
 use Rattle.htl_world.proofs.PassedOn.{ends_so, no_end}
-use Rattle.htl_program.proofs.RanOut.{ran_out}
+use Rattle.htl_program.proofs.NamesRun.{ran_out}
 use Rattle.htl_program.proofs.answering.answer.Goals as goal
 
 pub returns-in_err-table : goal.returns-in_err-table

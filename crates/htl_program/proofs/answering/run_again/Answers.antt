@@ -1,33 +1,19 @@
--- Inputs whose texts are known are opened once more, or memory is refused.
-use Rattle.std.proofs.Common.{◌≡◌, ◌∙◌, ap, drop, inl, inr, length, map, rules, string_bytes}
+-- The inputs are opened once more, and a run over them is one over their names; or there is none.
+use Rattle.std.proofs.Common.{◌≡◌, ◌∙◌, ap, drop, length, map, rules, string_bytes}
 use Rattle.std.specs.Prelude.{Err}
 use Rattle.std.proofs.lemmas.Result.{err_from_is_err_and}
 use Rattle.htl_lemmas.proofs.Lists.{take_front}
 use Rattle.htl_main.specs.Origins.{by_fault}
-use Rattle.htl_world.specs.Worlds.{of_each}
 use Rattle.htl_world.proofs.Asked.{last_round}
-use Rattle.htl_world.proofs.FirstAbsent.{only_memory}
-use Rattle.htl_world.proofs.NamesRead.{inputs_unread, unread_asks}
-use Rattle.htl_program.proofs.NamesRun.{run_of_names}
-use Rattle.htl_program.proofs.RanOut.{ran_out}
+use Rattle.htl_program.proofs.NamesRun.{none_run, run_of_names}
 use Rattle.htl_program.proofs.answering.run_again.Goals as goal
 
 pub returns-in_err-open_inputs-clause-run : goal.returns-in_err-open_inputs-clause-run
 returns-in_err-open_inputs-clause-run g c =
-    let world = (g.W.World.state c.args.world.now).known in
-    let names = c.deref.result.now in
-    let fault = c.in_err-open_inputs.field-0.0 in
-    let refused = c.in_err-open_inputs.ensures.refused in
+    let opened = c.in_err-open_inputs.ensures in
     let p = err_from_is_err_and c.from_residual.result c.from_residual.ensures.1 in
-    record {
-      ends = rw (← c.deref.ensures.value) (λ texts all. inr (ran_out c.from_residual.result p.0 p.1
-          (p.2.0 ∙ only_memory world.holds world.standard names texts (of_each world.is_absent names) fault all refused) p.2.1));
-      reads = rw (← c.deref.ensures.value) (inputs_unread world _ names _ _ fault (ap by_fault p.1 ∙ ap Err p.2.0)
-          (inl (c.in_err-open_inputs.ensures.none, refused)));
-      readers = rw (← c.deref.ensures.value) (unread_asks c.args.run.now.job.setting _ (of_each world.holds names)
-          (of_each world.is_absent names) _ fault (inl (c.in_err-open_inputs.ensures.none, refused)));
-      sink = search rules;
-    }
+    none_run (g.W.World.state c.args.world.now).known c.args.run.now _ _ _ c.from_residual.result p.0 c.in_err-open_inputs.field-0.0 p.1 p.2.0 p.2.1
+    opened.none (rw c.deref.ensures.value at opened.refused)
 
 pub returns-in_err-open_inputs-clause-asked : goal.returns-in_err-open_inputs-clause-asked
 returns-in_err-open_inputs-clause-asked g c =
@@ -41,5 +27,5 @@ returns-clause-run g c =
     let opened = c.in_ok-open_inputs.ensures in
     let kept : length c.run_from.new.inputs ≡ inputs.len = search rules in
     let back = take_front c.run_from.new.inputs (drop (length c.run_from.new.inputs) inputs.items) inputs.len kept in
-    rw back (run_of_names g.W.Input.Source.state (g.W.World.state c.args.world.now).known c.args.run.now _ inputs.items c.run_from.new.inputs _ _ _
+    rw back (run_of_names (g.W.World.state c.args.world.now).known c.args.run.now _ g.W.Input.Source.state inputs.items c.run_from.new.inputs _ _ _
     (rw c.deref.ensures.value at opened.sources) (rw c.deref_mut.ensures.value at c.run_from.ensures))

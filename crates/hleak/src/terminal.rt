@@ -10,8 +10,8 @@ use crate::terminals::Terminals;
 use crate::voice::Voice;
 use htl_command::{Command, ParseFault};
 use htl_dialogue::DialogueFault;
-use htl_main::{Coverage, CutInputs, Refused, RunFault};
-use htl_program::{Lack, Person};
+use htl_main::{CutInputs, Refused, RunFault};
+use htl_program::{Message, Person};
 
 /// Who reads standard error, at a terminal or not.
 #[derive(Clone, Copy)]
@@ -21,6 +21,53 @@ pub struct Terminal<'p> {
 }
 
 impl Terminal<'_> {
+    /// Says that the program waits, where it does. The progress is hidden while the text of segments
+    /// is written to a terminal.
+    fn begin(self, command: &Command) {
+        match command {
+            Command::Question(run) if run.files.is_empty() => self.await_typing("segments are"),
+            Command::Dump { files, .. } if files.is_empty() => self.await_typing("segments are"),
+            Command::Encode { files, .. } if files.is_empty() => self.await_typing("text is"),
+            _ => {}
+        }
+        if let (Some(progress), Command::Dump { .. }, true) = (
+            self.voice.progress,
+            command,
+            self.terminals.output,
+        ) {
+            progress.hide();
+        }
+    }
+
+    /// The line that shows how much was read goes away.
+    fn end(self) {
+        if let Some(progress) = self.voice.progress {
+            progress.clear();
+        }
+    }
+
+    /// Says what a fault of the command's run means.
+    fn explain(self, command: &Command, refused: Refused) {
+        if let Some(task) = Task::of(command) {
+            self.voice.explain(task, refused);
+        }
+    }
+
+    /// Says which inputs of the command end within a segment.
+    fn note_cut(self, command: &Command, inputs: CutInputs) {
+        if let Some(task) = Task::of(command) {
+            self.voice.note_cut(task, inputs);
+        }
+    }
+
+    /// Says what it means that the replies of a dialogue stopped.
+    fn explain_stop(self, stopped: DialogueFault) {
+        self.voice.say(Stopped {
+            fault: stopped,
+            reason: self.voice.refusal.reason(),
+        });
+    }
+
     /// Says to a person at a terminal that the program waits for what is typed there.
     fn await_typing(self, what: &str) {
         if self.terminals.has_typist() {
@@ -46,73 +93,20 @@ impl Person for Terminal<'_> {
         self.terminals.errors
     }
 
-    /// The progress is hidden while the text of segments is written to a terminal.
-    fn begins(&mut self, command: &Command) {
-        match command {
-            Command::Question(run) if run.files.is_empty() => self.await_typing("segments are"),
-            Command::Dump { files, .. } if files.is_empty() => self.await_typing("segments are"),
-            Command::Encode { files, .. } if files.is_empty() => self.await_typing("text is"),
-            _ => {}
+    fn hears(&mut self, message: Message<&Command, &ParseFault>) {
+        match message {
+            Message::Begins(command) => self.begin(command),
+            Message::Ends => self.end(),
+            Message::Refusal(refused) => self.voice.refuse(refused),
+            Message::Unwritten => self.voice.say(RunFault::Write),
+            Message::Fault(refused) => self.voice.say(refused),
+            Message::Meaning(command, refused) => self.explain(command, refused),
+            Message::Lack(lack) => self.voice.say(Lacking { lack }),
+            Message::Unnamed => self.voice.say(Note::Unnamed),
+            Message::Gaps(coverage) => self.voice.say(Note::Gaps(coverage)),
+            Message::Cut(command, inputs) => self.note_cut(command, inputs),
+            Message::Stop(stopped) => self.voice.say(stopped),
+            Message::StopMeaning(stopped) => self.explain_stop(stopped),
         }
-        if let (Some(progress), Command::Dump { .. }, true) = (
-            self.voice.progress,
-            command,
-            self.terminals.output,
-        ) {
-            progress.hide();
-        }
-    }
-
-    fn ends(&mut self) {
-        if let Some(progress) = self.voice.progress {
-            progress.clear();
-        }
-    }
-
-    fn refuses(&mut self, refused: &ParseFault) {
-        self.voice.refuse(refused);
-    }
-
-    fn loses_text(&mut self) {
-        self.voice.say(RunFault::Write);
-    }
-
-    fn reports(&mut self, refused: Refused) {
-        self.voice.say(refused);
-    }
-
-    fn explains(&mut self, command: &Command, refused: Refused) {
-        if let Some(task) = Task::of(command) {
-            self.voice.explain(task, refused);
-        }
-    }
-
-    fn lacks(&mut self, lack: Lack) {
-        self.voice.say(Lacking { lack });
-    }
-
-    fn finds_no_name(&mut self) {
-        self.voice.say(Note::Unnamed);
-    }
-
-    fn finds_gaps(&mut self, coverage: Coverage) {
-        self.voice.say(Note::Gaps(coverage));
-    }
-
-    fn finds_cut(&mut self, command: &Command, inputs: CutInputs) {
-        if let Some(task) = Task::of(command) {
-            self.voice.note_cut(task, inputs);
-        }
-    }
-
-    fn stops(&mut self, stopped: DialogueFault) {
-        self.voice.say(stopped);
-    }
-
-    fn explains_stop(&mut self, stopped: DialogueFault) {
-        self.voice.say(Stopped {
-            fault: stopped,
-            reason: self.voice.refusal.reason(),
-        });
     }
 }

@@ -1,10 +1,10 @@
 -- A conversion of inputs that were opened is one of their names, and where not all could be opened there was none.
-use Rattle.std.proofs.Common.{◌≡◌, Bool, false, List, inl, inr, map, refl, string_bytes}
+use Rattle.std.proofs.Common.{◌≡◌, false, List, inl, inr, map, refl, string_bytes}
 use Rattle.std.specs.Prelude.{Result, Ok, Err, String}
-use Rattle.htl_device.specs.States.{SinkState, SourceState, fresh}
+use Rattle.htl_device.specs.States.{SinkState, SourceState}
 use Rattle.htl_inputs.specs.declared.fault.RunFault.{RunFault}
 use Rattle.htl_world.specs.Openings.{OpensInputsOf}
-use Rattle.htl_world.specs.Worlds.{WorldState, change, of_inputs}
+use Rattle.htl_world.specs.Worlds.{WorldState, change}
 use Rattle.htl_world.proofs.Asked.{once, once_ended}
 use Rattle.htl_program.specs.Outcomes.{IsConverted}
 

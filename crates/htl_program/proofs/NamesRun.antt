@@ -1,5 +1,5 @@
 -- A run over opened inputs is one over their names, and where not all could be opened there was none.
-use Rattle.std.proofs.Common.{◌≡◌, ◌∙◌, Bool, false, ℕ, List, [], ap, inl, inr, map, refl, subst, sym}
+use Rattle.std.proofs.Common.{◌≡◌, ◌∙◌, Bool, ℕ, List, [], ap, inl, inr, map, refl, subst, sym}
 use Rattle.std.specs.Prelude.{Option, Result, Err}
 use Rattle.htl_command.specs.declared.command.Run.{Run}
 use Rattle.htl_device.specs.States.{SinkState, SourceState, fresh}

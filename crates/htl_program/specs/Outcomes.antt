@@ -49,14 +49,15 @@ pub record IsNoneOpened {A S : Type 0} (world : Known) (names : List (String A))
   pub fine : new.failed ≡ false
 
 -- All inputs of the names were opened: none is absent. What a conversion promises of sources holds of these.
-pub record IsConvertedOf {A S : Type 0} (Converts : List SourceState → List SourceState → SinkState → SinkState → Result S RunFault → Type 0)
-    (world : Known) (names : List (String A)) (inputs : List SourceState) (old new : SinkState) (ended : Result S RunFault) : Type 0 where
+pub record IsConvertedOf {A S : Type 0}
+    (Converts : List SourceState → List SourceState → SinkState → SinkState → Result S RunFault → Type 0) (world : Known)
+    (names : List (String A)) (inputs : List SourceState) (old new : SinkState) (ended : Result S RunFault) : Type 0 where
   pub there : All (λ absent. absent ≡ false) (of_each world.is_absent names)
   pub converted : Converts (map fresh (of_inputs world.holds world.standard names)) inputs old new ended
 
 -- Segments were printed as text, or made of texts, which a conversion of sources promises. Each file was opened once, in order.
-pub record IsConverted {A S : Type 0} (Converts : List SourceState → List SourceState → SinkState → SinkState → Result S RunFault → Type 0)
-    (world : WorldChange) (inputs : List SourceState) (names : List (String A)) (old new : SinkState) (ended : Result S RunFault)
-    : Type 0 where
+pub record IsConverted {A S : Type 0}
+    (Converts : List SourceState → List SourceState → SinkState → SinkState → Result S RunFault → Type 0) (world : WorldChange)
+    (inputs : List SourceState) (names : List (String A)) (old new : SinkState) (ended : Result S RunFault) : Type 0 where
   pub is : IsConvertedOf Converts world.old.known names inputs old new ended ⊎ IsNoneOpened world.old.known names inputs old new ended
   pub asked : Asks world (OpensOnce (map string_bytes names) ended)

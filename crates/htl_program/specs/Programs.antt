@@ -33,19 +33,20 @@ use Rattle.htl_ask.specs.declared.ask_fault.AskFault.{AskFault}
 use Rattle.htl_ask.specs.declared.ask_fault.AskFault.TheVariants as asks
 use Rattle.htl_program.specs.Opened.{IsUntouched, Reach}
 use Rattle.htl_program.specs.Outcomes.{IsAnswered, IsConverted}
-use Rattle.htl_program.specs.Messages.{Hears, HearsAll, HearsRun, Message, alone, cut_noted, fault, fault_said, no_memory, notes_said}
-use Rattle.htl_program.specs.Messages.{stop_said, text, unwritten}
+use Rattle.htl_program.specs.Messages.{Hears, HearsAll, HearsRun, Said, alone, cut_noted, fault_said, notes_said}
+use Rattle.htl_program.specs.Messages.{stop_said}
 use Rattle.htl_program.specs.Statuses.{conversion_status, dialogue_status, end_status}
 use Rattle.htl_program.specs.Words.{explained}
 use Rattle.htl_program.specs.declared.console.Console.{Console}
+use Rattle.htl_program.specs.declared.saying.message.Message.TheVariants as say
 
 -- what was written and said: what is known of the output, whether a write to it failed because its reader has gone, and what a person heard
 pub record Told : Type 0 where
   pub out : SinkState
   pub reader_gone : Bool
-  pub heard : Option (List Message)
+  pub heard : Option (List Said)
 
-abbrev pub told : {O P : Type 0} → (O → SinkState) → (O → Bool) → (P → Option (List Message)) → Console O P → Told
+abbrev pub told : {O P : Type 0} → (O → SinkState) → (O → Bool) → (P → Option (List Said)) → Console O P → Told
 told state has_lost_reader heard console = record {
   out = state console.out;
   reader_gone = has_lost_reader console.out;
@@ -66,34 +67,34 @@ is_stop_unsaid quiet dialogues.Write = quiet
 is_stop_unsaid quiet stopped = false
 
 -- nothing is said (`true`), or these messages
-abbrev pub HearsUnless : Bool → Option (List Message) → Option (List Message) → List Message → Type 0
+abbrev pub HearsUnless : Bool → Option (List Said) → Option (List Said) → List Said → Type 0
 HearsUnless true old new messages = new ≡ old
 HearsUnless false old new messages = HearsAll old new messages
 
 -- The fault that ended a run is said, once, and in words where these are wanted; a failed write may go unsaid.
-abbrev pub SaysFault : Bool → Bool → Command → Refused → Option (List Message) → Option (List Message) → Type 0
+abbrev pub SaysFault : Bool → Bool → Command → Refused → Option (List Said) → Option (List Said) → Type 0
 SaysFault quiet in_words command refused old new =
     HearsUnless (is_unsaid quiet refused.fault) old new (fault_said in_words command refused)
 
 -- A run of a command, as a person meets it: it ended so, and this is its status. It was said that the run begins and that it has ended, and
 -- then how.
-pub record IsPerformed {E : Type 0} (Ends : E → Type 0) (status_of : E → ℕ) (Says : E → Option (List Message) → Option (List Message) → Type 0)
-    (command : Command) (old new : Option (List Message)) (status : ℕ) : Type 0 where
+pub record IsPerformed {E : Type 0} (Ends : E → Type 0) (status_of : E → ℕ) (Says : E → Option (List Said) → Option (List Said) → Type 0)
+    (command : Command) (old new : Option (List Said)) (status : ℕ) : Type 0 where
   pub ended : E
   pub is : Ends ended
   pub status_is : status ≡ status_of ended
-  pub after_run : Option (List Message)
+  pub after_run : Option (List Said)
   pub hears_run : HearsRun command old after_run
   pub said : Says ended after_run new
 
 -- the same of a run that reads no lines of a dialogue, in a world
-abbrev pub Performs : {E : Type 0} → Reach → (E → Type 0) → (E → ℕ) → (E → Option (List Message) → Option (List Message) → Type 0)
+abbrev pub Performs : {E : Type 0} → Reach → (E → Type 0) → (E → ℕ) → (E → Option (List Said) → Option (List Said) → Type 0)
     → Command → Told → Told → ℕ → Type 0
 Performs reach Ends status_of Says command old new status =
     (reach.after.questions ≡ reach.before.questions) × IsPerformed Ends status_of Says command old.heard new.heard status
 
 -- how a question's end is said
-abbrev pub SaysAnswer : Bool → Bool → Command → Run → Result Completed Refused → Option (List Message) → Option (List Message) → Type 0
+abbrev pub SaysAnswer : Bool → Bool → Command → Run → Result Completed Refused → Option (List Said) → Option (List Said) → Type 0
 SaysAnswer quiet in_words command run (Ok completed) old new = HearsAll old new (notes_said in_words command run completed)
 SaysAnswer quiet in_words command run (Err refused) old new = SaysFault quiet in_words command refused old new
 
@@ -103,12 +104,12 @@ DoesAnswer watches in_words reach old new command run status =
     (SaysAnswer (is_quiet watches new) in_words command run) command old new status
 
 -- how a conversion's end is said: nothing, if it ended well
-abbrev pub SaysConversion : {S : Type 0} → Bool → Bool → Command → Result S RunFault → Option (List Message) → Option (List Message) → Type 0
+abbrev pub SaysConversion : {S : Type 0} → Bool → Bool → Command → Result S RunFault → Option (List Said) → Option (List Said) → Type 0
 SaysConversion quiet in_words command (Ok done) old new = new ≡ old
 SaysConversion quiet in_words command (Err reported) old new = SaysFault quiet in_words command (alone reported) old new
 
 -- the same of a dump: which inputs end within a segment, where they may
-abbrev pub SaysDump : Bool → Bool → Command → Result (Option CutInputs) RunFault → Option (List Message) → Option (List Message) → Type 0
+abbrev pub SaysDump : Bool → Bool → Command → Result (Option CutInputs) RunFault → Option (List Said) → Option (List Said) → Type 0
 SaysDump quiet in_words command (Ok cut) old new = HearsAll old new (cut_noted in_words command cut)
 SaysDump quiet in_words command (Err reported) old new = SaysFault quiet in_words command (alone reported) old new
 
@@ -128,19 +129,19 @@ abbrev pub IsPrinted : Bool → List ℕ → Told → Told → ℕ → Type 0
 IsPrinted watches bytes old new status =
     ((new.out.failed ≡ false) × (status ≡ 0) × Appends old.out.contents new.out.contents bytes × (new.heard ≡ old.heard))
     ⊎ ((new.out.failed ≡ true) × (status ≡ 5) × AppendsPrefix old.out.contents new.out.contents bytes
-    × HearsUnless (is_quiet watches new) old.heard new.heard (unwritten ∷ []))
+    × HearsUnless (is_quiet watches new) old.heard new.heard (say.Unwritten ∷ []))
 
 -- Where the arguments give no command: help is printed, and all else is said.
 abbrev pub Refuses : Bool → Told → Told → ParseFault → ℕ → Type 0
 Refuses watches old new (Help help) status = IsPrinted watches (string_bytes help) old new status
-Refuses watches old new (Usage why) status = (status ≡ 2) × (new.out ≡ old.out) × Hears old.heard new.heard (text (string_bytes why))
-Refuses watches old new Memory status = (status ≡ 6) × (new.out ≡ old.out) × Hears old.heard new.heard no_memory
+Refuses watches old new (Usage why) status = (status ≡ 2) × (new.out ≡ old.out) × Hears old.heard new.heard (say.Refusal (Usage why))
+Refuses watches old new Memory status = (status ≡ 6) × (new.out ≡ old.out) × Hears old.heard new.heard (say.Refusal Memory)
 
 -- a fault is explained, unless memory is refused
 abbrev pub Explains : Bool → Told → Told → List ℕ → ℕ → Type 0
 Explains watches old new bytes status =
     IsPrinted watches bytes old new status
-    ⊎ ((status ≡ 6) × (new.out ≡ old.out) × Hears old.heard new.heard (fault (alone faults.Memory)))
+    ⊎ ((status ≡ 6) × (new.out ≡ old.out) × Hears old.heard new.heard (say.Fault (alone faults.Memory)))
 
 -- Segments are made of text, but their bytes aren't shown to a person.
 abbrev pub EncodesOrRefuses : {A : Type 0} → Bool → Bool → Bool → Reach → Told → Told → Command → Bool → List (String A) → ℕ → Type 0
@@ -150,7 +151,7 @@ EncodesOrRefuses false watches in_words reach old new command hex files status =
     DoesEncode watches in_words reach old new command hex files status
 
 -- how a dialogue's end is said: nothing, if it ended well
-abbrev pub SaysDialogue : {S : Type 0} → Bool → Bool → Command → Result S AskFault → Option (List Message) → Option (List Message) → Type 0
+abbrev pub SaysDialogue : {S : Type 0} → Bool → Bool → Command → Result S AskFault → Option (List Said) → Option (List Said) → Type 0
 SaysDialogue quiet in_words command (Ok done) old new = new ≡ old
 SaysDialogue quiet in_words command (Err (asks.Run refused)) old new = SaysFault quiet in_words command refused old new
 SaysDialogue quiet in_words command (Err (asks.Dialogue stopped)) old new =

@@ -1,10 +1,10 @@
 //! Where answers are written, and who reads the messages beside them.
 
 ghost use Rattle.std.specs.Prelude.{◌≡◌, ◌&&◌, ◌||◌};
-ghost use Rattle.htl_program.specs.Messages.{Hears, begun, over};
+ghost use Rattle.htl_program.specs.Messages.{Hears};
 
 use crate::output::Output;
-use crate::saying::{Audience, Manner, Person};
+use crate::saying::{Audience, Manner, Message, Person};
 use htl_command::CommandLine;
 
 /// Where answers go, and who reads what is said beside them.
@@ -22,11 +22,11 @@ impl<O: Output, P: Person> Console<O, P> {
         ensures watching { result.is_watching ≡ P.is_watching self.old.person }
         ensures words { result.wants_words ≡ (P.is_watching self.old.person || line.now.notes) }
         ensures told { Hears (P.heard self.old.person) (P.heard self.new.person)
-            (begun line.now.command) }
+            (Message.Begins line.now.command) }
         ensures out { self.new.out ≡ self.old.out }
     {
         let is_watching = self.person.is_watching();
-        self.person.begins(&line.command);
+        self.person.hears(Message::Begins(&line.command));
         Audience {
             is_watching,
             wants_words: is_watching || line.notes,
@@ -38,10 +38,11 @@ impl<O: Output, P: Person> Console<O, P> {
         ensures quiet { result.is_quiet
             ≡ (audience.is_watching && O.has_lost_reader self.new.out) }
         ensures words { result.in_words ≡ audience.wants_words }
-        ensures told { Hears (P.heard self.old.person) (P.heard self.new.person) over }
+        ensures told { Hears (P.heard self.old.person) (P.heard self.new.person)
+            Message.Ends }
         ensures out { self.new.out ≡ self.old.out }
     {
-        self.person.ends();
+        self.person.hears(Message::Ends);
         Manner {
             is_quiet: self.is_quiet(audience.is_watching),
             in_words: audience.wants_words,

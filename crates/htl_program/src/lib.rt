@@ -32,4 +32,4 @@ pub use explained::{FREE_MEMORY, NamedPart, SubjectText, advice, form_wrong, wro
 pub use inputs::Inputs;
 pub use output::Output;
 pub use printing::refuse;
-pub use saying::{Lack, Person};
+pub use saying::{Lack, Message, Person};

@@ -7,7 +7,7 @@ ghost use Rattle.htl_program.specs.Words.{explained};
 use crate::console::Console;
 use crate::explained::Explained;
 use crate::output::Output;
-use crate::saying::{Person, alone};
+use crate::saying::{Message, Person, alone};
 use htl_command::{ParseFault, PrintedFault};
 use htl_device::write_whole;
 use htl_main::RunFault;
@@ -24,7 +24,7 @@ pub fn refuse<O: Output, P: Person>(refused: &ParseFault, console: &mut Console<
     match refused {
         ParseFault::Help(text) => print(text, console),
         ParseFault::Usage(_) | ParseFault::Memory => {
-            console.person.refuses(refused);
+            console.person.hears(Message::Refusal(refused));
             refused.status()
         }
     }
@@ -45,7 +45,9 @@ pub(crate) fn do_explain<O: Output, P: Person>(
     match format!(in alloc; "{explained}") {
         Ok(text) => print(&text, console),
         Err(_) => {
-            console.person.reports(alone(RunFault::Memory));
+            console
+                .person
+                .hears(Message::Fault(alone(RunFault::Memory)));
             RunFault::Memory.status()
         }
     }
@@ -63,7 +65,7 @@ fn print<O: Output, P: Person>(text: &str, console: &mut Console<O, P>) -> u8
         Ok(()) => 0,
         Err(_) => {
             if !console.is_quiet(console.person.is_watching()) {
-                console.person.loses_text();
+                console.person.hears(Message::Unwritten);
             }
             RunFault::Write.status()
         }

@@ -1,10 +1,11 @@
 //! What is said to a person of how a run ended.
 //!
-//! `person.rt` is who reads it, `manner.rt` how it is told, and `lack.rt` what a person is told that a
-//! question lacks.
+//! `person.rt` is who reads it, `message.rt` what there is to tell, with `lack.rt` of what a question
+//! lacks, and `manner.rt` how it is told.
 
 mod lack;
 mod manner;
+mod message;
 mod person;
 
 ghost use Rattle.std.specs.Prelude.{◌≡◌, ◌&&◌, is_some};
@@ -20,6 +21,7 @@ use htl_dialogue::{Conversed, DialogueFault};
 use htl_main::{Between, Completed, Coverage, CutInputs, Refused, RunFault};
 pub use lack::Lack;
 pub(crate) use manner::{Audience, Manner};
+pub use message::Message;
 pub use person::Person;
 
 /// Says how the run of a question ended.
@@ -66,7 +68,7 @@ fn note_lack<P: Person>(job: &Job, completed: Completed, person: &mut P)
     ensures { HearsAll (P.heard person.old) (P.heard person.new) (lack_said job.now completed) }
 {
     if let Some(lack) = Lack::of(job, completed.absence, completed.remarks) {
-        person.lacks(lack);
+        person.hears(Message::Lack(lack));
     }
 }
 
@@ -82,7 +84,7 @@ fn note_names<P: Person>(is_unnamed: bool, person: &mut P)
     ensures { HearsAll (P.heard person.old) (P.heard person.new) (unnamed_said is_unnamed) }
 {
     if is_unnamed {
-        person.finds_no_name();
+        person.hears(Message::Unnamed);
     }
 }
 
@@ -91,7 +93,7 @@ fn note_gaps<P: Person>(coverage: Coverage, until: Option<Moment>, person: &mut 
     ensures { HearsAll (P.heard person.old) (P.heard person.new) (gaps_said coverage until) }
 {
     if coverage.is_touched(until) {
-        person.finds_gaps(coverage);
+        person.hears(Message::Gaps(coverage));
     }
 }
 
@@ -100,7 +102,7 @@ fn note_cut<P: Person>(command: &Command, cut: Option<CutInputs>, person: &mut P
     ensures { HearsAll (P.heard person.old) (P.heard person.new) (cut_said command.now cut) }
 {
     if let Some(inputs) = cut {
-        person.finds_cut(command, inputs);
+        person.hears(Message::Cut(command, inputs));
     }
 }
 
@@ -138,12 +140,7 @@ pub(crate) fn say_encoding<P: Person>(
 
 /// Says which fault ended the run of the command, and what it means where words are wanted. A failed
 /// write goes unsaid where that is quiet.
-pub(crate) fn report<P: Person>(
-    command: &Command,
-    manner: Manner,
-    refused: Refused,
-    person: &mut P,
-)
+pub(crate) fn report<P: Person>(command: &Command, manner: Manner, refused: Refused, person: &mut P)
     ensures { SaysFault manner.is_quiet manner.in_words command.now refused
         (P.heard person.old) (P.heard person.new) }
 {
@@ -167,9 +164,9 @@ fn say_fault<P: Person>(command: &Command, in_words: bool, refused: Refused, per
     ensures { HearsAll (P.heard person.old) (P.heard person.new)
         (fault_said in_words command.now refused) }
 {
-    person.reports(refused);
+    person.hears(Message::Fault(refused));
     if in_words {
-        person.explains(command, refused);
+        person.hears(Message::Meaning(command, refused));
     }
 }
 
@@ -218,8 +215,8 @@ fn is_stop_unsaid(is_quiet: bool, stopped: DialogueFault) -> bool
 fn say_stop<P: Person>(in_words: bool, stopped: DialogueFault, person: &mut P)
     ensures { HearsAll (P.heard person.old) (P.heard person.new) (stop_said in_words stopped) }
 {
-    person.stops(stopped);
+    person.hears(Message::Stop(stopped));
     if in_words {
-        person.explains_stop(stopped);
+        person.hears(Message::StopMeaning(stopped));
     }
 }

@@ -8,7 +8,7 @@ use htl_ask::Speaker;
 use htl_command::{Command, Job, ParseFault};
 use htl_dialogue::{DialogueFault, Host};
 use htl_main::{Absence, Added, Coverage, CutInputs, Reading, Refused, Remarks, RunFault};
-use htl_program::{Lack, Person};
+use htl_program::{Lack, Message, Person};
 use htl_world::{OpenFault, World};
 use std::alloc::Global;
 
@@ -102,6 +102,25 @@ pub enum Said {
     StopMeaning(DialogueFault),
 }
 
+impl Said {
+    /// What is said by a message, but that a run begins or has ended.
+    fn of(message: Message<&Command, &ParseFault>) -> Option<Said> {
+        match message {
+            Message::Begins(_) | Message::Ends => None,
+            Message::Refusal(_) => Some(Said::Refusal),
+            Message::Unwritten => Some(Said::Unwritten),
+            Message::Fault(refused) => Some(Said::Fault(refused.fault)),
+            Message::Meaning(_, refused) => Some(Said::Meaning(refused.fault)),
+            Message::Lack(lack) => Some(Said::Lack(lack)),
+            Message::Unnamed => Some(Said::Unnamed),
+            Message::Gaps(coverage) => Some(Said::Gaps(coverage)),
+            Message::Cut(_, inputs) => Some(Said::Cut(inputs)),
+            Message::Stop(stopped) => Some(Said::Stop(stopped)),
+            Message::StopMeaning(stopped) => Some(Said::StopMeaning(stopped)),
+        }
+    }
+}
+
 /// A person who doesn't watch, and remembers what was said.
 #[derive(Clone, Copy)]
 pub struct Witness {
@@ -118,11 +137,6 @@ impl Witness {
             count: 0,
             sees_output: false,
         }
-    }
-
-    fn hears(&mut self, said: Said) {
-        self.last = said;
-        self.count = self.count.saturating_add(1);
     }
 }
 
@@ -141,48 +155,11 @@ impl Person for Witness {
         false
     }
 
-    fn begins(&mut self, _command: &Command) {}
-
-    fn ends(&mut self) {}
-
-    fn refuses(&mut self, _refused: &ParseFault) {
-        self.hears(Said::Refusal);
-    }
-
-    fn loses_text(&mut self) {
-        self.hears(Said::Unwritten);
-    }
-
-    fn reports(&mut self, refused: Refused) {
-        self.hears(Said::Fault(refused.fault));
-    }
-
-    fn explains(&mut self, _command: &Command, refused: Refused) {
-        self.hears(Said::Meaning(refused.fault));
-    }
-
-    fn lacks(&mut self, lack: Lack) {
-        self.hears(Said::Lack(lack));
-    }
-
-    fn finds_no_name(&mut self) {
-        self.hears(Said::Unnamed);
-    }
-
-    fn finds_gaps(&mut self, coverage: Coverage) {
-        self.hears(Said::Gaps(coverage));
-    }
-
-    fn finds_cut(&mut self, _command: &Command, inputs: CutInputs) {
-        self.hears(Said::Cut(inputs));
-    }
-
-    fn stops(&mut self, stopped: DialogueFault) {
-        self.hears(Said::Stop(stopped));
-    }
-
-    fn explains_stop(&mut self, stopped: DialogueFault) {
-        self.hears(Said::StopMeaning(stopped));
+    fn hears(&mut self, message: Message<&Command, &ParseFault>) {
+        if let Some(said) = Said::of(message) {
+            self.last = said;
+            self.count = self.count.saturating_add(1);
+        }
     }
 }
 

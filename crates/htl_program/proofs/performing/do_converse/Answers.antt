@@ -20,8 +20,11 @@ returns g c =
         first = lines.asked;
         is = rw over.out (rw (lines.source, begun.out) at c.converse-ended.ensures.conversed);
         untouched = IfErr-weaker (before_dialogue c.converse-ended.result) _ _
-            (λ refused same. (ap g.W.Input.Source.state same.0 ∙ lines.source,
-            ap g.O.Sink.state (over.out ∙ (same.1 ∙ begun.out)), same.2))
+            (λ refused same. (
+              ap g.W.Input.Source.state same.0 ∙ lines.source,
+              ap g.O.Sink.state (over.out ∙ (same.1 ∙ begun.out)),
+              same.2,
+            ))
             c.converse-ended.ensures.untouched;
         after = search rules;
       };

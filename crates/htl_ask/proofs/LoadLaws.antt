@@ -18,7 +18,7 @@ use Rattle.htl_main.specs.Coverages.{IsCoverage}
 use Rattle.htl_main.specs.Loading.{AreLoadedOf}
 use Rattle.htl_main.specs.Origins.{by_fault}
 use Rattle.htl_main.specs.Printed.{HasSymbols, IsText}
-use Rattle.htl_main.specs.Runs.{AddsAs}
+use Rattle.htl_main.specs.Runs.{AddsAs, RunsOut}
 use Rattle.htl_main.specs.Subjects.{HasAbsence}
 use Rattle.htl_main.specs.declared.loading.adding.Added.{Added}
 use Rattle.htl_main.specs.declared.completed.Absence.{Absence}
@@ -33,7 +33,7 @@ use Rattle.htl_world.specs.Readings.{IsUnopenedFor}
 use Rattle.htl_world.specs.Worlds.{Known, WorldChange}
 use Rattle.htl_world.proofs.FirstAbsent.{held_memory}
 use Rattle.htl_world.proofs.NamesRead.{lefts_of}
-use Rattle.htl_ask.specs.Asking.{AddsTo, AreRunsRemarks, IsAnswerText, IsRunsAbsence, IsRunsText, RunsOut, own_run}
+use Rattle.htl_ask.specs.Asking.{AddsTo, AreRunsRemarks, IsAnswerText, IsRunsAbsence, IsRunsText, own_run}
 use Rattle.htl_ask.specs.Loads.{AddsFiles}
 use Rattle.htl_ask.proofs.LinesRead.{all_read, none_read}
 

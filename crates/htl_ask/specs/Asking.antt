@@ -27,7 +27,7 @@ use Rattle.htl_main.specs.Origins.{IsBetween, by_fault}
 use Rattle.htl_main.specs.Printed.{HasSymbols, IsText, Printed}
 use Rattle.htl_main.specs.Causes.{IsSourcesCause}
 use Rattle.htl_main.specs.Remarks.{RemarksOver, ReportsRemarks}
-use Rattle.htl_main.specs.Runs.{EndsAdding}
+use Rattle.htl_main.specs.Runs.{EndsAdding, RunsOut}
 use Rattle.htl_main.specs.Subjects.{ReportsAbsence}
 use Rattle.htl_main.specs.declared.loading.adding.Added.{Added}
 use Rattle.htl_main.specs.declared.completed.Absence.{Absence}
@@ -39,7 +39,6 @@ use Rattle.htl_main.specs.declared.remarks.Remarks.{Remarks}
 use Rattle.htl_segment.specs.Content.{Content}
 use Rattle.htl_segment.specs.Traces.{Trace}
 use Rattle.htl_symbols.specs.Ranges.{Range}
-use Rattle.htl_main.specs.declared.origin.Between.TheVariants.{Nothing}
 use Rattle.htl_world.specs.Endings.{IsUnopened}
 use Rattle.htl_world.specs.Readings.{AreAskedFor, AreInputs}
 use Rattle.htl_world.specs.Worlds.{Known, IsFirstAbsent, IsFirstRefused}
@@ -103,11 +102,6 @@ IsAbsenceOver setting (Some (inputs texts)) job absence = IsRunsAbsence setting 
 IsAbsenceOver setting (Some (segments taken)) job absence = absence ≡ None
 
 -- ---- reading more
-
--- memory was refused
-abbrev pub RunsOut : {S : Type 0} → Result S Refused → Type 0
-RunsOut (Ok done) = ⊥
-RunsOut (Err refused) = (refused.fault ≡ Memory) × (refused.between ≡ Nothing)
 
 -- The names were opened and read as any run reads its sources, which these are by now. The first name for which there is nothing is
 -- reported by its place, and a failed read of a name that was refused, or of a source whose read failed or gave bytes too often.

@@ -16,7 +16,7 @@ use Rattle.htl_main.specs.Loading.{AreLoadedOf}
 use Rattle.htl_main.specs.Origins.{by_fault}
 use Rattle.htl_main.specs.Printed.{HasSymbols, WorkersFit}
 use Rattle.htl_inputs.specs.Readings.{AreRead, AskForReaders}
-use Rattle.htl_main.specs.Runs.{EndsAdding}
+use Rattle.htl_main.specs.Runs.{EndsAdding, RunsOut}
 use Rattle.htl_main.specs.Subjects.{HasAbsence}
 use Rattle.htl_main.specs.declared.loading.adding.Added.{Added}
 use Rattle.htl_main.specs.declared.completed.Absence.{Absence}
@@ -27,7 +27,7 @@ use Rattle.htl_main.specs.declared.refused.Refused.{Refused}
 use Rattle.htl_segment.specs.Content.{Content}
 use Rattle.htl_segment.specs.Traces.{Trace}
 use Rattle.htl_world.specs.Worlds.{Known}
-use Rattle.htl_ask.specs.Asking.{Begins, GoesOn, IsAnswerText, IsBeginsBetween, IsBeginsCause, IsFolding, ReadsNames, Taken, RunsOut, found}
+use Rattle.htl_ask.specs.Asking.{Begins, GoesOn, IsAnswerText, IsBeginsBetween, IsBeginsCause, IsFolding, ReadsNames, Taken, found}
 use Rattle.htl_ask.specs.Asking.{inputs, one_is_absent, segments}
 use Rattle.htl_ask.specs.declared.kept.Begun.{Begun}
 use Rattle.htl_ask.specs.declared.kept.Kept.{Kept}

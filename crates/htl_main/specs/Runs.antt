@@ -13,7 +13,7 @@ use Rattle.htl_inputs.specs.CutInputs.{AreCut}
 use Rattle.htl_inputs.specs.Reads.{NeverWrite}
 use Rattle.htl_inputs.specs.Readings.{AreRead, AskForReaders}
 use Rattle.htl_inputs.specs.declared.fault.RunFault.{RunFault}
-use Rattle.htl_inputs.specs.declared.fault.RunFault.TheVariants.{Write}
+use Rattle.htl_inputs.specs.declared.fault.RunFault.TheVariants.{Memory, Write}
 use Rattle.htl_main.specs.Adding.{IsAdded, IsAddingRefused}
 use Rattle.htl_main.specs.Causes.{IsCause, IsSourcesCause, Prints, PrintsPart}
 use Rattle.htl_main.specs.Coverages.{IsCoverage}
@@ -26,6 +26,7 @@ use Rattle.htl_main.specs.declared.loading.adding.Added.{Added}
 use Rattle.htl_main.specs.declared.completed.Completed.{Completed}
 use Rattle.htl_main.specs.declared.folding.Folded.{Folded}
 use Rattle.htl_main.specs.declared.loading.Loaded.{Loaded}
+use Rattle.htl_main.specs.declared.origin.Between.TheVariants.{Nothing}
 use Rattle.htl_main.specs.declared.picks.Lacking.{Lacking}
 use Rattle.htl_main.specs.declared.refused.Refused.{Refused}
 
@@ -41,6 +42,11 @@ abbrev pub Ends : (RunFault → Type 0) → Job → List (List ℕ) → Option (
     → Result Completed Refused → Type 0
 Ends Cause job texts table old new (Ok completed) = Prints job texts table old new × Reports job texts table completed
 Ends Cause job texts table old new (Err refused) = IsRefusedRun Cause job texts table old new refused
+
+-- Memory was refused, which is about no two segments.
+abbrev pub RunsOut : {S : Type 0} → Result S Refused → Type 0
+RunsOut (Ok done) = ⊥
+RunsOut (Err refused) = (refused.fault ≡ Memory) × (refused.between ≡ Nothing)
 
 -- Nothing was written, unless a write failed, which is reported.
 pub record LeavesSink {S : Type 0} (old new : SinkState) (result : Result S RunFault) : Type 0 where

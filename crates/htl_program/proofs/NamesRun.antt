@@ -6,7 +6,7 @@ use Rattle.htl_device.specs.States.{SinkState, SourceState, fresh}
 use Rattle.htl_inputs.specs.declared.fault.RunFault.{RunFault}
 use Rattle.htl_inputs.specs.declared.fault.RunFault.TheVariants.{Memory}
 use Rattle.htl_main.specs.Origins.{by_fault}
-use Rattle.htl_main.specs.Runs.{IsRun, LeavesSink}
+use Rattle.htl_main.specs.Runs.{IsRun, LeavesSink, RunsOut}
 use Rattle.htl_main.specs.declared.completed.Completed.{Completed}
 use Rattle.htl_main.specs.declared.origin.Between.TheVariants.{Nothing}
 use Rattle.htl_main.specs.declared.refused.Refused.{Refused}
@@ -14,7 +14,6 @@ use Rattle.htl_world.specs.Readings.{IsUnopenedFor}
 use Rattle.htl_world.specs.Worlds.{Known, of_each, of_inputs}
 use Rattle.htl_world.proofs.FirstAbsent.{only_memory}
 use Rattle.htl_world.proofs.NamesRead.{inputs_read, inputs_unread, lefts_of, unread_asks}
-use Rattle.htl_ask.specs.Asking.{RunsOut}
 use Rattle.htl_program.specs.Runs.{IsRunOfNames}
 
 -- memory was refused, if that is the fault

@@ -5,7 +5,7 @@ use Rattle.htl_command.specs.declared.command.Run.{Run}
 use Rattle.htl_device.specs.States.{SinkState, SourceState, ends, fresh, lefts}
 use Rattle.htl_inputs.specs.declared.fault.RunFault.{RunFault}
 use Rattle.htl_main.specs.Origins.{by_fault}
-use Rattle.htl_main.specs.Runs.{LeavesSink, Ends}
+use Rattle.htl_main.specs.Runs.{LeavesSink, Ends, RunsOut}
 use Rattle.htl_main.specs.declared.completed.Completed.{Completed}
 use Rattle.htl_main.specs.declared.refused.Refused.{Refused}
 use Rattle.htl_command.specs.declared.question.Job.{Job}
@@ -14,7 +14,6 @@ use Rattle.htl_world.specs.Endings.{IsUnopened, IsUntabled}
 use Rattle.htl_world.specs.Readings.{AreAskedFor, IsUnopenedFor, ReadsInputs}
 use Rattle.htl_world.specs.Rounds.{Asks, OpensAgain, OpensInputs, OpensOnce}
 use Rattle.htl_world.specs.Worlds.{IsTable, IsTableAbsent, Known, WorldChange, HaveTexts, IsAbsentAt, of_each, of_inputs}
-use Rattle.htl_ask.specs.Asking.{RunsOut}
 
 -- The answer was printed over inputs of these texts, or there is a reason why not, where the sources are these by then.
 abbrev pub EndsRun : Job → List (List ℕ) → Option (List ℕ) → List SourceState → Option (List ℕ) → Option (List ℕ)

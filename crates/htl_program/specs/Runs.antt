@@ -3,12 +3,11 @@ use Rattle.std.specs.Prelude.{◌⊎◌, ℕ, List, Option, Result}
 use Rattle.htl_command.specs.declared.command.Run.{Run}
 use Rattle.htl_device.specs.States.{SinkState, SourceState}
 use Rattle.htl_main.specs.Origins.{by_fault}
-use Rattle.htl_main.specs.Runs.{LeavesSink}
+use Rattle.htl_main.specs.Runs.{LeavesSink, RunsOut}
 use Rattle.htl_main.specs.declared.completed.Completed.{Completed}
 use Rattle.htl_main.specs.declared.refused.Refused.{Refused}
 use Rattle.htl_world.specs.Worlds.{Known, HaveTexts, of_inputs}
 use Rattle.htl_world.specs.Readings.{AreAskedFor, ReadsInputs}
-use Rattle.htl_ask.specs.Asking.{RunsOut}
 use Rattle.htl_program.specs.Outcomes.{EndsRun}
 
 -- `inputs` are those of the last time.

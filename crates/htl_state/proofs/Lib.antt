@@ -1,0 +1,14 @@
+pub mod Turns
+pub mod Readings
+pub mod Lists
+pub mod Stacks
+pub mod Counts
+pub mod LatestRows
+pub mod Moments
+pub mod Held
+pub mod HeldRead
+pub mod Parts
+pub mod Sums
+pub mod States
+pub mod Changed
+pub mod Steps

@@ -7,6 +7,7 @@ pub mod Twice
 pub mod SegmentSpans
 pub mod Scanned
 pub mod SpanLaws
+pub mod MoreSegments
 pub mod Outlined
 pub mod Moved
 pub mod Listings

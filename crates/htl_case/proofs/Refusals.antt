@@ -1,17 +1,17 @@
 -- What the steps of `Case::of` report of the segments in order holds of the list as it was given.
-use Rattle.std.proofs.Common.{◌≡◌, ℕ, ◌<◌, List, [], ◌∷◌, refl, sym, ◌∙◌, subst, All}
-use Rattle.std.specs.Prelude.{Contains}
+use Rattle.std.proofs.Common.{◌≡◌, ℕ, ◌<◌, List, [], ◌∷◌, refl, sym, ◌∙◌, subst, All, inl, inr}
+use Rattle.std.specs.Prelude.{Contains, ◌↔◌}
 use Rattle.std.proofs.lemmas.List.Elements.{recursion_from_All}
 use Rattle.htl_event.specs.Handles.{HaveOwnSequences}
 use Rattle.htl_event.proofs.Members.{each_member, Contains-here, Contains-nil}
 use Rattle.htl_segment.specs.Content.{Content, Fits}
-use Rattle.htl_segment.specs.Traces.{trace, all_events}
+use Rattle.htl_segment.specs.Traces.{Trace, IsTrace, trace, all_events}
 use Rattle.htl_case.specs.declared.fault.CaseFault.{CaseFault}
 use Rattle.htl_case.specs.Cases.{IsCase, IsCaseOf}
 use Rattle.htl_segment.specs.Rising.{IsKeyBefore}
 use Rattle.htl_event.specs.Members.{IsLeastSuch}
 use Rattle.htl_case.specs.Faults.{ComesTwice, Falls, AreOfOneTrace, IsRefusal}
-use Rattle.htl_case.specs.Ordered.{AreOf, IsInOrder, IsTwoContents}
+use Rattle.htl_case.specs.Ordered.{AreOf, IsInOrder, IsTwoContents, IsFalling}
 use Rattle.htl_case.proofs.Scanned.{falls_moved, rise_from_none}
 
 -- two contents under one key refuse the list
@@ -68,7 +68,14 @@ module _ (given ordered : List Content) (id processors : ℕ) (of : AreOf given 
     },
   )
 
-  still_some : ordered ≡ [] → ⊥
+  -- what a fault of sequences that fall says of the segments in order refuses the list as it was given
+  pub rising_refused : (fault : CaseFault) → ((x : ℕ) → ComesTwice ordered x → ⊥) → IsFalling ordered fault → IsRefusal given fault
+  rising_refused fault once (inl memory) = subst (IsRefusal given) (sym memory) of_one_trace
+  rising_refused fault once (inr (processor, number, is, least)) =
+      subst (IsRefusal given) (sym is) (falling_refused (processor, number) once least)
+
+  -- there are segments in order
+  pub still_some : ordered ≡ [] → ⊥
   still_some none = of.some (no_members given (λ s h. Contains-nil s
       (subst (λ (ss : List Content). Contains ss s) none ((put.members s).1 h))))
     where
@@ -76,22 +83,27 @@ module _ (given ordered : List Content) (id processors : ℕ) (of : AreOf given 
       no_members [] none = refl
       no_members (s ∷ ss) none = absurd (none s (Contains-here s ss))
 
-  -- segments in order that fit, with sequences of their own that rise, are a case
-  pub is_case : All Fits ordered → HaveOwnSequences (all_events ordered) → ((key : ℕ × ℕ) → Falls ordered key → ⊥)
-      → IsCase (trace id processors ordered)
-  is_case fit own none = record {
-    some = still_some;
-    trace = record {
-      in_order = put.in_order;
-      fit = recursion_from_All Fits ordered fit;
-      same = each_member (λ s. (s.trace_id ≡ id) × (s.processors ≡ processors)) ordered
-          (λ s h. let k = (put.members s).0 h in (of.trace s k, of.count s k));
-      sequences = own;
-    };
-    rising = rise_from_none ordered none;
+  -- segments in order that fit, with sequences of their own, are those of a trace
+  pub is_trace : All Fits ordered → HaveOwnSequences (all_events ordered) → IsTrace (trace id processors ordered)
+  is_trace fit own = record {
+    in_order = put.in_order;
+    fit = recursion_from_All Fits ordered fit;
+    same = each_member (λ s. (s.trace_id ≡ id) × (s.processors ≡ processors)) ordered
+        (λ s h. let k = (put.members s).0 h in (of.trace s k, of.count s k));
+    sequences = own;
   }
 
   -- segments in order that fit, with sequences of their own that rise, are the case of the list as it was given
   pub is_case_of : All Fits ordered → HaveOwnSequences (all_events ordered) → ((key : ℕ × ℕ) → Falls ordered key → ⊥)
       → IsCaseOf given (trace id processors ordered)
-  is_case_of fit own none = record { is_case = is_case fit own none; members = put.members }
+  is_case_of fit own none = record {
+    is_case = record { some = still_some; trace = is_trace fit own; rising = rise_from_none ordered none };
+    members = put.members;
+  }
+
+  -- a case of the segments in order is that of the list as it was given
+  pub case_of_given : (T : Trace) → T ≡ trace id processors ordered → IsCase T → IsCaseOf given T
+  case_of_given T is case = record {
+    is_case = case;
+    members = subst (λ (S : Trace). (s : Content) → Contains S.segments s ↔ Contains given s) (sym is) put.members;
+  }

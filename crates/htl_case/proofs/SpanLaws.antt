@@ -3,11 +3,12 @@ use Rattle.std.proofs.Common.{◌≡◌, ℕ, ◌+◌, ◌<◌, min, max, List, 
 use Rattle.std.proofs.Common.{refl, sym, ap, ◌∙◌, subst, inl, inr, arith}
 use Rattle.std.proofs.lemmas.Bool.{cases_lt}
 use Rattle.std.proofs.lemmas.List.Elements.{Contains-append_cases, Contains-append_left, Contains-append_right}
+use Rattle.std.specs.List.{AllByRecursion}
 use Rattle.htl_event.specs.Events.{Event}
 use Rattle.htl_event.specs.declared.growth.Span.{Span}
 use Rattle.htl_segment.specs.Content.{Content, Fits}
 use Rattle.htl_segment.specs.Outlines.{outline_of, first_sequence}
-use Rattle.htl_segment.specs.Traces.{Trace, IsTrace, all_events}
+use Rattle.htl_segment.specs.Traces.{all_events}
 use Rattle.htl_segment.specs.declared.outline.Outline.{Outline}
 use Rattle.htl_segment.proofs.Greatest.{all_events-more}
 use Rattle.htl_case.specs.Spans.{IsSpan, IsSpanOf}
@@ -67,10 +68,10 @@ span_more ss i s o old new lt is fit outlined widens so_far =
     subst (λ (es : List Event). IsSpan es new) (sym (all_events-more ss i s lt is)) (widens (all_events (take i ss)) s fit outlined so_far)
 
 -- the same with the segment behind an outline
-pub span_more_behind : (outlines : List Outline) (T : Trace) (i : ℕ) (o d : Outline) (old new : Option Span) → IsTrace T
-    → outlines ≡ map outline_of T.segments → i < length outlines → o ≡ get_or outlines i d → Widens o old new
-    → IsSpan (all_events (take i T.segments)) old → IsSpan (all_events (take (i + 1) T.segments)) new
-span_more_behind outlines T i o d old new trace are lt is widens so_far =
-    let at = behind T.segments i o d (rw are at lt) (rw are at is) in
-    span_more T.segments i at.segment o old new at.within at.here (fits_at T.segments T.segments i at.segment refl trace.fit at.within at.here)
+pub span_more_behind : (outlines : List Outline) (ss : List Content) (i : ℕ) (o d : Outline) (old new : Option Span) → AllByRecursion Fits ss
+    → outlines ≡ map outline_of ss → i < length outlines → o ≡ get_or outlines i d → Widens o old new
+    → IsSpan (all_events (take i ss)) old → IsSpan (all_events (take (i + 1) ss)) new
+span_more_behind outlines ss i o d old new fit are lt is widens so_far =
+    let at = behind ss i o d (rw are at lt) (rw are at is) in
+    span_more ss i at.segment o old new at.within at.here (fits_at ss ss i at.segment refl fit at.within at.here)
     at.outlined widens so_far

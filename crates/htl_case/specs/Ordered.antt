@@ -1,13 +1,13 @@
 -- For the clauses of private functions: lists of segments in the order of their keys.
-use Rattle.std.specs.Prelude.{◌≡◌, ◌≢◌, ℕ, Bool, ◌==◌, ◌&&◌, List, [], ◌∷◌, Contains, ◌↔◌}
+use Rattle.std.specs.Prelude.{◌≡◌, ◌≢◌, ◌⊎◌, ℕ, Bool, ◌==◌, ◌&&◌, List, [], ◌∷◌, Contains, ◌↔◌}
 use Rattle.std.specs.List.{AllByRecursion}
 use Rattle.htl_segment.specs.Content.{Content}
 use Rattle.htl_segment.specs.Traces.{AreInOrder}
 use Rattle.htl_case.specs.declared.fault.CaseFault.{CaseFault}
-use Rattle.htl_case.specs.declared.fault.CaseFault.TheVariants.{TwoContents}
+use Rattle.htl_case.specs.declared.fault.CaseFault.TheVariants.{TwoContents, NoMemory, Falling}
 use Rattle.htl_segment.specs.Rising.{IsKeyBefore}
 use Rattle.htl_event.specs.Members.{IsLeastSuch}
-use Rattle.htl_case.specs.Faults.{HasTwoContents, HaveOneContent, key_of}
+use Rattle.htl_case.specs.Faults.{HasTwoContents, HaveOneContent, Falls, key_of}
 
 abbrev pub same_key : Content → Content → Bool
 same_key s t = (s.processor == t.processor) && (s.number == t.number)
@@ -35,3 +35,9 @@ pub record AreOf (segments : List Content) (trace_id processors : ℕ) : Type 0 
 abbrev pub IsTwoContents : List Content → CaseFault → Type 0
 IsTwoContents segments fault =
     (processor number : ℕ) × (fault ≡ TwoContents processor number) × IsLeastSuch IsKeyBefore (HasTwoContents segments) (processor, number)
+
+-- memory was refused, or the least segment that falls is told
+abbrev pub IsFalling : List Content → CaseFault → Type 0
+IsFalling segments fault =
+    (fault ≡ NoMemory)
+    ⊎ ((processor number : ℕ) × (fault ≡ Falling processor number) × IsLeastSuch IsKeyBefore (Falls segments) (processor, number))

@@ -1,5 +1,8 @@
 -- For the clauses of private functions: outlines of segments.
-use Rattle.std.specs.Prelude.{◌≡◌, ◌≢◌, ℕ, Bool, ◌==◌, ◌&&◌, List, [], Contains, count_by}
+use Rattle.std.specs.Prelude.{◌≡◌, ◌≢◌, ℕ, nat_le, Bool, false, ◌==◌, ◌&&◌, List, [], Contains, count_by, Option, None, Some}
+use Rattle.htl_event.specs.declared.growth.Span.{Span}
+use Rattle.htl_segment.specs.Content.{Content}
+use Rattle.htl_segment.specs.Outlines.{outline_of}
 use Rattle.htl_segment.specs.Rising.{IsKeyBefore}
 use Rattle.htl_segment.specs.declared.outline.Outline.{Outline}
 
@@ -25,3 +28,12 @@ pub record AreOfOne (outlines : List Outline) (processors : ℕ) : Type 0 where
   pub trace_id : ℕ
   pub trace : (o : Outline) → Contains outlines o → o.trace_id ≡ trace_id
   pub count : (o : Outline) → Contains outlines o → o.processors ≡ processors
+
+-- the sequences from the first to the last of the outline meet those of the span
+abbrev pub meets : Option Span → Outline → Bool
+meets None o = false
+meets (Some span) o = nat_le o.first span.last && nat_le span.first o.last
+
+-- the segment may have an event within the span
+abbrev pub may_have : Option Span → Content → Bool
+may_have span s = meets span (outline_of s)

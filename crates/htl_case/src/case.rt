@@ -30,13 +30,14 @@ impl Model for Case {
 }
 
 impl Case {
-    ghost use Rattle.std.specs.Prelude.{◌≡◌, ◌⊎◌, Result, IfOk, IfErr, map, flat_map};
+    ghost use Rattle.std.specs.Prelude.{◌≡◌, ◌≢◌, ◌⊎◌, [], Result, IfOk, IfErr, map, flat_map};
     ghost use Rattle.htl_event.specs.Moments.{counted_events};
     ghost use Rattle.htl_segment.specs.Outlines.{outline_of};
-    ghost use Rattle.htl_segment.specs.Traces.{Trace, all_events};
+    ghost use Rattle.htl_segment.specs.Traces.{Trace, IsTrace, all_events, trace};
     ghost use Rattle.htl_case.specs.declared.fault.CaseFault.{CaseFault};
     ghost use Rattle.htl_case.specs.Cases.{IsCase, IsCaseOf};
     ghost use Rattle.htl_case.specs.Faults.{IsRefusal, IsOutcome};
+    ghost use Rattle.htl_case.specs.Ordered.{IsFalling};
 
     /// The case of these segments, which may come in any order and more than once. It takes n log n
     /// steps for n events and moves the segments as they are. A refusal drops them.
@@ -54,6 +55,23 @@ impl Case {
         if let Some(sequence) = repeated_sequence(alloc, &segments)? {
             return Err(CaseFault::SequenceTwice(sequence));
         }
+        let case = Case::of_trace(alloc, trace_id, processors, segments)?;
+        Ok(case)
+    }
+
+    /// The case of the segments of a trace, if their sequences rise along each processor.
+    pub(crate) fn of_trace(
+        alloc: Global,
+        trace_id: u64,
+        processors: u16,
+        segments: Vec<Segment>,
+    ) -> Result<Case, CaseFault>
+        requires some { segments.items ≢ [] }
+        requires trace { IsTrace (trace trace_id processors segments.items) }
+        ensures value { IfOk result (λ case. case ≡ trace trace_id processors segments.items) }
+        ensures is_case { IfOk result (λ case. IsCase case) }
+        ensures err { IfErr result (IsFalling segments.items) }
+    {
         let outlines = outlines_of(alloc, &segments)?;
         if let Some((processor, number)) = falling(&outlines) {
             return Err(CaseFault::Falling(processor, number));

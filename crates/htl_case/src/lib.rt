@@ -11,7 +11,8 @@
 //! and that an analyst's answers are those over the case of the segments that it took.
 //!
 //! Files, in reading order: `case.rt` (a case), `fault.rt` (why a list is refused), `picked.rt` (a
-//! case of which only what is asked about is in hand), `ordering.rt`, `sequences.rt`, `outlines.rt`
+//! case of which only what is asked about is in hand), `growing.rt` (a case with more segments),
+//! `ordering.rt`, `sequences.rt`, `outlines.rt`
 //! and `rising.rt` (the tests that make a list of segments a case), `spans.rt` (the first and the
 //! last sequence), `listing.rt` (the events of a handle in lists), `step.rt` and `question.rt` (steps,
 //! questions and answers), `asking.rt` (an analyst's answer after steps), `playing.rt` (lists of
@@ -25,7 +26,8 @@
 //! `Headline`, which speak of states; `Final` (when an answer is final) and `TakenCases` (what an
 //! analyst answers that took the segments of a case). `Ordered`, `Outlined`, `Listed` and `Changes`
 //! serve private clauses alone. In `proofs/`, `KeyOrder` shows what a sort by key leaves, `Repeats`
-//! what is left without equal repeats, `Twice` which sequences come twice, `Scanned` where they
+//! what is left without equal repeats, `Twice` which sequences come twice, `MoreSegments` that none does
+//! among more segments, `Scanned` where they
 //! fall, `Outcomes` that a list is one case or breaks one rule first, `Outlined` which keys come
 //! twice, `Moved` what stays where elements change places, `Counted` which events there are until a
 //! moment, `SpanLaws` what their span is, `Pickings` what was picked of segments, `Stepped` what a
@@ -37,6 +39,7 @@
 mod asking;
 mod case;
 mod fault;
+mod growing;
 pub mod laws;
 mod listing;
 mod ordering;

@@ -43,7 +43,8 @@ fn one_comes_twice(alloc: Global, segments: &[Segment]) -> Result<bool, NoMemory
     Ok(seen.comes_twice())
 }
 
-fn note_sequences(seen: &mut Seen, events: &[SharedEvent]) -> Result<(), NoMemory>
+/// Notes the sequences of the events.
+pub fn note_sequences(seen: &mut Seen, events: &[SharedEvent]) -> Result<(), NoMemory>
     ensures { (numbers : List ℕ) → Saw seen.old numbers
         → OnOk result (Saw seen.new (numbers ++ map sequence_of events.now)) }
 {

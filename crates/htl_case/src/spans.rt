@@ -1,9 +1,11 @@
 //! The first and the last sequence of a case. Nothing here takes memory.
 
-ghost use Rattle.std.specs.Prelude.{◌≡◌, ◌++◌, List};
+ghost use Rattle.std.specs.Prelude.{◌≡◌, ◌++◌, List, map};
+ghost use Rattle.std.specs.List.{AllByRecursion};
 ghost use Rattle.htl_event.specs.Events.{Event};
 ghost use Rattle.htl_segment.specs.Content.{Content, Fits};
 ghost use Rattle.htl_segment.specs.Outlines.{outline_of};
+ghost use Rattle.htl_segment.specs.Traces.{all_events};
 ghost use Rattle.htl_case.specs.Spans.{IsSpan};
 
 use crate::case::Case;
@@ -39,12 +41,21 @@ impl PickedCase {
         ensures { (T : Trace) → IsTrace T → self.now.outlines ≡ map outline_of T.segments
             → IsSpan (all_events T.segments) result }
     {
-        let mut span = None;
-        for outline in self.outlines() {
-            span = widened(span, outline);
-        }
-        span
+        span_of(self.outlines())
     }
+}
+
+/// The first and the last sequence of the events of segments with these outlines, or none where there
+/// is no event.
+pub(crate) fn span_of(outlines: &[Outline]) -> Option<Span>
+    ensures { (segments : List Content) → AllByRecursion Fits segments
+        → outlines.now ≡ map outline_of segments → IsSpan (all_events segments) result }
+{
+    let mut span = None;
+    for outline in outlines {
+        span = widened(span, outline);
+    }
+    span
 }
 
 /// The span of the events before and of one segment more.

@@ -144,6 +144,52 @@ fn case_of(rt: &impl Abort, alloc: Global, lines: &[&str]) -> Case {
     Case::of(alloc, segments).expect(rt, "the segments are a case")
 }
 
+/// The lines of a case, those of more segments, and how many segments the case of both has, if there
+/// is one.
+const GROWN: &[(&[&str], &[&str], Option<usize>)] = &[
+    (&["0/0: O 1 0x44"], &[], Some(1)),
+    (&["0/0: O 1 0x44"], &["0/1: O 2 0x48"], Some(2)),
+    (
+        &["0/0: O 1 0x44, O 9 0x48"],
+        &["1/0: O 5 0x44", "1/1:"],
+        Some(3),
+    ),
+    (
+        &["0/0: O 1 0x44, O 9 0x48"],
+        &["0/0: O 1 0x44, O 9 0x48"],
+        Some(1),
+    ),
+    (
+        &["0/0: O 1 0x44, O 9 0x48"],
+        &["1/0: O 5 0x44, O 9 0x48"],
+        None,
+    ),
+    (
+        &["0/0: O 1 0x44, O 9 0x48"],
+        &["1/0: O 5 0x44", "1/1: O 5 0x48"],
+        None,
+    ),
+    (&["0/0: O 1 0x44"], &["0/0: O 2 0x44"], None),
+    (&["0/1: O 2 0x44"], &["0/0: O 3 0x44"], None),
+];
+
+#[test]
+fn cases_that_grow(rt: HostRuntime) {
+    for (lines, more, wanted) in GROWN {
+        let case = case_of(&rt, rt.alloc(), lines);
+        let more = TWO_PROCESSORS
+            .segments(rt.alloc(), more)
+            .expect(&rt, "the lines are segments");
+        let grown = case.with_more(rt.alloc(), &more);
+        assert_row(
+            &rt,
+            *lines,
+            grown.map(|case| case.segments().len()),
+            *wanted,
+        );
+    }
+}
+
 const HANDLE: &str = "0/0: O 1 0x44 [0x10], B 2 0x45, C 3 0x46";
 
 const HANDLE_LATER: &str = "0/1: O 4 0x44";

@@ -1,8 +1,8 @@
 -- A list of segments is answered with its case, or with the first rule that it breaks.
 use Rattle.std.proofs.lemmas.Result.{err_from_is_err_and}
-use Rattle.htl_segment.specs.Traces.{trace}
-use Rattle.htl_case.specs.declared.fault.CaseFault.TheVariants.{SequenceTwice, Falling}
-use Rattle.htl_case.proofs.Refusals.{two_refused, of_one_trace, twice_refused, falling_refused, is_case, is_case_of}
+use Rattle.htl_case.specs.declared.fault.CaseFault.TheVariants.{SequenceTwice}
+use Rattle.htl_case.proofs.Refusals.{two_refused, of_one_trace, twice_refused, rising_refused, is_trace, still_some}
+use Rattle.htl_case.proofs.Refusals.{case_of_given}
 use Rattle.htl_case.proofs.Outcomes.{exact_fault, exact_case}
 use Rattle.htl_case.proofs.case.Case.of.Goals as goal
 
@@ -49,67 +49,48 @@ returns-in-Some-clause-exact c outcome is =
     c.in_ok-trace_id.processors of c.in_ok-segments.ensures.ok c.in-Some.sequence (rw c.deref-2.ensures.value at found) in
     exact_fault c.args.segments.items (SequenceTwice c.in-Some.sequence) outcome refused is
 
-pub returns-in_err-outlines-clause-err : goal.returns-in_err-outlines-clause-err
-returns-in_err-outlines-clause-err c =
-    let p = err_from_is_err_and c.from_residual-in_err-outlines.result c.from_residual-in_err-outlines.ensures.1 in
+pub of_trace-requires-clause-some : goal.of_trace-requires-clause-some
+of_trace-requires-clause-some c =
     let of = rw c.deref.ensures.value at c.in_ok-trace_id.ensures.ok in
-    rw (p.1, p.2) (of_one_trace c.args.segments.items c.in_ok-segments.segments.items c.in_ok-trace_id.trace_id
-    c.in_ok-trace_id.processors of c.in_ok-segments.ensures.ok)
-
-pub returns-in-Some-falling-clause-err : goal.returns-in-Some-falling-clause-err
-returns-in-Some-falling-clause-err c =
-    let of = rw c.deref.ensures.value at c.in_ok-trace_id.ensures.ok in
-    let found = rw c.in_default.is at c.in_ok-sequence.ensures.found in
-    let once = rw c.deref-2.ensures.value at found.0 in
-    falling_refused c.args.segments.items c.in_ok-segments.segments.items c.in_ok-trace_id.trace_id c.in_ok-trace_id.processors of
-    c.in_ok-segments.ensures.ok (c.in-Some-falling.processor, c.in-Some-falling.number) once
-    ((rw c.deref-4.ensures.value at c.in-Some-falling.ensures) c.in_ok-segments.segments.items
-    (rw c.deref-3.ensures.value at c.in_ok-outlines.ensures) c.in_ok-segments.ensures.ok.in_order
-    (rw c.deref-2.ensures.value at c.in_ok-sequence.ensures.fit))
-
-pub returns-in-Some-falling-clause-exact : goal.returns-in-Some-falling-clause-exact
-returns-in-Some-falling-clause-exact c outcome is =
-    let of = rw c.deref.ensures.value at c.in_ok-trace_id.ensures.ok in
-    let found = rw c.in_default.is at c.in_ok-sequence.ensures.found in
-    let once = rw c.deref-2.ensures.value at found.0 in
-    let refused = falling_refused c.args.segments.items c.in_ok-segments.segments.items c.in_ok-trace_id.trace_id
-    c.in_ok-trace_id.processors of c.in_ok-segments.ensures.ok (c.in-Some-falling.processor, c.in-Some-falling.number) once
-    ((rw c.deref-4.ensures.value at c.in-Some-falling.ensures) c.in_ok-segments.segments.items
-    (rw c.deref-3.ensures.value at c.in_ok-outlines.ensures) c.in_ok-segments.ensures.ok.in_order
-    (rw c.deref-2.ensures.value at c.in_ok-sequence.ensures.fit)) in
-    exact_fault c.args.segments.items (Falling c.in-Some-falling.processor c.in-Some-falling.number) outcome refused is
-
-pub invariant_of-result : goal.invariant_of-result
-invariant_of-result c =
-    let of = rw c.deref.ensures.value at c.in_ok-trace_id.ensures.ok in
-    let found = rw c.in_default.is at c.in_ok-sequence.ensures.found in
-    is_case c.args.segments.items c.in_ok-segments.segments.items c.in_ok-trace_id.trace_id c.in_ok-trace_id.processors of
+    still_some c.args.segments.items c.in_ok-segments.segments.items c.in_ok-trace_id.trace_id c.in_ok-trace_id.processors of
     c.in_ok-segments.ensures.ok
-    (rw c.deref-2.ensures.value at c.in_ok-sequence.ensures.fit) (rw c.deref-2.ensures.value at found.1)
-    ((rw c.deref-4.ensures.value at c.in_default-falling.ensures) c.in_ok-segments.segments.items
-    (rw c.deref-3.ensures.value at c.in_ok-outlines.ensures) c.in_ok-segments.ensures.ok.in_order
-    (rw c.deref-2.ensures.value at c.in_ok-sequence.ensures.fit))
+
+pub of_trace-requires-clause-trace : goal.of_trace-requires-clause-trace
+of_trace-requires-clause-trace c =
+    let of = rw c.deref.ensures.value at c.in_ok-trace_id.ensures.ok in
+    let found = rw c.in_default.is at c.in_ok-sequence.ensures.found in
+    is_trace c.args.segments.items c.in_ok-segments.segments.items c.in_ok-trace_id.trace_id c.in_ok-trace_id.processors of
+    c.in_ok-segments.ensures.ok (rw c.deref-2.ensures.value at c.in_ok-sequence.ensures.fit) (rw c.deref-2.ensures.value at found.1)
+
+pub returns-in_err-case-clause-err : goal.returns-in_err-case-clause-err
+returns-in_err-case-clause-err c =
+    let p = err_from_is_err_and c.from_residual-in_err-case.result c.from_residual-in_err-case.ensures.1 in
+    let of = rw c.deref.ensures.value at c.in_ok-trace_id.ensures.ok in
+    let found = rw c.in_default.is at c.in_ok-sequence.ensures.found in
+    rw (p.1, p.2) (rising_refused c.args.segments.items c.in_ok-segments.segments.items c.in_ok-trace_id.trace_id
+    c.in_ok-trace_id.processors of c.in_ok-segments.ensures.ok c.in_err-case.field-0.0 (rw c.deref-2.ensures.value at found.0)
+    c.in_err-case.ensures.err)
+
+pub returns-in_err-case-clause-exact : goal.returns-in_err-case-clause-exact
+returns-in_err-case-clause-exact c outcome is =
+    let p = err_from_is_err_and c.from_residual-in_err-case.result c.from_residual-in_err-case.ensures.1 in
+    let of = rw c.deref.ensures.value at c.in_ok-trace_id.ensures.ok in
+    let found = rw c.in_default.is at c.in_ok-sequence.ensures.found in
+    let refused = rising_refused c.args.segments.items c.in_ok-segments.segments.items c.in_ok-trace_id.trace_id
+    c.in_ok-trace_id.processors of c.in_ok-segments.ensures.ok c.in_err-case.field-0.0 (rw c.deref-2.ensures.value at found.0)
+    c.in_err-case.ensures.err in
+    rw (p.1, p.2) (exact_fault c.args.segments.items c.in_err-case.field-0.0 outcome refused is)
 
 pub returns-clause-ok : goal.returns-clause-ok
 returns-clause-ok c =
     let of = rw c.deref.ensures.value at c.in_ok-trace_id.ensures.ok in
-    let found = rw c.in_default.is at c.in_ok-sequence.ensures.found in
-    is_case_of c.args.segments.items c.in_ok-segments.segments.items c.in_ok-trace_id.trace_id c.in_ok-trace_id.processors of
-    c.in_ok-segments.ensures.ok
-    (rw c.deref-2.ensures.value at c.in_ok-sequence.ensures.fit) (rw c.deref-2.ensures.value at found.1)
-    ((rw c.deref-4.ensures.value at c.in_default-falling.ensures) c.in_ok-segments.segments.items
-    (rw c.deref-3.ensures.value at c.in_ok-outlines.ensures) c.in_ok-segments.ensures.ok.in_order
-    (rw c.deref-2.ensures.value at c.in_ok-sequence.ensures.fit))
+    case_of_given c.args.segments.items c.in_ok-segments.segments.items c.in_ok-trace_id.trace_id c.in_ok-trace_id.processors of
+    c.in_ok-segments.ensures.ok c.in_ok-case.case c.in_ok-case.ensures.value c.in_ok-case.ensures.is_case
 
 pub returns-clause-exact : goal.returns-clause-exact
 returns-clause-exact c outcome is =
     let of = rw c.deref.ensures.value at c.in_ok-trace_id.ensures.ok in
-    let found = rw c.in_default.is at c.in_ok-sequence.ensures.found in
-    exact_case c.args.segments.items (trace c.in_ok-trace_id.trace_id c.in_ok-trace_id.processors c.in_ok-segments.segments.items) outcome
-    (is_case_of c.args.segments.items c.in_ok-segments.segments.items c.in_ok-trace_id.trace_id c.in_ok-trace_id.processors of
-    c.in_ok-segments.ensures.ok
-    (rw c.deref-2.ensures.value at c.in_ok-sequence.ensures.fit) (rw c.deref-2.ensures.value at found.1)
-    ((rw c.deref-4.ensures.value at c.in_default-falling.ensures) c.in_ok-segments.segments.items
-    (rw c.deref-3.ensures.value at c.in_ok-outlines.ensures) c.in_ok-segments.ensures.ok.in_order
-    (rw c.deref-2.ensures.value at c.in_ok-sequence.ensures.fit)))
+    exact_case c.args.segments.items c.in_ok-case.case outcome
+    (case_of_given c.args.segments.items c.in_ok-segments.segments.items c.in_ok-trace_id.trace_id c.in_ok-trace_id.processors of
+    c.in_ok-segments.ensures.ok c.in_ok-case.case c.in_ok-case.ensures.value c.in_ok-case.ensures.is_case)
     is

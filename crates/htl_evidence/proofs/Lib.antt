@@ -4,3 +4,4 @@ pub mod Outlined
 pub mod OneAnswer
 pub mod TellLaws
 pub mod FoundByBytes
+pub mod TakenOver

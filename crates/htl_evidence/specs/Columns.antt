@@ -1,7 +1,8 @@
 -- For the clauses of private functions: a byte of each event, by which those of one process or of one object are found.
-use Rattle.std.specs.Prelude.{◌≡◌, ◌%◌, ◌==◌, ◌&&◌, ℕ, nat_le, Bool, true, List, Option, None, Some, map}
+use Rattle.std.specs.Prelude.{◌≡◌, ◌%◌, ◌==◌, ◌&&◌, ℕ, nat_le, Bool, true, List, Option, None, Some, length, map, Contains}
 use Rattle.htl_event.specs.Events.{Event}
 use Rattle.htl_segment.specs.Content.{Content}
+use Rattle.htl_segment.specs.Traces.{AreInOrder}
 use Rattle.htl_evidence.specs.Told.{number_of}
 use Rattle.htl_evidence.specs.declared.columns.Columns.{Columns}
 use Rattle.htl_evidence.specs.declared.owner.Owner.{Owner}
@@ -27,6 +28,17 @@ pub record AreColumnsOf (events : List Event) (columns : Columns) : Type 0 where
 pub record HaveColumns (segments : List Content) (all : List Columns) : Type 0 where
   pub processes : map (λ (c : Columns). c.processes.items) all ≡ map (λ (s : Content). process_bytes s.events) segments
   pub objects : map (λ (c : Columns). c.objects.items) all ≡ map (λ (s : Content). object_bytes s.events) segments
+
+-- so many columns are left, which are those of these segments
+pub record AreLeft (segments : List Content) (all : List Columns) (number : ℕ) : Type 0 where
+  pub have : HaveColumns segments all
+  pub long : number ≡ length all
+
+-- the earlier segments are among the later ones, and both are in the order of their keys
+pub record AreAmong (earlier later : List Content) : Type 0 where
+  pub in_order : AreInOrder earlier
+  pub later_in_order : AreInOrder later
+  pub among : (s : Content) → Contains earlier s → Contains later s
 
 -- the process of an event, or its object, as the owner is one
 abbrev pub number_in : Owner → Event → ℕ

@@ -2,15 +2,20 @@
 //! looks at these bytes, and at little more than its own events.
 
 ghost use Rattle.std.specs.Prelude.{◌≡◌, ◌++◌, ◌∷◌, [], List, false, filter, flat_map, IfOk, OnOk};
+ghost use Rattle.std.specs.Prelude.{◌↔◌, IfSome, IsTrue};
+ghost use Rattle.std.specs.Vec.Iter.{into_iter_items, into_iter_len};
 ghost use Rattle.htl_event.specs.Events.{Event};
-ghost use Rattle.htl_evidence.specs.Columns.{AreColumnsOf, HaveColumns, byte_of, bytes_for};
-ghost use Rattle.htl_evidence.specs.Columns.{is_counted, is_counted_own};
+ghost use Rattle.htl_segment.specs.Content.{Content};
+ghost use Rattle.htl_case.specs.Faults.{key_of};
+ghost use Rattle.htl_evidence.specs.Columns.{AreAmong, AreColumnsOf, AreLeft, HaveColumns};
+ghost use Rattle.htl_evidence.specs.Columns.{byte_of, bytes_for, is_counted, is_counted_own};
 
 use crate::one::One;
 use crate::owner::Owner;
 use htl_event::{EventList, NoMemory, SharedEvent};
 use htl_segment::Segment;
 use std::alloc::Global;
+use std::vec;
 
 /// A byte for the process of each event of a list, and one for its object.
 #[derive(Drop)]
@@ -94,6 +99,84 @@ pub(crate) fn columns_of(alloc: Global, segments: &[Segment]) -> Result<Vec<Colu
         all.push(Columns::of(alloc, segment.events())?)?;
     }
     Ok(all)
+}
+
+/// The columns of each segment. Those of earlier segments, which are among these, are taken over.
+pub(crate) fn columns_after(
+    alloc: Global,
+    earlier: &[Segment],
+    columns: Vec<Columns>,
+    segments: &[Segment],
+) -> Result<Vec<Columns>, NoMemory>
+    requires have { HaveColumns earlier.now columns.items }
+    requires among { AreAmong earlier.now segments.now }
+    ensures { IfOk result (λ all. HaveColumns segments.now all.items) }
+{
+    let mut rest = Earlier {
+        segments: earlier,
+        columns: columns.into_iter(),
+    };
+    let mut all = Vec::with_capacity(alloc, segments.len())?;
+    for segment in segments {
+        all.push(rest.take_or_make(alloc, segment)?)?;
+    }
+    Ok(all)
+}
+
+/// The earlier segments whose columns weren't taken over yet, and these columns.
+#[derive(Drop)]
+struct Earlier<'a> {
+    segments: &'a [Segment],
+    columns: vec::IntoIter<Columns>,
+}
+
+impl<'a> Earlier<'a> {
+    /// The columns of the segment, which are taken over if it is the first of the earlier ones.
+    fn take_or_make(&mut self, alloc: Global, segment: &Segment) -> Result<Columns, NoMemory>
+        requires { AreLeft self.old.segments.now (into_iter_items self.old.columns)
+            (into_iter_len self.old.columns) }
+        ensures left { AreLeft self.new.segments.now (into_iter_items self.new.columns)
+            (into_iter_len self.new.columns) }
+        ensures among { (later : List Content)
+            → AreAmong self.old.segments.now (segment.now ∷ later)
+            → AreAmong self.new.segments.now later }
+        ensures value { IfOk result (λ columns. (later : List Content)
+            → AreAmong self.old.segments.now (segment.now ∷ later)
+            → AreColumnsOf segment.now.events columns) }
+    {
+        match self.take(segment) {
+            Some(columns) => Ok(columns),
+            None => Columns::of(alloc, segment.events()),
+        }
+    }
+
+    /// Takes out the columns of the first of the earlier segments, if it is this one.
+    fn take(&mut self, segment: &Segment) -> Option<Columns>
+        requires { AreLeft self.old.segments.now (into_iter_items self.old.columns)
+            (into_iter_len self.old.columns) }
+        ensures left { AreLeft self.new.segments.now (into_iter_items self.new.columns)
+            (into_iter_len self.new.columns) }
+        ensures among { (later : List Content)
+            → AreAmong self.old.segments.now (segment.now ∷ later)
+            → AreAmong self.new.segments.now later }
+        ensures value { IfSome result (λ columns. (later : List Content)
+            → AreAmong self.old.segments.now (segment.now ∷ later)
+            → AreColumnsOf segment.now.events columns) }
+    {
+        let (first, rest) = self.segments.split_first()?;
+        if !have_one_key(first, segment) {
+            return None;
+        }
+        let columns = self.columns.next()?;
+        self.segments = rest;
+        Some(columns)
+    }
+}
+
+fn have_one_key(one: &Segment, other: &Segment) -> bool
+    ensures { IsTrue result ↔ (key_of one.now ≡ key_of other.now) }
+{
+    (one.processor(), one.number()) == (other.processor(), other.number())
 }
 
 /// The byte of a process or an object. Numbers at even distances have different bytes, as 251 is a

@@ -8,7 +8,7 @@ ghost use Rattle.htl_evidence.specs.Told.{own_events};
 
 use crate::answering::answer;
 use crate::as_of::AsOf;
-use crate::columns::{Columns, columns_of};
+use crate::columns::{Columns, columns_after, columns_of};
 use crate::one::One;
 use crate::owner::Owner;
 use htl_case::Case;
@@ -40,9 +40,10 @@ impl Model for Indexed {
 }
 
 impl Indexed {
-    ghost use Rattle.std.specs.Prelude.{◌≡◌, IfOk};
+    ghost use Rattle.std.specs.Prelude.{◌≡◌, ◌++◌, Contains, IfOk, IfSome};
+    ghost use Rattle.htl_segment.specs.Content.{Content};
     ghost use Rattle.htl_segment.specs.Traces.{all_events};
-    ghost use Rattle.htl_case.specs.Cases.{IsCase};
+    ghost use Rattle.htl_case.specs.Cases.{IsCase, IsCaseOf};
     ghost use Rattle.htl_case.specs.Spans.{IsSpan};
     ghost use Rattle.htl_evidence.specs.Bases.{IsAnswer};
 
@@ -64,6 +65,29 @@ impl Indexed {
         let case = self.case;
         let columns = columns_of(alloc, case.segments()).ok();
         Indexed { case, columns }
+    }
+
+    /// The case of these segments and its own, without an index. There is none if they form no case,
+    /// or if memory is refused. Few segments cost little.
+    pub fn with_more(&self, alloc: Global, more: &[Segment]) -> Option<Case>
+        ensures { IfSome result (IsCaseOf (more.now ++ self.now.segments)) }
+    {
+        self.case.with_more(alloc, more)
+    }
+
+    /// Becomes this case, which has all of its segments and others. An index is only made of the
+    /// others, as it keeps what it has of its own. Where memory for it is refused, the case has none.
+    pub fn grow(&mut self, alloc: Global, grown: Indexed)
+        requires { (s : Content) → Contains self.old.segments s → Contains grown.segments s }
+        ensures { self.new ≡ grown }
+    {
+        let case = grown.case;
+        let columns = match self.columns.take() {
+            Some(own) => columns_after(alloc, self.case.segments(), own, case.segments()).ok(),
+            None => columns_of(alloc, case.segments()).ok(),
+        };
+        self.case = case;
+        self.columns = columns;
     }
 
     /// The segments by processor, then by number, each once.

@@ -131,7 +131,7 @@ pub(crate) fn load_decoded(
 
 /// The case with the symbols. A case that isn't complete up to the moment is refused where a complete
 /// one is asked for.
-fn with_symbols(
+pub(crate) fn with_symbols(
     alloc: Global,
     complete: bool,
     until: Option<Moment>,

@@ -16,7 +16,7 @@ ghost use Rattle.htl_main.specs.Origins.{IsBetween};
 ghost use Rattle.htl_main.specs.Runs.{AddsAs};
 
 use crate::coverage::Coverage;
-use crate::loading::{Loaded, load_decoded};
+use crate::loading::{Loaded, load_decoded, with_symbols};
 use crate::printing::check_workers;
 use crate::refused::Refused;
 use htl_command::Setting;
@@ -90,7 +90,7 @@ pub fn add<Rt: Threads + Sync, R: Parted>(
         ..
     } = whole;
     let new = (case.segments().len() - loaded.case.segments().len()) as u64;
-    loaded.case = case.with_index(alloc);
+    loaded.case.grow(alloc, case);
     loaded.coverage = coverage;
     Ok(Added {
         segments,
@@ -101,7 +101,8 @@ pub fn add<Rt: Threads + Sync, R: Parted>(
 }
 
 /// Makes a case of the decoded segments and of copies of the old case's segments, which count as
-/// the input `place`. It reads no symbols.
+/// the input `place`. It reads no symbols. Only where they form no case does it look at all events, to
+/// find out why.
 fn load_with(
     alloc: Global,
     complete: bool,
@@ -128,7 +129,12 @@ fn load_with(
         → Decodes form earlier before.now.segments
         → IsBetween form (inputs ++ earlier ∷ []) refused.fault refused.between) }
 {
-    let earlier = copies(alloc, before.segments())?;
+    let own = before.segments();
+    if let Some(case) = before.with_more(alloc, &decoded.segments) {
+        let whole = with_symbols(alloc, complete, None, case, &decoded.cuts, None)?;
+        return Ok(whole);
+    }
+    let earlier = copies(alloc, own)?;
     decoded.add_segments(place, earlier)?;
     let loaded = load_decoded(alloc, complete, None, decoded, None)?;
     Ok(loaded)

@@ -2,6 +2,7 @@
 use Rattle.std.proofs.Common.{◌≡◌, ◌∙◌, ◌++◌, ◌∷◌, [], ap, arith, length, map, refl, sym}
 use Rattle.std.proofs.lemmas.Grind.{common_steps}
 use Rattle.std.proofs.lemmas.List.{length-map}
+use Rattle.std.proofs.lemmas.List.Elements.{Contains-append_right}
 use Rattle.std.proofs.lemmas.Result.{err_from_is_err_and}
 use Rattle.htl_device.specs.States.{ends, has_ended, lefts, remaining}
 use Rattle.htl_inputs.specs.CutInputs.{decoding}
@@ -90,12 +91,17 @@ overflow_sub-new g c =
     c.in_ok-whole.ensures.ok.case in
     omega (arith, fewer, ap length c.segments-2.ensures.value, ap length c.segments.ensures.value)
 
+pub grow-requires : goal.grow-requires
+grow-requires g c s there =
+    (c.in_ok-whole.ensures.ok.case.members s).1
+    (Contains-append_right c.in_ok-decoded.decoded.segments.items c.args.loaded.now.case.segments s there)
+
 pub returns : goal.returns
 returns g c =
     let whole = c.in_ok-whole.ensures.ok in
     let fewer = no_fewer c.in_ok-decoded.decoded.segments.items c.args.loaded.now.case c.in_ok-whole.whole.case c.in_ok-whole.ensures.before
     whole.case in
-    rw (c.with_index.ensures) (record {
+    rw (c.grow.ensures) (record {
       outcome = λ texts all. record {
         segments = c.in_ok-decoded.decoded.segments.items;
         decoded = (c.in_ok-decoded.ensures.reads.outcome texts all).given.segments;

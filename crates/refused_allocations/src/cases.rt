@@ -44,6 +44,7 @@ const STEPS: &[Step] = &[
 
 pub fn try_all(trials: &mut Trials<'_, HostRuntime>) {
     trials.changes("Case::of", unordered, case_of);
+    trials.reads("Case::with_more", case, with_more);
     trials.reads("trace", case, trace);
     trials.reads("play", case, played);
     trials.reads("answer_after", case, answered_after);
@@ -72,6 +73,12 @@ fn case_of(alloc: Global, lists: &mut Spent<Vec<Segment>>) -> Result<Case, Refus
 
 pub fn case(alloc: Global) -> Result<Case, Refusal> {
     answered(Case::of(alloc, SMALL.segments(alloc)?))
+}
+
+/// Without memory there is none.
+fn with_more(alloc: Global, case: &Case) -> Result<Case, Refusal> {
+    case.with_more(alloc, case.segments())
+        .ok_or(Refusal::Memory)
 }
 
 fn trace(alloc: Global, case: &Case) -> Result<Equal<Vec<SharedEvent>>, Refusal> {

@@ -1,6 +1,8 @@
 -- An object that was begun, given fields and ended is a line, which reads back as the record of these fields.
-use Rattle.std.proofs.Common.{◌≡◌, ◌≤◌, ℕ, List, [], ◌∷◌, ◌++◌, ap, append-nil, append_assoc, arith, option_and_then, subst, sym, ◌∙◌}
+use Rattle.std.proofs.Common.{◌≡◌, ◌≤◌, ◌<◌, ◌+◌, ℕ, List, [], ◌∷◌, ◌++◌, ap, append-nil, append_assoc, arith, get_or, length, option_and_then, subst, sym}
+use Rattle.std.proofs.Common.{take, ◌∙◌}
 use Rattle.std.proofs.lemmas.Grind.{flat_map-append}
+use Rattle.std.proofs.lemmas.List.{take_all, take_more}
 use Rattle.std.specs.List.{flat_map}
 use Rattle.json.proofs.Printed.Trees.{value-json_tokens}
 use Rattle.json.specs.Json.{Json, array, if_last, max_depth, value}
@@ -12,8 +14,9 @@ use Rattle.htl_json.proofs.Depths.{AreWithin-append, depth_of_members}
 use Rattle.htl_json.proofs.Tokens.{tokens_of_items, tokens_of_members}
 use Rattle.htl_json.specs.Lines.{IsReadBack}
 use Rattle.htl_json.specs.Records.{Field, members_of, record_of}
-use Rattle.htl_json.specs.Writing.{AddsFields, AddsLine, AddsTokens, AreRead, AreWithin, EndsLine, field_tokens, fields_tokens}
+use Rattle.htl_json.specs.Writing.{AddsFields, AddsLine, AddsTokens, AreRead, AreWithin, EndsLine, field_tokens, fields_tokens, member_fields}
 use Rattle.htl_json.specs.declared.lines.Lines.{Lines}
+use Rattle.htl_json.specs.declared.members.Member.{Member}
 use Rattle.htl_report.specs.Addresses.{line_feed}
 
 read_back : (fs : List Field) → AreWithin 2 fs → AreRead (json_tokens (record_of fs)) → IsReadBack (record_of fs)
@@ -48,6 +51,22 @@ fields_then fs gs a b c h k = (
   ),
   AreWithin-append 2 fs gs h.1 k.1,
 )
+
+-- one more member adds its fields
+pub member_added : (ms : List Member) (i : ℕ) (m : Member) (a b c : Lines) → i < length ms → AddsFields a b (flat_map member_fields (take i ms))
+    → AddsFields b c (member_fields (get_or ms i m)) → AddsFields a c (flat_map member_fields (take (i + 1) ms))
+member_added ms i m a b c within h k =
+    let so_far = take i ms in
+    let next = get_or ms i m in
+    subst (λ xs. AddsFields a c (flat_map member_fields xs)) (sym (take_more ms i m within))
+    (subst (AddsFields a c) (sym (flat_map-append member_fields so_far (next ∷ [])))
+    (fields_then (flat_map member_fields so_far) (flat_map member_fields (next ∷ [])) a b c h
+    (subst (AddsFields b c) (sym (append-nil (member_fields next))) k)))
+
+-- after the last member all fields were added
+pub members_done : (ms : List Member) (i : ℕ) (a b : Lines) → length ms ≤ i → AddsFields a b (flat_map member_fields (take i ms))
+    → AddsFields a b (flat_map member_fields ms)
+members_done ms i a b all h = subst (λ xs. AddsFields a b (flat_map member_fields xs)) (take_all i ms all) h
 
 -- an object that was begun, given fields and ended is one line more, the record of these fields
 pub line_added : (fs : List Field) (old begun last new : Lines) → old.writer.tokens ≡ [] → AddsTokens old begun (begin_object ∷ [])

@@ -27,11 +27,11 @@ use Rattle.htl_symbols.specs.Ranges.{Range}
 use Rattle.htl_taken.specs.declared.gap.Gap.{Gap}
 use Rattle.htl_taken.specs.declared.gap.Gap.TheVariants.{Between, Absent}
 use Rattle.htl_json.specs.Frames.{address_fields, frame, stack_fields}
-use Rattle.htl_json.specs.Laws.{AreAddresses, IsCount, IsGap, IsNumber, IsObjectRow, IsPoint, IsProcessRow, IsSiteRow, IsTag, IsTagRow, IsTagStack}
-use Rattle.htl_json.specs.Records.{count_fields, objects_field, quantity, shown_address, shown_handle, tag_fields}
+use Rattle.htl_json.specs.Laws.{AreAddresses, IsCount, IsGap, IsNumber, IsObjectRow, IsOneRow, IsPoint, IsProcessRow, IsSiteRow, IsTag, IsTagRow, IsTagStack}
+use Rattle.htl_json.specs.Records.{count_fields, quantity, shown_address, shown_handle, tag_fields}
 use Rattle.htl_json.specs.Rows.{absent_fields, bad_fields, bad_reference, balance_fields, balance_row, between_fields, counted_stack, event_fields}
-use Rattle.htl_json.specs.Rows.{handles_field, handles_fields, leak, listed, missing, moments_fields, opened, point_fields, point_row}
-use Rattle.htl_json.specs.Rows.{process_row, site_fields, site_row, tag_balance, tag_stack, unbalanced_fields, unbalanced_object}
+use Rattle.htl_json.specs.Rows.{handles_field, leak, listed, missing, objects_field, opened, point_fields, point_row, process_fields}
+use Rattle.htl_json.specs.Rows.{process_row, site_fields, site_row, tag_balance, tag_stack, object_fields, unbalanced_object}
 
 -- ---- parts of a value
 
@@ -135,7 +135,7 @@ module _ (symbols : List Range) where
   -- ---- rows with a stack
 
   -- where two events have one value as open handles, their base handles, sequences, threads and stacks are equal
-  pub one_opened : (a b : Event) → InRange a → InRange b → opened symbols a ≡ opened symbols b
+  one_opened : (a b : Event) → InRange a → InRange b → opened symbols a ≡ opened symbols b
       → (base_of a.handle ≡ base_of b.handle) × (a.sequence ≡ b.sequence) × (a.thread ≡ b.thread) × (a.stack ≡ b.stack)
   unfolding event_fields stack_fields
   one_opened a b fit also same = (
@@ -149,7 +149,7 @@ module _ (symbols : List Range) where
       small_base handle fits = omega (arith, fits)
 
   -- where two events have one value in a listing, their kinds, handles, sequences, threads and stacks are equal
-  pub one_listed : (a b : Event) → InRange a → InRange b → listed symbols a ≡ listed symbols b
+  one_listed : (a b : Event) → InRange a → InRange b → listed symbols a ≡ listed symbols b
       → (a.kind ≡ b.kind) × (a.handle ≡ b.handle) × (a.sequence ≡ b.sequence) × (a.thread ≡ b.thread) × (a.stack ≡ b.stack)
   unfolding event_fields stack_fields
   one_listed a b fit also same = (
@@ -161,7 +161,7 @@ module _ (symbols : List Range) where
   )
 
   -- where two rows of bad references have one value, they are equal
-  pub one_bad_reference : (handle other : ℕ) (stack frames : List ℕ) (times often : ℕ) → IsNumber handle → IsNumber other
+  one_bad_reference : (handle other : ℕ) (stack frames : List ℕ) (times often : ℕ) → IsNumber handle → IsNumber other
       → AreAddresses stack → AreAddresses frames → IsNumber times → IsNumber often
       → bad_reference symbols (handle, stack, times) ≡ bad_reference symbols (other, frames, often)
       → (handle ≡ other) × (stack ≡ frames) × (times ≡ often)
@@ -173,7 +173,7 @@ module _ (symbols : List Range) where
   )
 
   -- where two rows of leaking stacks have one value, they are equal
-  pub one_leak : (stack frames : List ℕ) (handles other : ℕ) → AreAddresses stack → AreAddresses frames → IsNumber handles → IsNumber other
+  one_leak : (stack frames : List ℕ) (handles other : ℕ) → AreAddresses stack → AreAddresses frames → IsNumber handles → IsNumber other
       → leak symbols (stack, handles) ≡ leak symbols (frames, other) → (stack ≡ frames) × (handles ≡ other)
   unfolding handles_field stack_fields
   one_leak stack frames handles other s f h o same = (
@@ -182,7 +182,7 @@ module _ (symbols : List Range) where
   )
 
   -- where two sites have one value, they are equal
-  pub one_site : (a b : Site) → IsSiteRow a → IsSiteRow b → site_row symbols a ≡ site_row symbols b → a ≡ b
+  one_site : (a b : Site) → IsSiteRow a → IsSiteRow b → site_row symbols a ≡ site_row symbols b → a ≡ b
   unfolding site_fields stack_fields
   one_site a b fit also same =
       let stack = one_stack a.stack b.stack fit.0 also.0 (ap (value_at 2) same) in
@@ -191,7 +191,7 @@ module _ (symbols : List Range) where
       λ t. record { stack = stack t; handles = handles t; processes = processes t }
 
   -- where two rows of reference stacks have one value, they are equal
-  pub one_counted : (stack frames : List ℕ) (count other : Count) → AreAddresses stack → AreAddresses frames → IsCount count → IsCount other
+  one_counted : (stack frames : List ℕ) (count other : Count) → AreAddresses stack → AreAddresses frames → IsCount count → IsCount other
       → counted_stack symbols (stack, count) ≡ counted_stack symbols (frames, other) → (stack ≡ frames) × (count ≡ other)
   unfolding count_fields stack_fields
   one_counted stack frames count other s f c o same =
@@ -200,7 +200,7 @@ module _ (symbols : List Range) where
       (one_stack stack frames s f (ap (value_at 2) same), λ t. record { plus = plus t; minus = minus t })
 
   -- where two stacks have one value over all objects, they are equal
-  pub one_tag_stack : (a b : Balance) → IsTagStack a → IsTagStack b → tag_stack symbols a ≡ tag_stack symbols b → a ≡ b
+  one_tag_stack : (a b : Balance) → IsTagStack a → IsTagStack b → tag_stack symbols a ≡ tag_stack symbols b → a ≡ b
   unfolding count_fields objects_field stack_fields
   one_tag_stack a b fit also same =
       let stack = one_stack a.by b.by fit.0 also.0 (ap (value_at 3) same) in
@@ -222,7 +222,7 @@ one_tag tag bytes fit also same =
     (sym (decode_of-encode_lower tag (are_bytes tag fit)) ∙ ap decode_of same ∙ decode_of-encode_lower bytes (are_bytes bytes also))
 
 -- where two rows of tags have one value, they are equal
-pub one_balance : (tag bytes : List ℕ) (count other : Count) → IsTag tag → IsTag bytes → IsCount count → IsCount other
+one_balance : (tag bytes : List ℕ) (count other : Count) → IsTag tag → IsTag bytes → IsCount count → IsCount other
     → tag_balance (tag, count) ≡ tag_balance (bytes, other) → (tag ≡ bytes) × (count ≡ other)
 unfolding tag_fields count_fields balance_fields
 one_balance tag bytes count other s f c o same =
@@ -231,7 +231,7 @@ one_balance tag bytes count other s f c o same =
     (one_tag tag bytes s f (ap (λ value. text_in (value_at 1 value)) same), λ t. record { plus = plus t; minus = minus t })
 
 -- where two tags have one value over all objects, they are equal
-pub one_balance_row : (a b : Balance) → IsTagRow a → IsTagRow b → balance_row a ≡ balance_row b → a ≡ b
+one_balance_row : (a b : Balance) → IsTagRow a → IsTagRow b → balance_row a ≡ balance_row b → a ≡ b
 unfolding tag_fields count_fields balance_fields objects_field
 one_balance_row a b fit also same =
     let tag = one_tag a.by b.by fit.0 also.0 (ap (λ value. text_in (value_at 1 value)) same) in
@@ -241,7 +241,7 @@ one_balance_row a b fit also same =
     λ t. record { by = tag t; count = record { plus = plus t; minus = minus t }; objects = objects t }
 
 -- where two points of a growth have one value, they are equal
-pub one_point : (a b : Point) → IsPoint a → IsPoint b → point_row a ≡ point_row b → a ≡ b
+one_point : (a b : Point) → IsPoint a → IsPoint b → point_row a ≡ point_row b → a ≡ b
 unfolding point_fields
 one_point a b fit also same =
     let sequence = one_number a.sequence b.sequence fit.0 also.0 (ap (value_at 0) same) in
@@ -249,7 +249,7 @@ one_point a b fit also same =
     λ t. record { sequence = sequence t; outstanding = outstanding t }
 
 -- where two gaps have one value, they are equal
-pub one_gap : (a b : Gap) → IsGap a → IsGap b → missing a ≡ missing b → a ≡ b
+one_gap : (a b : Gap) → IsGap a → IsGap b → missing a ≡ missing b → a ≡ b
 unfolding between_fields absent_fields
 one_gap (Between p from to) (Between q low high) fit also same =
     let processor = one_number p q fit.0 also.0 (ap (value_at 1) same) in
@@ -261,8 +261,8 @@ one_gap (Absent p) (Between q low high) fit also same = (let never = ap (value_a
 one_gap (Absent p) (Absent q) fit also same = ap Absent (one_number p q fit also (ap (value_at 1) same))
 
 -- where two rows of processes have one value, they are equal
-pub one_process : (a b : ProcessRow) → IsProcessRow a → IsProcessRow b → process_row a ≡ process_row b → a ≡ b
-unfolding handles_fields moments_fields
+one_process : (a b : ProcessRow) → IsProcessRow a → IsProcessRow b → process_row a ≡ process_row b → a ≡ b
+unfolding process_fields
 one_process a b fit also same =
     let process = one_number a.process b.process fit.process also.process (ap (value_at 1) same) in
     let outstanding = one_number a.outstanding b.outstanding fit.outstanding also.outstanding (ap (value_at 2) same) in
@@ -282,8 +282,8 @@ one_process a b fit also same =
     }
 
 -- where two rows of objects have one value, they are equal
-pub one_object : (a b : ObjectRow) → IsObjectRow a → IsObjectRow b → unbalanced_object a ≡ unbalanced_object b → a ≡ b
-unfolding unbalanced_fields count_fields
+one_object : (a b : ObjectRow) → IsObjectRow a → IsObjectRow b → unbalanced_object a ≡ unbalanced_object b → a ≡ b
+unfolding object_fields count_fields
 one_object a b fit also same =
     let object = one_address a.object b.object fit.object also.object (ap (value_at 1) same) in
     let tags = one_number a.tags b.tags fit.tags also.tags (ap (value_at 2) same) in
@@ -291,3 +291,23 @@ one_object a b fit also same =
     let refs = one_number a.refs b.refs fit.refs also.refs (ap (value_at 4) same) in
     let derefs = one_number a.derefs b.derefs fit.derefs also.derefs (ap (value_at 5) same) in
     λ t. record { object = object t; tags = tags t; unbalanced = unbalanced t; refs = refs t; derefs = derefs t }
+
+-- ---- rows of all forms
+
+-- where two rows of one form have one value, they agree in all that the value shows
+pub one_row : (symbols : List Range) → IsOneRow symbols
+one_row symbols = record {
+  outstanding = one_opened symbols;
+  listing = one_listed symbols;
+  bad = one_bad_reference symbols;
+  leaks = one_leak symbols;
+  sites = one_site symbols;
+  stacks = one_counted symbols;
+  tags = one_balance;
+  balances = one_balance_row;
+  tag_stacks = one_tag_stack symbols;
+  growth = one_point;
+  gaps = one_gap;
+  processes = one_process;
+  objects = one_object;
+}

@@ -1,5 +1,5 @@
 -- What the values of lines are made of: objects of named fields, in the order in which they are written.
-use Rattle.std.specs.Prelude.{◌++◌, ◌∷◌, [], ℕ, List, codes}
+use Rattle.std.specs.Prelude.{◌++◌, ◌∷◌, [], ℕ, List, Option, Some, None, codes}
 use Rattle.std.specs.Fmt.{decimal}
 use Rattle.hex.specs.Hex.{encode_lower}
 use Rattle.json.specs.Json.{Json, Members, member, no_members, number, object, string}
@@ -21,6 +21,11 @@ record_of fields = object (members_of fields)
 abbrev pub quantity : ℕ → Json
 quantity n = number (decimal n)
 
+-- a field of a number that may be absent
+abbrev pub field_of : List ℕ → Option ℕ → List Field
+field_of name None = []
+field_of name (Some n) = (name, quantity n) ∷ []
+
 -- a handle, as in the text
 abbrev pub shown_handle : ℕ → Json
 shown_handle handle = string (codes "0x" ++ hex handle)
@@ -37,7 +42,3 @@ tag_fields tag = (codes "tag", string (shown_tag tag)) ∷ (codes "bytes", strin
 unfoldable pub count_fields : ℕ → ℕ → List Field
 count_fields references dereferences =
     (codes "references", quantity references) ∷ (codes "dereferences", quantity dereferences) ∷ []
-
--- how many objects: of all in a first line, and of a tag or a stack in its line
-unfoldable pub objects_field : ℕ → List Field
-objects_field objects = (codes "objects", quantity objects) ∷ []

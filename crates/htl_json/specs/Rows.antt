@@ -13,7 +13,7 @@ use Rattle.htl_taken.specs.declared.gap.Gap.{Gap}
 use Rattle.htl_taken.specs.declared.gap.Gap.TheVariants.{Between, Absent}
 use Rattle.json.specs.Json.{Json, string}
 use Rattle.htl_json.specs.Frames.{stack_fields}
-use Rattle.htl_json.specs.Records.{Field, count_fields, objects_field, quantity, record_of, shown_address, shown_handle, tag_fields}
+use Rattle.htl_json.specs.Records.{Field, count_fields, quantity, record_of, shown_address, shown_handle, tag_fields}
 use Rattle.htl_event.specs.Words.{word_of}
 
 -- an event's own fields, with this word and this handle
@@ -59,20 +59,23 @@ site_row symbols site = record_of (site_fields site.handles site.processes ++ st
 abbrev pub counted_stack : List Range → List ℕ × Count → Json
 counted_stack symbols row = record_of (count_fields row.1.plus row.1.minus ++ stack_fields symbols row.0)
 
--- by how many the references are more than the dereferences, and the other way round: one of the two is 0
-unfoldable pub balance_fields : Count → List Field
-balance_fields c = (codes "over", quantity (c.plus - c.minus)) ∷ (codes "under", quantity (c.minus - c.plus)) ∷ []
-
--- a tag, and how often objects were referenced and dereferenced under it
-abbrev pub tag_balance_fields : List ℕ → Count → List Field
-tag_balance_fields tag c = tag_fields tag ++ (count_fields c.plus c.minus ++ balance_fields c)
+-- a tag, how often objects were referenced and dereferenced under it, by how many the one is more than the other, of which one is 0, and
+-- what comes behind that
+unfoldable pub balance_fields : List ℕ → Count → List Field → List Field
+balance_fields tag c more =
+    tag_fields tag ++ (count_fields c.plus c.minus
+    ++ (codes "over", quantity (c.plus - c.minus)) ∷ (codes "under", quantity (c.minus - c.plus)) ∷ more)
 
 abbrev pub tag_balance : List ℕ × Count → Json
-tag_balance row = record_of (tag_balance_fields row.0 row.1)
+tag_balance row = record_of (balance_fields row.0 row.1 [])
+
+-- how many objects
+unfoldable pub objects_field : ℕ → List Field
+objects_field objects = (codes "objects", quantity objects) ∷ []
 
 -- a tag over all objects
 abbrev pub balance_row : Balance → Json
-balance_row row = record_of (tag_balance_fields row.by row.count ++ objects_field row.objects)
+balance_row row = record_of (balance_fields row.by row.count (objects_field row.objects))
 
 -- a stack that used the tag, over all objects
 abbrev pub tag_stack : List Range → Balance → Json
@@ -104,24 +107,21 @@ missing_fields (Absent processor) = absent_fields processor
 abbrev pub missing : Gap → Json
 missing gap = record_of (missing_fields gap)
 
--- a process, its outstanding handles, its opens and its closes
-unfoldable pub handles_fields : ProcessRow → List Field
-handles_fields row =
+-- a process, its outstanding handles, its opens, closes and bad references, its snapshot mark and its last exit
+unfoldable pub process_fields : ProcessRow → List Field
+process_fields row =
     (codes "row", string (codes "PROCESS")) ∷ (codes "process", quantity row.process) ∷ (codes "outstanding", quantity row.outstanding)
-    ∷ (codes "opens", quantity row.opens) ∷ (codes "closes", quantity row.closes) ∷ []
-
--- the bad references, the snapshot mark and the last exit of a process
-unfoldable pub moments_fields : ProcessRow → List Field
-moments_fields row = (codes "bad", quantity row.bad) ∷ (codes "mark", quantity row.mark) ∷ (codes "exit", quantity row.exit) ∷ []
+    ∷ (codes "opens", quantity row.opens) ∷ (codes "closes", quantity row.closes) ∷ (codes "bad", quantity row.bad)
+    ∷ (codes "mark", quantity row.mark) ∷ (codes "exit", quantity row.exit) ∷ []
 
 abbrev pub process_row : ProcessRow → Json
-process_row row = record_of (handles_fields row ++ moments_fields row)
+process_row row = record_of (process_fields row)
 
 -- an object, how many tags it has, and how many of them aren't balanced
-unfoldable pub unbalanced_fields : ObjectRow → List Field
-unbalanced_fields row =
+unfoldable pub object_fields : ObjectRow → List Field
+object_fields row =
     (codes "row", string (codes "OBJECT")) ∷ (codes "object", shown_address row.object) ∷ (codes "tags", quantity row.tags)
     ∷ (codes "unbalanced", quantity row.unbalanced) ∷ []
 
 abbrev pub unbalanced_object : ObjectRow → Json
-unbalanced_object row = record_of (unbalanced_fields row ++ count_fields row.refs row.derefs)
+unbalanced_object row = record_of (object_fields row ++ count_fields row.refs row.derefs)

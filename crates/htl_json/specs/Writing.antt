@@ -1,14 +1,26 @@
 -- How lines are added to a text, and fields to the object of a line.
 use Rattle.std.specs.Prelude.{◌++◌, ◌∷◌, ◌≡◌, ◌≤◌, [], ⊤, ℕ, All, IsUtf8, List, flat_map}
-use Rattle.json.specs.Json.{Json}
+use Rattle.json.specs.Json.{Json, string}
 use Rattle.json.specs.Lex.{tokens}
 use Rattle.json.specs.Print.{print}
 use Rattle.json.specs.Token.{Token, key}
 use Rattle.json.specs.Tree.{depth, json_tokens}
 use Rattle.htl_json.specs.Lines.{IsReadBack, json_line}
-use Rattle.htl_json.specs.Records.{Field}
+use Rattle.htl_json.specs.Records.{Field, count_fields, field_of, quantity, shown_address, shown_handle, tag_fields}
 use Rattle.htl_json.specs.declared.lines.Lines.{Lines}
+use Rattle.htl_json.specs.declared.members.Member.{Member}
+use Rattle.htl_json.specs.declared.members.Member.TheVariants.{Text, Number, Optional, Handle, Address, Tag, Counts}
 use Rattle.htl_report.specs.Addresses.{line_feed}
+
+-- the fields that are written of a member
+abbrev pub member_fields : Member → List Field
+member_fields (Text name text) = (name.now, string text.now) ∷ []
+member_fields (Number name n) = (name.now, quantity n) ∷ []
+member_fields (Optional name n) = field_of name.now n
+member_fields (Handle name handle) = (name.now, shown_handle handle) ∷ []
+member_fields (Address name address) = (name.now, shown_address address) ∷ []
+member_fields (Tag tag) = tag_fields tag
+member_fields (Counts references dereferences) = count_fields references dereferences
 
 -- the tokens of a field
 abbrev pub field_tokens : Field → List Token
@@ -49,3 +61,7 @@ abbrev pub AddsLines : {R : Type 0} → (R → Json) → Lines → Lines → Lis
 AddsLines value_of old new rows =
     All (λ row. IsReadBack (value_of row)) rows × (new.writer.tokens ≡ [])
     × (new.writer.before ≡ old.writer.before ++ flat_map (λ row. json_line (value_of row)) rows)
+
+-- a line is added for each value
+abbrev pub AddsValues : Lines → Lines → List Json → Type 0
+AddsValues old new values = AddsLines {R = Json} (λ value. value) old new values

@@ -1,160 +1,166 @@
-//! Rows that are counts: leaking stacks, of a process or of all, stacks behind a tag, and tags.
+//! Rows of counts: stacks of handles or of references, tags with their balances, and points of a
+//! growth.
 
-ghost use Rattle.std.specs.Prelude.{◌≡◌, [], OnOk};
-ghost use Rattle.htl_json.specs.Rows.{balance_fields, counted_stack, handles_field, leak};
-ghost use Rattle.htl_json.specs.Rows.{site_fields, site_row, tag_balance, tag_balance_fields};
-ghost use Rattle.htl_json.specs.Writing.{AddsFields, AddsLine, AddsLines};
+ghost use Rattle.htl_json.specs.Rows.{balance_row, counted_stack, leak, point_row, site_row};
+ghost use Rattle.htl_json.specs.Rows.{tag_balance, tag_stack};
 
-use crate::frames::write_stack;
 use crate::lines::Lines;
-use htl_event::{Count, SharedStack, Site};
+use crate::members::Member;
+use crate::rows::{Form, write_line, write_stack_line};
+use htl_event::{Balance, Count, Point, SharedStack, Site};
 use htl_symbols::Symbols;
 use std::alloc::AllocError;
 
-pub(crate) fn write_leaks(
-    lines: &mut Lines,
-    symbols: &Symbols,
-    rows: &[(SharedStack, u64)],
-) -> Result<(), AllocError>
-    requires { lines.old.writer.tokens ≡ [] }
-    ensures { OnOk result
-        (AddsLines (leak symbols.now) lines.old lines.new rows.now) }
-{
-    for (stack, handles) in rows {
-        write_leak(lines, symbols, stack, *handles)?;
+/// Stacks, each with how many handles it opened.
+pub(crate) struct Leaks;
+
+impl Form for Leaks {
+    type Row = (SharedStack, u64);
+
+    ghost value_of = { leak };
+
+    #[tactic(auto, unfolding(crate::specs::Rows::handles_field))]
+    fn write(
+        lines: &mut Lines,
+        symbols: &Symbols,
+        row: &(SharedStack, u64),
+    ) -> Result<(), AllocError> {
+        write_stack_line(lines, symbols, &[Member::Number("handles", row.1)], &row.0)
     }
-    Ok(())
 }
 
-fn write_leak(
-    lines: &mut Lines,
-    symbols: &Symbols,
-    stack: &SharedStack,
-    handles: u64,
-) -> Result<(), AllocError>
-    requires { lines.old.writer.tokens ≡ [] }
-    ensures { OnOk result
-        (AddsLine lines.old lines.new (leak symbols.now (stack.now, handles))) }
-{
-    lines.begin_object()?;
-    write_handles(lines, handles)?;
-    write_stack(lines, symbols, stack)?;
-    lines.end_line()
-}
+/// Stacks, each with how many handles it opened, and of how many processes they are.
+pub(crate) struct Sites;
 
-#[tactic(auto, unfolding(crate::specs::Rows::handles_field))]
-fn write_handles(lines: &mut Lines, handles: u64) -> Result<(), AllocError>
-    ensures { OnOk result (AddsFields lines.old lines.new (handles_field handles)) }
-{
-    lines.number("handles", handles)
-}
+impl Form for Sites {
+    type Row = Site<SharedStack>;
 
-pub(crate) fn write_sites(
-    lines: &mut Lines,
-    symbols: &Symbols,
-    rows: &[Site<SharedStack>],
-) -> Result<(), AllocError>
-    requires { lines.old.writer.tokens ≡ [] }
-    ensures { OnOk result
-        (AddsLines (site_row symbols.now) lines.old lines.new rows.now) }
-{
-    for site in rows {
-        write_site(lines, symbols, site)?;
+    ghost value_of = { site_row };
+
+    #[tactic(auto, unfolding(crate::specs::Rows::site_fields))]
+    fn write(
+        lines: &mut Lines,
+        symbols: &Symbols,
+        site: &Site<SharedStack>,
+    ) -> Result<(), AllocError> {
+        let members = [
+            Member::Number("handles", site.handles),
+            Member::Number("processes", site.processes),
+        ];
+        write_stack_line(lines, symbols, &members, &site.stack)
     }
-    Ok(())
 }
 
-fn write_site(
-    lines: &mut Lines,
-    symbols: &Symbols,
-    site: &Site<SharedStack>,
-) -> Result<(), AllocError>
-    requires { lines.old.writer.tokens ≡ [] }
-    ensures { OnOk result
-        (AddsLine lines.old lines.new (site_row symbols.now site.now)) }
-{
-    lines.begin_object()?;
-    write_numbers(lines, site.handles, site.processes)?;
-    write_stack(lines, symbols, &site.stack)?;
-    lines.end_line()
-}
+/// Stacks, each with its references and dereferences of an object under a tag.
+pub(crate) struct Stacks;
 
-#[tactic(auto, unfolding(crate::specs::Rows::site_fields))]
-fn write_numbers(lines: &mut Lines, handles: u64, processes: u64) -> Result<(), AllocError>
-    ensures { OnOk result (AddsFields lines.old lines.new (site_fields handles processes)) }
-{
-    lines.number("handles", handles)?;
-    lines.number("processes", processes)
-}
+impl Form for Stacks {
+    type Row = (SharedStack, Count);
 
-/// Writes the stacks of an object's references and dereferences under a tag.
-pub(crate) fn write_stacks(
-    lines: &mut Lines,
-    symbols: &Symbols,
-    rows: &[(SharedStack, Count)],
-) -> Result<(), AllocError>
-    requires { lines.old.writer.tokens ≡ [] }
-    ensures { OnOk result
-        (AddsLines (counted_stack symbols.now) lines.old lines.new rows.now) }
-{
-    for (stack, count) in rows {
-        write_counted(lines, symbols, stack, *count)?;
+    ghost value_of = { counted_stack };
+
+    #[tactic(auto, unfolding(crate::specs::Records::count_fields))]
+    fn write(
+        lines: &mut Lines,
+        symbols: &Symbols,
+        row: &(SharedStack, Count),
+    ) -> Result<(), AllocError> {
+        let members = [Member::Counts(row.1.plus, row.1.minus)];
+        write_stack_line(lines, symbols, &members, &row.0)
     }
-    Ok(())
 }
 
-fn write_counted(
-    lines: &mut Lines,
-    symbols: &Symbols,
-    stack: &SharedStack,
-    count: Count,
-) -> Result<(), AllocError>
-    requires { lines.old.writer.tokens ≡ [] }
-    ensures { OnOk result
-        (AddsLine lines.old lines.new (counted_stack symbols.now (stack.now, count))) }
-{
-    lines.begin_object()?;
-    lines.counts(count.plus, count.minus)?;
-    write_stack(lines, symbols, stack)?;
-    lines.end_line()
-}
+/// Stacks, each with its references and dereferences under a tag, over all objects.
+pub(crate) struct TagStacks;
 
-pub(crate) fn write_tags(lines: &mut Lines, rows: &[([u8; 4], Count)]) -> Result<(), AllocError>
-    requires { lines.old.writer.tokens ≡ [] }
-    ensures { OnOk result (AddsLines tag_balance lines.old lines.new rows.now) }
-{
-    for (tag, count) in rows {
-        write_tag(lines, *tag, *count)?;
+impl Form for TagStacks {
+    type Row = Balance<SharedStack>;
+
+    ghost value_of = { tag_stack };
+
+    #[tactic(auto, unfolding(crate::specs::Records::count_fields, crate::specs::Rows::objects_field))]
+    fn write(
+        lines: &mut Lines,
+        symbols: &Symbols,
+        row: &Balance<SharedStack>,
+    ) -> Result<(), AllocError> {
+        let members = [
+            Member::Counts(row.count.plus, row.count.minus),
+            Member::Number("objects", row.objects),
+        ];
+        write_stack_line(lines, symbols, &members, &row.by)
     }
-    Ok(())
 }
 
-fn write_tag(lines: &mut Lines, tag: [u8; 4], count: Count) -> Result<(), AllocError>
-    requires { lines.old.writer.tokens ≡ [] }
-    ensures { OnOk result (AddsLine lines.old lines.new (tag_balance (tag, count))) }
-{
-    lines.begin_object()?;
-    write_tag_balance(lines, tag, count)?;
-    lines.end_line()
+/// Tags of an object, each with its balance.
+pub(crate) struct Tags;
+
+impl Form for Tags {
+    type Row = ([u8; 4], Count);
+
+    ghost value_of = { λ symbols. tag_balance };
+
+    #[tactic(auto, unfolding(crate::specs::Rows::balance_fields))]
+    fn write(
+        lines: &mut Lines,
+        _symbols: &Symbols,
+        row: &([u8; 4], Count),
+    ) -> Result<(), AllocError> {
+        write_line(
+            lines,
+            &[
+                Member::Tag(row.0),
+                Member::Counts(row.1.plus, row.1.minus),
+                Member::Number("over", row.1.plus.saturating_sub(row.1.minus)),
+                Member::Number("under", row.1.minus.saturating_sub(row.1.plus)),
+            ],
+        )
+    }
 }
 
-/// Writes a tag and its balance.
-pub(crate) fn write_tag_balance(
-    lines: &mut Lines,
-    tag: [u8; 4],
-    count: Count,
-) -> Result<(), AllocError>
-    ensures { OnOk result (AddsFields lines.old lines.new (tag_balance_fields tag count)) }
-{
-    lines.tag(tag)?;
-    lines.counts(count.plus, count.minus)?;
-    write_balance(lines, count)
+/// Tags, each with its balance over all objects.
+pub(crate) struct Balances;
+
+impl Form for Balances {
+    type Row = Balance<[u8; 4]>;
+
+    ghost value_of = { λ symbols. balance_row };
+
+    #[tactic(auto, unfolding(crate::specs::Rows::balance_fields, crate::specs::Rows::objects_field))]
+    fn write(
+        lines: &mut Lines,
+        _symbols: &Symbols,
+        row: &Balance<[u8; 4]>,
+    ) -> Result<(), AllocError> {
+        write_line(
+            lines,
+            &[
+                Member::Tag(row.by),
+                Member::Counts(row.count.plus, row.count.minus),
+                Member::Number("over", row.count.plus.saturating_sub(row.count.minus)),
+                Member::Number("under", row.count.minus.saturating_sub(row.count.plus)),
+                Member::Number("objects", row.objects),
+            ],
+        )
+    }
 }
 
-#[tactic(auto, unfolding(crate::specs::Rows::balance_fields))]
-fn write_balance(lines: &mut Lines, count: Count) -> Result<(), AllocError>
-    ensures { OnOk result (AddsFields lines.old lines.new (balance_fields count)) }
-{
-    lines.number("over", count.plus.saturating_sub(count.minus))?;
-    lines.number("under", count.minus.saturating_sub(count.plus))
+/// Points of a growth.
+pub(crate) struct Points;
+
+impl Form for Points {
+    type Row = Point;
+
+    ghost value_of = { λ symbols. point_row };
+
+    #[tactic(auto, unfolding(crate::specs::Rows::point_fields))]
+    fn write(lines: &mut Lines, _symbols: &Symbols, point: &Point) -> Result<(), AllocError> {
+        write_line(
+            lines,
+            &[
+                Member::Number("sequence", point.sequence),
+                Member::Number("outstanding", point.outstanding),
+            ],
+        )
+    }
 }

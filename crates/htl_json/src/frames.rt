@@ -8,6 +8,7 @@ ghost use Rattle.htl_json.specs.Frames.{symbol_fields};
 ghost use Rattle.htl_json.specs.Writing.{AddsFields, AddsTokens};
 
 use crate::lines::Lines;
+use crate::members::{Member, write_members};
 use htl_event::SharedStack;
 use htl_symbols::Symbols;
 use std::alloc::AllocError;
@@ -55,7 +56,10 @@ fn write_address(lines: &mut Lines, symbols: &Symbols, address: u64) -> Result<(
     write_named(lines, symbols.resolve(address))
 }
 
-fn write_named(lines: &mut Lines, symbol: Option<(&str, &str, u64)>) -> Result<(), AllocError>
+fn write_named<'a>(
+    lines: &mut Lines,
+    symbol: Option<(&'a str, &'a str, u64)>,
+) -> Result<(), AllocError>
     ensures { OnOk result (AddsFields lines.old lines.new
         (named_fields (option_map (λ s. (s.0.now, s.1.now, s.2)) symbol.entry))) }
 {
@@ -66,16 +70,21 @@ fn write_named(lines: &mut Lines, symbol: Option<(&str, &str, u64)>) -> Result<(
 }
 
 #[tactic(auto, unfolding(crate::specs::Frames::symbol_fields))]
-fn write_symbol(
+fn write_symbol<'a>(
     lines: &mut Lines,
-    module_name: &str,
-    name: &str,
+    module_name: &'a str,
+    name: &'a str,
     offset: u64,
 ) -> Result<(), AllocError>
     ensures { OnOk result (AddsFields lines.old lines.new
         (symbol_fields (module_name.now, name.now, offset))) }
 {
-    lines.text("module", module_name)?;
-    lines.text("name", name)?;
-    lines.number("offset", offset)
+    write_members(
+        lines,
+        &[
+            Member::Text("module", module_name),
+            Member::Text("name", name),
+            Member::Number("offset", offset),
+        ],
+    )
 }

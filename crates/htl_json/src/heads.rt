@@ -1,54 +1,31 @@
 //! The first line of each answer.
 
-ghost use Rattle.std.specs.Prelude.{◌≡◌, ◌++◌, [], OnOk};
-ghost use Rattle.htl_json.specs.Heads.{balances_head, count_field, handle_field, head};
-ghost use Rattle.htl_json.specs.Heads.{lines_fields, object_field, process_field, question_fields};
-ghost use Rattle.htl_json.specs.Heads.{sequence_fields, since_fields, snapshots_fields};
-ghost use Rattle.htl_json.specs.Heads.{subject_fields, summary_head, totals_fields, until_fields};
-ghost use Rattle.htl_json.specs.Heads.{word_field};
-ghost use Rattle.htl_json.specs.Records.{tag_fields};
+ghost use Rattle.std.specs.Prelude.{◌≡◌, [], OnOk};
+ghost use Rattle.htl_json.specs.Heads.{head, numbers_fields, question_fields, since_fields};
+ghost use Rattle.htl_json.specs.Heads.{subject_fields, summary_head, totals_fields, word_field};
 ghost use Rattle.htl_json.specs.Writing.{AddsFields, AddsLine};
 
 use crate::lines::Lines;
+use crate::members::{Member, write_members};
 use htl_event::base;
 use htl_question::{Answer, Question, Subject, Totals};
 use std::alloc::AllocError;
 
-/// Writes the first line of an answer of so many rows.
+/// Writes the first line of an answer of so many rows. Balances are over so many objects.
 pub(crate) fn write_head(
     lines: &mut Lines,
     answer: &Answer,
+    objects: Option<u64>,
     until: Option<u64>,
     count: usize,
 ) -> Result<(), AllocError>
     requires { lines.old.writer.tokens ≡ [] }
     ensures { OnOk result (AddsLine lines.old lines.new
-        (head answer.now.question answer.now.since until count)) }
+        (head answer.now.question answer.now.since objects until count)) }
 {
     lines.begin_object()?;
     write_question(lines, answer.question, answer.since)?;
-    write_until(lines, until)?;
-    write_count(lines, count)?;
-    lines.end_line()
-}
-
-/// Writes the first line of balances, with the numbers of all objects and of all tags.
-pub(crate) fn write_balances_head(
-    lines: &mut Lines,
-    answer: &Answer,
-    until: Option<u64>,
-    objects: u64,
-    count: usize,
-) -> Result<(), AllocError>
-    requires { lines.old.writer.tokens ≡ [] }
-    ensures { OnOk result (AddsLine lines.old lines.new
-        (balances_head answer.now.question answer.now.since until objects count)) }
-{
-    lines.begin_object()?;
-    write_question(lines, answer.question, answer.since)?;
-    lines.objects(objects)?;
-    write_until(lines, until)?;
-    write_count(lines, count)?;
+    write_numbers(lines, objects, until, count)?;
     lines.end_line()
 }
 
@@ -68,9 +45,8 @@ pub(crate) fn write_summary_head(
 {
     lines.begin_object()?;
     write_question(lines, answer.question, answer.since)?;
-    write_totals(lines, totals)?;
-    write_lines(lines, gaps, processes, totals.objects, unbalanced)?;
-    write_until(lines, until)?;
+    write_totals(lines, totals, gaps, processes, unbalanced)?;
+    lines.optional("until", until)?;
     lines.end_line()
 }
 
@@ -95,126 +71,84 @@ fn write_word(lines: &mut Lines, question: Question) -> Result<(), AllocError>
     lines.text("answer", question.word())
 }
 
+#[tactic(auto, unfolding(crate::specs::Heads::subject_fields, crate::specs::Records::tag_fields))]
 fn write_subject(lines: &mut Lines, subject: Option<Subject>) -> Result<(), AllocError>
     ensures { OnOk result (AddsFields lines.old lines.new (subject_fields subject)) }
 {
     match subject {
         None => Ok(()),
-        Some(Subject::Process(process)) => write_process(lines, process),
-        Some(Subject::Object(object)) => write_object(lines, object),
-        Some(Subject::Tag { object, tag }) => write_tag(lines, object, tag),
+        Some(Subject::Process(process)) => lines.number("process", process as u64),
+        Some(Subject::Object(object)) => lines.address("object", object),
+        Some(Subject::Tag { object, tag }) => {
+            write_members(
+                lines,
+                &[Member::Address("object", object), Member::Tag(tag)],
+            )
+        }
         Some(Subject::TagOfAll(tag)) => lines.tag(tag),
-        Some(Subject::Handle { process, handle }) => write_handle(lines, process, handle),
+        Some(Subject::Handle { process, handle }) => write_members(
+            lines,
+            &[
+                Member::Number("process", process as u64),
+                Member::Handle("handle", base(handle)),
+            ],
+        ),
     }
 }
 
-fn write_tag(lines: &mut Lines, object: u64, tag: [u8; 4]) -> Result<(), AllocError>
-    ensures { OnOk result
-        (AddsFields lines.old lines.new (object_field object ++ tag_fields tag)) }
-{
-    write_object(lines, object)?;
-    lines.tag(tag)
-}
-
-fn write_handle(lines: &mut Lines, process: u32, handle: u32) -> Result<(), AllocError>
-    ensures { OnOk result
-        (AddsFields lines.old lines.new (process_field process ++ handle_field handle)) }
-{
-    write_process(lines, process)?;
-    write_base(lines, handle)
-}
-
-#[tactic(auto, unfolding(crate::specs::Heads::process_field))]
-fn write_process(lines: &mut Lines, process: u32) -> Result<(), AllocError>
-    ensures { OnOk result (AddsFields lines.old lines.new (process_field process)) }
-{
-    lines.number("process", process as u64)
-}
-
-#[tactic(auto, unfolding(crate::specs::Heads::object_field))]
-fn write_object(lines: &mut Lines, object: u64) -> Result<(), AllocError>
-    ensures { OnOk result (AddsFields lines.old lines.new (object_field object)) }
-{
-    lines.address("object", object)
-}
-
-/// Writes the base handle.
-#[tactic(auto, unfolding(crate::specs::Heads::handle_field))]
-fn write_base(lines: &mut Lines, handle: u32) -> Result<(), AllocError>
-    ensures { OnOk result (AddsFields lines.old lines.new (handle_field handle)) }
-{
-    lines.handle("handle", base(handle))
-}
-
-#[tactic(auto, unfolding(crate::specs::Heads::count_field))]
-fn write_count(lines: &mut Lines, count: usize) -> Result<(), AllocError>
-    ensures { OnOk result (AddsFields lines.old lines.new (count_field count)) }
-{
-    lines.number("count", count as u64)
-}
-
+#[tactic(auto, unfolding(crate::specs::Heads::since_fields))]
 fn write_since(lines: &mut Lines, question: Question, since: Option<u64>) -> Result<(), AllocError>
     ensures { OnOk result (AddsFields lines.old lines.new (since_fields question since)) }
 {
     if question.is_since_snapshots() {
-        write_snapshots(lines)
+        lines.text("since", "snapshot")
     } else {
-        write_sequence(lines, since)
+        lines.optional("since", since)
     }
 }
 
-#[tactic(auto, unfolding(crate::specs::Heads::snapshots_fields))]
-fn write_snapshots(lines: &mut Lines) -> Result<(), AllocError>
-    ensures { OnOk result (AddsFields lines.old lines.new snapshots_fields) }
+#[tactic(auto, unfolding(crate::specs::Heads::numbers_fields))]
+fn write_numbers(
+    lines: &mut Lines,
+    objects: Option<u64>,
+    until: Option<u64>,
+    count: usize,
+) -> Result<(), AllocError>
+    ensures { OnOk result
+        (AddsFields lines.old lines.new (numbers_fields objects until count)) }
 {
-    lines.text("since", "snapshot")
-}
-
-/// Writes the sequence after which handles count, where there is one.
-#[tactic(auto, unfolding(crate::specs::Heads::sequence_fields))]
-fn write_sequence(lines: &mut Lines, since: Option<u64>) -> Result<(), AllocError>
-    ensures { OnOk result (AddsFields lines.old lines.new (sequence_fields since)) }
-{
-    match since {
-        Some(since) => lines.number("since", since),
-        None => Ok(()),
-    }
-}
-
-/// Writes the moment up to which events count, where one is given.
-#[tactic(auto, unfolding(crate::specs::Heads::until_fields))]
-fn write_until(lines: &mut Lines, until: Option<u64>) -> Result<(), AllocError>
-    ensures { OnOk result (AddsFields lines.old lines.new (until_fields until)) }
-{
-    match until {
-        Some(moment) => lines.number("until", moment),
-        None => Ok(()),
-    }
+    write_members(
+        lines,
+        &[
+            Member::Optional("objects", objects),
+            Member::Optional("until", until),
+            Member::Number("count", count as u64),
+        ],
+    )
 }
 
 #[tactic(auto, unfolding(crate::specs::Heads::totals_fields))]
-fn write_totals(lines: &mut Lines, totals: &Totals) -> Result<(), AllocError>
-    ensures { OnOk result (AddsFields lines.old lines.new (totals_fields totals.now)) }
-{
-    lines.number("processors", totals.processors as u64)?;
-    lines.number("segments", totals.segments)?;
-    lines.number("events", totals.events)?;
-    lines.number("complete_to", totals.complete_to)
-}
-
-#[tactic(auto, unfolding(crate::specs::Heads::lines_fields))]
-fn write_lines(
+fn write_totals(
     lines: &mut Lines,
+    totals: &Totals,
     gaps: usize,
     processes: usize,
-    objects: u64,
     unbalanced: usize,
 ) -> Result<(), AllocError>
     ensures { OnOk result (AddsFields lines.old lines.new
-        (lines_fields gaps processes objects unbalanced)) }
+        (totals_fields totals.now gaps processes unbalanced)) }
 {
-    lines.number("gaps", gaps as u64)?;
-    lines.number("processes", processes as u64)?;
-    lines.number("objects", objects)?;
-    lines.number("unbalanced", unbalanced as u64)
+    write_members(
+        lines,
+        &[
+            Member::Number("processors", totals.processors as u64),
+            Member::Number("segments", totals.segments),
+            Member::Number("events", totals.events),
+            Member::Number("complete_to", totals.complete_to),
+            Member::Number("gaps", gaps as u64),
+            Member::Number("processes", processes as u64),
+            Member::Number("objects", totals.objects),
+            Member::Number("unbalanced", unbalanced as u64),
+        ],
+    )
 }

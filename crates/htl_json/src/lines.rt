@@ -5,7 +5,7 @@ ghost use Rattle.json.specs.Json.{string};
 ghost use Rattle.json.specs.Print.{print};
 ghost use Rattle.json.specs.Token.{begin_array, begin_object, end_array, end_object};
 ghost use Rattle.json.specs.Token as token;
-ghost use Rattle.htl_json.specs.Records.{count_fields, objects_field, quantity, shown_address};
+ghost use Rattle.htl_json.specs.Records.{count_fields, field_of, quantity, shown_address};
 ghost use Rattle.htl_json.specs.Records.{shown_handle, tag_fields};
 ghost use Rattle.htl_json.specs.Writing.{AddsFields, AddsTokens, AreRead, EndsLine};
 ghost use Rattle.htl_report.specs.Parts.{shown_tag};
@@ -128,6 +128,16 @@ impl Lines {
         self.writer.u64(number)
     }
 
+    /// Writes a number where there is one.
+    pub(crate) fn optional(&mut self, name: &str, number: Option<u64>) -> Result<(), AllocError>
+        ensures { OnOk result (AddsFields self.old self.new (field_of name.now number)) }
+    {
+        match number {
+            Some(number) => self.number(name, number),
+            None => Ok(()),
+        }
+    }
+
     pub(crate) fn handle(&mut self, name: &str, handle: u32) -> Result<(), AllocError>
         ensures { OnOk result
             (AddsFields self.old self.new ((name.now, shown_handle handle) ∷ [])) }
@@ -189,13 +199,5 @@ impl Lines {
     {
         self.number("references", references)?;
         self.number("dereferences", dereferences)
-    }
-
-    /// Writes a number of objects.
-    #[tactic(auto, unfolding(crate::specs::Records::objects_field))]
-    pub(crate) fn objects(&mut self, objects: u64) -> Result<(), AllocError>
-        ensures { OnOk result (AddsFields self.old self.new (objects_field objects)) }
-    {
-        self.number("objects", objects)
     }
 }

@@ -3,16 +3,7 @@ pub mod Addresses
 pub mod Parts
 pub mod Heads
 pub mod Rows
-pub mod Opens
-pub mod Listings
-pub mod Growths
-pub mod BadReferences
-pub mod Leaks
-pub mod Sites
 pub mod Folded
-pub mod TagBalances
-pub mod ReferenceStacks
-pub mod Balances
 pub mod Summaries
 pub mod Texts
 pub mod Names

@@ -1,5 +1,5 @@
 -- Whether the symbols have a name for any address that an answer shows (this project's own): a table of another build has none.
-use Rattle.std.specs.Prelude.{◌&&◌, [], not, true, ℕ, Bool, List, Option, flat_map, is_some}
+use Rattle.std.specs.Prelude.{◌&&◌, [], not, true, ℕ, Bool, List, Option, Some, None, flat_map, is_some}
 use Rattle.std.specs.List.{list_any}
 use Rattle.htl_question.specs.Rows.{Listed, opens, listing, bad, leaks, sites, stacks, tag_stacks}
 use Rattle.htl_symbols.specs.Ranges.{Range, resolved}
@@ -15,6 +15,11 @@ shown_addresses top (sites rows) = flat_map (λ site. site.stack) (first_rows to
 shown_addresses top (stacks rows) = flat_map (λ row. row.0) (first_rows top rows)
 shown_addresses top (tag_stacks rows) = flat_map (λ row. row.by) (first_rows top rows)
 shown_addresses top without_stacks = []
+
+-- the addresses of a row's stack, if it has one
+abbrev pub addresses_of : Option (List ℕ) → List ℕ
+addresses_of None = []
+addresses_of (Some stack) = stack
 
 -- a range of the symbols has the address
 abbrev pub is_named : List Range → ℕ → Bool

@@ -1,11 +1,9 @@
 -- Parts of lines that several answers print, as bytes.
 use Rattle.std.specs.Prelude.{◌++◌, ◌&&◌, [], ℕ, List, Option, Some, None, codes, if◌then◌else◌, map, nat_le}
 use Rattle.std.specs.Fmt.{decimal}
-use Rattle.htl_event.specs.Events.{Event}
 use Rattle.htl_event.specs.declared.slot.Count.{Count}
-use Rattle.htl_numbers.specs.Written.{hex, padded}
-use Rattle.htl_symbols.specs.Ranges.{Range}
-use Rattle.htl_report.specs.Addresses.{line_feed, stack_lines}
+use Rattle.htl_numbers.specs.Written.{padded}
+use Rattle.htl_report.specs.Addresses.{line_feed}
 
 unfoldable pub object_part : ℕ → List ℕ
 object_part object = codes " object=0x" ++ padded 16 object
@@ -19,15 +17,9 @@ until_part (Some moment) = codes " until=" ++ decimal moment
 unfoldable pub count_part : Option ℕ → ℕ → List ℕ
 count_part until count = until_part until ++ (codes " count=" ++ (decimal count ++ line_feed))
 
--- the line of an event, with this word and this handle
-unfoldable pub event_line : List ℕ → ℕ → Event → List ℕ
-event_line word handle e =
-    word ++ (codes " handle=0x" ++ (hex handle ++ (codes " seq=" ++ (decimal e.sequence
-    ++ (codes " thread=" ++ (decimal e.thread ++ line_feed))))))
-
--- an event, with this word and this handle, and its stack
-abbrev pub event_lines : List Range → List ℕ → ℕ → Event → List ℕ
-event_lines symbols word handle e = event_line word handle e ++ stack_lines symbols e.stack
+-- how many objects: of all in a first line, and of a tag or a stack in its line
+unfoldable pub objects_part : ℕ → List ℕ
+objects_part objects = codes " objects=" ++ decimal objects
 
 -- references and dereferences
 unfoldable pub counts : Count → List ℕ

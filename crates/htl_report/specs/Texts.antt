@@ -3,19 +3,11 @@
 use Rattle.std.specs.Prelude.{◌++◌, ℕ, List, Option, flat_map, length}
 use Rattle.htl_question.specs.Rows.{Found, Listed, opens, listing, tags, bad, leaks, sites, stacks, balances, tag_stacks, points, summary}
 use Rattle.htl_symbols.specs.Ranges.{Range}
-use Rattle.htl_report.specs.BadReferences.{bad_lines}
-use Rattle.htl_report.specs.Balances.{balance_row, objects_part, tag_stack_lines}
-use Rattle.htl_report.specs.Growths.{point_line}
 use Rattle.htl_report.specs.Heads.{head_part}
-use Rattle.htl_report.specs.Leaks.{leak_lines}
-use Rattle.htl_report.specs.Listings.{listed_lines}
-use Rattle.htl_report.specs.Opens.{open_lines}
-use Rattle.htl_report.specs.Parts.{count_part}
-use Rattle.htl_report.specs.ReferenceStacks.{stacks_lines}
-use Rattle.htl_report.specs.Rows.{first_rows}
-use Rattle.htl_report.specs.Sites.{site_lines}
+use Rattle.htl_report.specs.Parts.{count_part, objects_part}
+use Rattle.htl_report.specs.Rows.{bad_lines, balance_row, first_rows, leak_lines, listed_lines, open_lines, point_line, site_lines}
+use Rattle.htl_report.specs.Rows.{stacks_lines, tag_row, tag_stack_lines}
 use Rattle.htl_report.specs.Summaries.{summary_text}
-use Rattle.htl_report.specs.TagBalances.{tag_row}
 
 -- the end of the first line, which counts all rows, and the lines of those that are printed
 abbrev pub list_text : {R : Type 0} → (R → List ℕ) → Option ℕ → Option ℕ → List R → List ℕ

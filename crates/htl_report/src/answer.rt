@@ -2,21 +2,15 @@
 
 ghost use Rattle.std.specs.Prelude.{◌≡◌, ◌++◌, IfOk, OnOk, string_bytes};
 ghost use Rattle.htl_question.specs.Rows.{listed};
-ghost use Rattle.htl_report.specs.Texts.{rows_text, text_of};
+ghost use Rattle.htl_report.specs.Rows.{with_stack};
+ghost use Rattle.htl_report.specs.Texts.{list_text, rows_text, text_of};
 
-use crate::bad::write_bad;
-use crate::balances::{write_balances, write_objects, write_tag_stacks};
-use crate::growths::write_points;
+use crate::counts::{Balances, Leaks, Points, Sites, Stacks, TagStacks, Tags};
+use crate::events::{Bad, Listing, Opens};
 use crate::heads::write_head;
-use crate::leaks::write_leaks;
-use crate::listing::write_listing;
-use crate::opens::write_opens;
-use crate::parts::write_count;
-use crate::rows::first_rows;
-use crate::sites::write_sites;
-use crate::stacks::write_stacks;
+use crate::parts::{write_count, write_objects};
+use crate::rows::{Form, first_rows, write_rows};
 use crate::summary::write_summary;
-use crate::tags::write_tags;
 use htl_event::NoMemory;
 use htl_question::{Answer, Rows};
 use htl_symbols::Symbols;
@@ -40,12 +34,12 @@ pub fn text(
 {
     let mut out = String::new(alloc);
     write_head(&mut out, answer.question, answer.since)?;
-    write_rows(alloc, &mut out, &answer.rows, symbols, until, top)?;
+    write_answer(alloc, &mut out, &answer.rows, symbols, until, top)?;
     Ok(out.into_bytes())
 }
 
 /// Writes the numbers of the first line, and the lines of the rows.
-fn write_rows(
+fn write_answer(
     alloc: Global,
     out: &mut String,
     rows: &Rows,
@@ -57,52 +51,42 @@ fn write_rows(
         ≡ string_bytes out.old ++ rows_text symbols.now until top (listed rows.now)) }
 {
     match rows {
-        Rows::Opens(rows) => {
-            write_count(out, until, rows.len())?;
-            write_opens(alloc, out, symbols, first_rows(top, rows))
-        }
-        Rows::Listing(rows) => {
-            write_count(out, until, rows.len())?;
-            write_listing(alloc, out, symbols, first_rows(top, rows))
-        }
-        Rows::Tags(rows) => {
-            write_count(out, until, rows.len())?;
-            write_tags(out, first_rows(top, rows))
-        }
-        Rows::Bad(rows) => {
-            write_count(out, until, rows.len())?;
-            write_bad(alloc, out, symbols, first_rows(top, rows))
-        }
-        Rows::Leaks(rows) => {
-            write_count(out, until, rows.len())?;
-            write_leaks(out, symbols, first_rows(top, rows))
-        }
-        Rows::Sites(rows) => {
-            write_count(out, until, rows.len())?;
-            write_sites(out, symbols, first_rows(top, rows))
-        }
-        Rows::Stacks(rows) => {
-            write_count(out, until, rows.len())?;
-            write_stacks(out, symbols, first_rows(top, rows))
-        }
+        Rows::Opens(rows) => write_list::<Opens>(alloc, out, symbols, until, top, rows),
+        Rows::Listing(rows) => write_list::<Listing>(alloc, out, symbols, until, top, rows),
+        Rows::Tags(rows) => write_list::<Tags>(alloc, out, symbols, until, top, rows),
+        Rows::Bad(rows) => write_list::<Bad>(alloc, out, symbols, until, top, rows),
+        Rows::Leaks(rows) => write_list::<Leaks>(alloc, out, symbols, until, top, rows),
+        Rows::Sites(rows) => write_list::<Sites>(alloc, out, symbols, until, top, rows),
+        Rows::Stacks(rows) => write_list::<Stacks>(alloc, out, symbols, until, top, rows),
         Rows::Balances { objects, tags } => {
             write_objects(out, *objects)?;
-            write_count(out, until, tags.len())?;
-            write_balances(out, first_rows(top, tags))
+            write_list::<Balances>(alloc, out, symbols, until, top, tags)
         }
-        Rows::TagStacks(rows) => {
-            write_count(out, until, rows.len())?;
-            write_tag_stacks(out, symbols, first_rows(top, rows))
-        }
-        Rows::Points(rows) => {
-            write_count(out, until, rows.len())?;
-            write_points(out, first_rows(top, rows))
-        }
+        Rows::TagStacks(rows) => write_list::<TagStacks>(alloc, out, symbols, until, top, rows),
+        Rows::Points(rows) => write_list::<Points>(alloc, out, symbols, until, top, rows),
         Rows::Summary {
             totals,
             gaps,
             processes,
             objects,
-        } => write_summary(out, until, top, totals, gaps, processes, objects),
+        } => write_summary(
+            alloc, out, symbols, until, top, totals, gaps, processes, objects,
+        ),
     }
+}
+
+/// Writes the end of the first line, which counts all rows, and the lines of those that are printed.
+fn write_list<F: Form>(
+    alloc: Global,
+    out: &mut String,
+    symbols: &Symbols,
+    until: Option<u64>,
+    top: Option<u32>,
+    rows: &[F::Row],
+) -> Result<(), AllocError>
+    ensures { OnOk result (string_bytes out.new ≡ string_bytes out.old ++ list_text
+        (λ row. with_stack symbols.now (F.line_of row) (F.stack_of row)) until top rows.now) }
+{
+    write_count(out, until, rows.len())?;
+    write_rows::<F>(alloc, out, symbols, first_rows(top, rows))
 }

@@ -4,32 +4,24 @@
 //! the rows by their form. `text` writes just that, into one buffer.
 //!
 //! Files, in reading order: `answer.rt` (the text of an answer); `heads.rt` (what its first line
-//! says of the question); one file for the rows of each form, here and in `specs/`: `opens.rt`,
-//! `listing.rt`, `tags.rt`, `bad.rt`, `leaks.rt`, `sites.rt`, `stacks.rt`, `balances.rt`,
-//! `growths.rt`, `summary.rt`; what several forms print: `address.rt`, `printed.rt` (stacks that
-//! were written before), `parts.rt`, and the number of rows (`rows.rt`); the leaking stacks once
+//! says of the question); `rows.rt` (the lines of each row, of whatever form, and the number of
+//! rows); the forms, in `events.rt`, `counts.rt` and `summary.rt`; what several forms print:
+//! `address.rt`, `printed.rt` (stacks that were written before), `parts.rt`; the leaking stacks once
 //! more, for flame graph programs (`flame_graph.rt`); and whether an answer shows addresses without
 //! a name for any (`names.rt`).
 #![tactic(auto)]
 
 mod address;
 mod answer;
-mod bad;
-mod balances;
+mod counts;
+mod events;
 mod flame_graph;
-mod growths;
 mod heads;
-mod leaks;
-mod listing;
 mod names;
-mod opens;
 mod parts;
 mod printed;
 mod rows;
-mod sites;
-mod stacks;
 mod summary;
-mod tags;
 
 pub use address::write_address;
 pub use answer::text;

@@ -1,72 +1,16 @@
 //! Whether the addresses that an answer shows have names.
 
-ghost use Rattle.std.specs.Prelude.{◌≡◌, flat_map};
-ghost use Rattle.htl_report.specs.Names.{has_some, is_named, none_named, shown_addresses};
+ghost use Rattle.std.specs.Prelude.{◌≡◌, flat_map, option_map};
+ghost use Rattle.htl_report.specs.Names.{addresses_of, has_some, is_named, none_named};
+ghost use Rattle.htl_report.specs.Names.{shown_addresses};
 ghost use Rattle.std.specs.List.{list_any};
 
-use crate::rows::first_rows;
-use htl_event::{Balance, Count, SharedEvent, SharedStack, Site};
+use crate::counts::{Leaks, Sites, Stacks, TagStacks};
+use crate::events::{Bad, Listing, Opens};
+use crate::rows::{Form, first_rows};
+use htl_event::SharedStack;
 use htl_question::{Answer, Rows};
 use htl_symbols::Symbols;
-
-/// A row of an answer that has a stack.
-trait Stacked {
-    ghost use Rattle.std.specs.Prelude.{◌≡◌, ℕ, List};
-
-    ghost stack_of: { Self → List ℕ };
-
-    /// The addresses of the row's stack, the innermost call first.
-    fn frames(&self) -> &[u64]
-        ensures { result.now ≡ stack_of self.now };
-}
-
-impl Stacked for SharedEvent {
-    ghost stack_of = { λ event. event.stack };
-
-    fn frames(&self) -> &[u64] {
-        self.stack.frames()
-    }
-}
-
-impl Stacked for (u32, SharedStack, u64) {
-    ghost stack_of = { λ row. row.1 };
-
-    fn frames(&self) -> &[u64] {
-        self.1.frames()
-    }
-}
-
-impl Stacked for (SharedStack, u64) {
-    ghost stack_of = { λ row. row.0 };
-
-    fn frames(&self) -> &[u64] {
-        self.0.frames()
-    }
-}
-
-impl Stacked for Site<SharedStack> {
-    ghost stack_of = { λ site. site.stack };
-
-    fn frames(&self) -> &[u64] {
-        self.stack.frames()
-    }
-}
-
-impl Stacked for (SharedStack, Count) {
-    ghost stack_of = { λ row. row.0 };
-
-    fn frames(&self) -> &[u64] {
-        self.0.frames()
-    }
-}
-
-impl Stacked for Balance<SharedStack> {
-    ghost stack_of = { λ row. row.by };
-
-    fn frames(&self) -> &[u64] {
-        self.by.frames()
-    }
-}
 
 /// Whether the rows of the answer that are printed, at most `top`, have addresses, and the symbols
 /// have a name for none of these.
@@ -74,48 +18,63 @@ pub fn shows_no_name(answer: &Answer, symbols: &Symbols, top: Option<u32>) -> bo
     ensures { result ≡ none_named symbols.now (shown_addresses top answer.now.rows) }
 {
     match &answer.rows {
-        Rows::Opens(rows) => have_no_name(first_rows(top, rows), symbols),
-        Rows::Listing(rows) => have_no_name(first_rows(top, rows), symbols),
-        Rows::Bad(rows) => have_no_name(first_rows(top, rows), symbols),
-        Rows::Leaks(rows) => have_no_name(first_rows(top, rows), symbols),
-        Rows::Sites(rows) => have_no_name(first_rows(top, rows), symbols),
-        Rows::Stacks(rows) => have_no_name(first_rows(top, rows), symbols),
-        Rows::TagStacks(rows) => have_no_name(first_rows(top, rows), symbols),
+        Rows::Opens(rows) => have_no_name::<Opens>(first_rows(top, rows), symbols),
+        Rows::Listing(rows) => have_no_name::<Listing>(first_rows(top, rows), symbols),
+        Rows::Bad(rows) => have_no_name::<Bad>(first_rows(top, rows), symbols),
+        Rows::Leaks(rows) => have_no_name::<Leaks>(first_rows(top, rows), symbols),
+        Rows::Sites(rows) => have_no_name::<Sites>(first_rows(top, rows), symbols),
+        Rows::Stacks(rows) => have_no_name::<Stacks>(first_rows(top, rows), symbols),
+        Rows::TagStacks(rows) => have_no_name::<TagStacks>(first_rows(top, rows), symbols),
         Rows::Tags(_) | Rows::Balances { .. } | Rows::Points(_) | Rows::Summary { .. } => false,
     }
 }
 
 /// Whether the rows have addresses, and the symbols have a name for none of these.
-fn have_no_name<R: Stacked>(rows: &[R], symbols: &Symbols) -> bool
-    ensures { result ≡ none_named symbols.now (flat_map R.stack_of rows.now) }
+fn have_no_name<F: Form>(rows: &[F::Row], symbols: &Symbols) -> bool
+    ensures { result ≡ none_named symbols.now
+        (flat_map (λ row. addresses_of (F.stack_of row)) rows.now) }
 {
-    have_address(rows) && !have_name(rows, symbols)
+    have_address::<F>(rows) && !have_name::<F>(rows, symbols)
 }
 
 /// Whether one of the rows has an address.
-fn have_address<R: Stacked>(rows: &[R]) -> bool
-    ensures { result ≡ list_any (λ row. has_some (R.stack_of row)) rows.now }
+fn have_address<F: Form>(rows: &[F::Row]) -> bool
+    ensures { result ≡ list_any (λ row. has_some (addresses_of (F.stack_of row))) rows.now }
 {
-    rows.iter().any(|row| has_address(row))
+    rows.iter().any(|row| has_address(F::stack(row)))
 }
 
-/// Whether the row has an address.
-fn has_address<R: Stacked>(row: &R) -> bool
-    ensures { result ≡ has_some (R.stack_of row.now) }
+/// Whether there is a stack with an address.
+fn has_address(stack: Option<&SharedStack>) -> bool
+    ensures { result ≡ has_some (addresses_of (option_map (λ stack. stack.now) stack.entry)) }
 {
-    !row.frames().is_empty()
+    match stack {
+        Some(stack) => !stack.frames().is_empty(),
+        None => false,
+    }
 }
 
 /// Whether the symbols have a name for an address of one of the rows.
-fn have_name<R: Stacked>(rows: &[R], symbols: &Symbols) -> bool
-    ensures { result ≡ list_any (λ row. list_any (is_named symbols.now) (R.stack_of row))
-        rows.now }
+fn have_name<F: Form>(rows: &[F::Row], symbols: &Symbols) -> bool
+    ensures { result ≡ list_any
+        (λ row. list_any (is_named symbols.now) (addresses_of (F.stack_of row))) rows.now }
 {
-    rows.iter().any(|row| has_name(row.frames(), symbols))
+    rows.iter().any(|row| has_name(F::stack(row), symbols))
+}
+
+/// Whether there is a stack with an address for which the symbols have a name.
+fn has_name(stack: Option<&SharedStack>, symbols: &Symbols) -> bool
+    ensures { result ≡ list_any (is_named symbols.now)
+        (addresses_of (option_map (λ stack. stack.now) stack.entry)) }
+{
+    match stack {
+        Some(stack) => is_one_named(stack.frames(), symbols),
+        None => false,
+    }
 }
 
 /// Whether the symbols have a name for one of the addresses.
-fn has_name(addresses: &[u64], symbols: &Symbols) -> bool
+fn is_one_named(addresses: &[u64], symbols: &Symbols) -> bool
     ensures { result ≡ list_any (is_named symbols.now) addresses.now }
 {
     addresses.iter().any(|address| is_named(*address, symbols))

@@ -1,14 +1,11 @@
 //! Parts of lines that several kinds of answers print.
 
 ghost use Rattle.std.specs.Prelude.{◌≡◌, ◌++◌, ◌<◌, OnOk, string_bytes};
-ghost use Rattle.htl_report.specs.Parts.{count_part, counts, event_line, event_lines, object_part};
+ghost use Rattle.htl_report.specs.Parts.{count_part, counts, object_part, objects_part};
 ghost use Rattle.htl_report.specs.Parts.{shown_byte, shown_tag, until_part};
-ghost use Rattle.htl_report.specs.Printed.{HasPrinted};
 
-use crate::printed::Printed;
-use htl_event::{Count, SharedEvent};
+use htl_event::Count;
 use htl_numbers::write_hex_digits;
-use htl_symbols::Symbols;
 use std::alloc::AllocError;
 
 /// Writes an object.
@@ -47,41 +44,13 @@ pub(crate) fn write_count(
     writeln!(out, " count={count}")
 }
 
-/// Writes an event, with this word and this handle, and its stack.
-pub(crate) fn write_event<'a>(
-    out: &mut String,
-    symbols: &Symbols,
-    printed: &mut Printed<'a>,
-    word: &str,
-    handle: u32,
-    event: &'a SharedEvent,
-) -> Result<(), AllocError>
-    requires { HasPrinted symbols.now (string_bytes out.old) printed.old.places.items }
-    ensures text { OnOk result (string_bytes out.new
-        ≡ string_bytes out.old ++ event_lines symbols.now word.now handle event.now) }
-    ensures kept { OnOk result
-        (HasPrinted symbols.now (string_bytes out.new) printed.new.places.items) }
-{
-    write_event_line(out, word, handle, event)?;
-    printed.write_stack(out, symbols, &event.stack)
-}
-
-#[tactic(auto, unfolding(crate::specs::Parts::event_line))]
-fn write_event_line(
-    out: &mut String,
-    word: &str,
-    handle: u32,
-    event: &SharedEvent,
-) -> Result<(), AllocError>
+/// Writes a number of objects.
+#[tactic(auto, unfolding(crate::specs::Parts::objects_part))]
+pub(crate) fn write_objects(out: &mut String, objects: u64) -> Result<(), AllocError>
     ensures { OnOk result (string_bytes out.new
-        ≡ string_bytes out.old ++ event_line word.now handle event.now) }
+        ≡ string_bytes out.old ++ objects_part objects) }
 {
-    let sequence = event.sequence;
-    let thread = event.thread;
-    writeln!(
-        out,
-        "{word} handle=0x{handle:x} seq={sequence} thread={thread}"
-    )
+    write!(out, " objects={objects}")
 }
 
 /// Writes the numbers of references and dereferences.

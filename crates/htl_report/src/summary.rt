@@ -1,21 +1,24 @@
 //! Summaries: everything that leaks, and the segments that are missing.
 
-ghost use Rattle.std.specs.Prelude.{◌≡◌, ◌++◌, OnOk, flat_map, string_bytes};
+ghost use Rattle.std.specs.Prelude.{◌≡◌, ◌++◌, None, OnOk, string_bytes};
 ghost use Rattle.htl_report.specs.Summaries.{absent_line, between_line, events_part};
 ghost use Rattle.htl_report.specs.Summaries.{gap_line, handles_part, lines_part, moments_part};
 ghost use Rattle.htl_report.specs.Summaries.{object_line, process_line, summary_head};
 ghost use Rattle.htl_report.specs.Summaries.{summary_text, tags_part, totals_part};
 
 use crate::parts::{write_object, write_until};
-use crate::rows::first_rows;
-use htl_event::{ObjectRow, ProcessRow};
+use crate::rows::{Form, first_rows, write_rows};
+use htl_event::{ObjectRow, ProcessRow, SharedStack};
 use htl_question::Totals;
+use htl_symbols::Symbols;
 use htl_taken::Gap;
-use std::alloc::AllocError;
+use std::alloc::{AllocError, Global};
 
 #[tactic(auto, unfolding(crate::specs::Summaries::summary_text))]
 pub(crate) fn write_summary(
+    alloc: Global,
     out: &mut String,
+    symbols: &Symbols,
     until: Option<u64>,
     top: Option<u32>,
     totals: &Totals,
@@ -35,9 +38,9 @@ pub(crate) fn write_summary(
         processes.len(),
         objects.len(),
     )?;
-    write_gaps(out, gaps)?;
-    write_processes(out, first_rows(top, processes))?;
-    write_objects(out, first_rows(top, objects))
+    write_rows::<Gaps>(alloc, out, symbols, gaps)?;
+    write_rows::<Processes>(alloc, out, symbols, first_rows(top, processes))?;
+    write_rows::<Objects>(alloc, out, symbols, first_rows(top, objects))
 }
 
 fn write_head(
@@ -92,26 +95,29 @@ fn write_lines(
     )
 }
 
-fn write_gaps(out: &mut String, gaps: &[Gap]) -> Result<(), AllocError>
-    ensures { OnOk result (string_bytes out.new
-        ≡ string_bytes out.old ++ flat_map gap_line gaps.now) }
-{
-    for gap in gaps {
-        write_gap(out, gap)?;
-    }
-    Ok(())
-}
+/// Segments that are missing.
+struct Gaps;
 
-fn write_gap(out: &mut String, gap: &Gap) -> Result<(), AllocError>
-    ensures { OnOk result (string_bytes out.new ≡ string_bytes out.old ++ gap_line gap.now) }
-{
-    match *gap {
-        Gap::Between {
-            processor,
-            from,
-            to,
-        } => write_between(out, processor, from, to),
-        Gap::Absent { processor } => write_absent(out, processor),
+impl Form for Gaps {
+    type Row = Gap;
+
+    ghost line_of = { gap_line };
+
+    ghost stack_of = { λ row. None };
+
+    fn write_line(out: &mut String, gap: &Gap) -> Result<(), AllocError> {
+        match *gap {
+            Gap::Between {
+                processor,
+                from,
+                to,
+            } => write_between(out, processor, from, to),
+            Gap::Absent { processor } => write_absent(out, processor),
+        }
+    }
+
+    fn stack(_gap: &Gap) -> Option<&SharedStack> {
+        None
     }
 }
 
@@ -131,23 +137,25 @@ fn write_absent(out: &mut String, processor: u16) -> Result<(), AllocError>
     writeln!(out, "GAP processor={processor} from=0")
 }
 
-fn write_processes(out: &mut String, rows: &[ProcessRow]) -> Result<(), AllocError>
-    ensures { OnOk result (string_bytes out.new
-        ≡ string_bytes out.old ++ flat_map process_line rows.now) }
-{
-    for row in rows {
-        write_process(out, row)?;
-    }
-    Ok(())
-}
+/// Processes, each with its counts and its moments.
+struct Processes;
 
-fn write_process(out: &mut String, row: &ProcessRow) -> Result<(), AllocError>
-    ensures { OnOk result (string_bytes out.new
-        ≡ string_bytes out.old ++ process_line row.now) }
-{
-    write_handles(out, row)?;
-    write_events(out, row)?;
-    write_moments(out, row)
+impl Form for Processes {
+    type Row = ProcessRow;
+
+    ghost line_of = { process_line };
+
+    ghost stack_of = { λ row. None };
+
+    fn write_line(out: &mut String, row: &ProcessRow) -> Result<(), AllocError> {
+        write_handles(out, row)?;
+        write_events(out, row)?;
+        write_moments(out, row)
+    }
+
+    fn stack(_row: &ProcessRow) -> Option<&SharedStack> {
+        None
+    }
 }
 
 #[tactic(auto, unfolding(crate::specs::Summaries::handles_part))]
@@ -186,23 +194,25 @@ fn write_moments(out: &mut String, row: &ProcessRow) -> Result<(), AllocError>
     writeln!(out, " mark={mark} exit={exit}")
 }
 
-fn write_objects(out: &mut String, rows: &[ObjectRow]) -> Result<(), AllocError>
-    ensures { OnOk result (string_bytes out.new
-        ≡ string_bytes out.old ++ flat_map object_line rows.now) }
-{
-    for row in rows {
-        write_object_row(out, row)?;
-    }
-    Ok(())
-}
+/// Objects with an unbalanced tag.
+struct Objects;
 
-fn write_object_row(out: &mut String, row: &ObjectRow) -> Result<(), AllocError>
-    ensures { OnOk result (string_bytes out.new
-        ≡ string_bytes out.old ++ object_line row.now) }
-{
-    out.push_str("OBJECT")?;
-    write_object(out, row.object)?;
-    write_object_tags(out, row)
+impl Form for Objects {
+    type Row = ObjectRow;
+
+    ghost line_of = { object_line };
+
+    ghost stack_of = { λ row. None };
+
+    fn write_line(out: &mut String, row: &ObjectRow) -> Result<(), AllocError> {
+        out.push_str("OBJECT")?;
+        write_object(out, row.object)?;
+        write_object_tags(out, row)
+    }
+
+    fn stack(_row: &ObjectRow) -> Option<&SharedStack> {
+        None
+    }
 }
 
 #[tactic(auto, unfolding(crate::specs::Summaries::tags_part))]

@@ -1,9 +1,0 @@
--- The lines of the gaps so far were written.
-use Rattle.std.proofs.Common.{◌≡◌, ◌++◌, take, string_bytes}
-use Rattle.std.specs.List.{flat_map}
-use Rattle.htl_report.specs.Summaries.{gap_line}
-use Rattle.htl_report.proofs.summary.write_gaps.Given as goal
-
-abbrev pub invariant-loop-gap : goal.invariant-loop-gap
-invariant-loop-gap l =
-    string_bytes l.out ≡ string_bytes l.initial.out ++ flat_map gap_line (take l.gap-index l.gaps)

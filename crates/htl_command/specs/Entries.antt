@@ -1,16 +1,17 @@
 -- What `clap` is given of the table, and so what it finds in arguments and when it refuses them.
-use Rattle.std.specs.Prelude.{true, List, [], ◌∷◌, Option, Some, codes, map}
+use Rattle.std.specs.Prelude.{Bool, true, false, List, [], ◌∷◌, Option, Some, codes, map}
 use Rattle.clap.specs.Lexer.{usize_max}
 use Rattle.clap.specs.Simple.{new_shape}
 use Rattle.clap.specs.Words.{App, Kinds, Row, Rule, Text, fault_of, new_app, new_rule, subcommand_of, with_rule, with_subcommand}
 use Rattle.clap.specs.declared.builder.ArgAction.TheVariants.{SetTrue}
-use Rattle.htl_command.specs.Commands.{commands, flag_name, is_required, name_of, option_name, own_flags, own_options}
+use Rattle.htl_command.specs.Commands.{QuestionRow, commands, name_of, question_row}
+use Rattle.htl_command.specs.Options.{flag_name, is_required, option_name}
 use Rattle.htl_command.specs.declared.names.CommandFlag.{CommandFlag}
 use Rattle.htl_command.specs.declared.names.CommandFlag.TheVariants.{Complete, Fold, Hex, Json, Notes, Partial}
-use Rattle.htl_command.specs.declared.names.CommandName.{CommandName}
-use Rattle.htl_command.specs.declared.names.CommandName.TheVariants.{Question, Ask, Explain, Dump, Encode}
+use Rattle.htl_command.specs.declared.table.CommandName.{CommandName}
+use Rattle.htl_command.specs.declared.table.CommandName.TheVariants.{Question, Ask, Explain, Dump, Encode}
 use Rattle.htl_command.specs.declared.names.CommandOption.{CommandOption}
-use Rattle.htl_command.specs.declared.names.CommandOption.TheVariants.{Symbols, Workers, Until}
+use Rattle.htl_command.specs.declared.names.CommandOption.TheVariants.{Top, Symbols, Workers, Until}
 
 -- an option takes one value
 abbrev pub option_rule : CommandOption → Rule
@@ -59,9 +60,17 @@ dialogue_rules =
 abbrev pub code_rule : Rule
 code_rule = record (new_rule (codes "code")) { value_names = 1; required = true }
 
+abbrev pub top_rules : Bool → List Rule
+top_rules true = option_rule Top ∷ []
+top_rules false = []
+
+abbrev pub with_row : App → QuestionRow → App
+with_row a row =
+    with_rules (with_rules (with_rules (with_rules a (map option_rule row.options)) (top_rules row.has_top)) (map flag_rule row.flags))
+    common_rules
+
 abbrev pub rules_of : CommandName → App → App
-rules_of (Question question) a =
-    with_rules (with_rules (with_rules a (map option_rule (own_options question))) (map flag_rule (own_flags question))) common_rules
+rules_of (Question question) a = with_row a (question_row question)
 rules_of Explain a = with_rules a (code_rule ∷ flag_rule Notes ∷ [])
 rules_of Dump a = with_rules a dump_rules
 rules_of Encode a = with_rules a encode_rules

@@ -1,5 +1,6 @@
-pub mod Commands
 pub mod Values
+pub mod Options
+pub mod Commands
 pub mod Codes
 pub mod Printed
 pub mod Entries

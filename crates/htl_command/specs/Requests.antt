@@ -2,79 +2,28 @@
 use Rattle.std.specs.Prelude.{◌≡◌, ⊤, ℕ, ◌==◌, ◌||◌, Bool, true, false, List, [], ◌∷◌, Option, Some, None, codes, if◌then◌else◌}
 use Rattle.std.specs.Prelude.{is_some, length, map, not, option_and_then, option_map, string_bytes, unwrap_or}
 use Rattle.std.specs.Option.{option_map_or}
-use Rattle.std.specs.Str.{bytes_eq}
 use Rattle.clap.specs.Words.{Kinds, Row, Text, all_of, first_of}
-use Rattle.htl_command.specs.Commands.{command_named, flag_name, option_name}
+use Rattle.htl_command.specs.Commands.{command_named, question_row}
 use Rattle.htl_command.specs.Entries.{entries, refusals}
+use Rattle.htl_command.specs.Options.{both, defaulted, given, is_given, optional}
 use Rattle.htl_command.specs.Printed.{IsPrinted}
-use Rattle.htl_command.specs.Values.{count_in, handle_in, moment_in, object_in, points_in, process_in, since_in, tag_in, workers_in}
+use Rattle.htl_command.specs.Values.{count_in, moment_in, workers_in}
 use Rattle.htl_command.specs.declared.command.Run.{Run}
 use Rattle.htl_command.specs.declared.command.Command.{Command}
 use Rattle.htl_command.specs.declared.command.Command.TheVariants as wish
 use Rattle.htl_command.specs.declared.names.CommandFlag.{CommandFlag}
 use Rattle.htl_command.specs.declared.names.CommandFlag.TheVariants as flag
-use Rattle.htl_command.specs.declared.names.CommandName.{CommandName}
-use Rattle.htl_command.specs.declared.names.CommandName.TheVariants as command
-use Rattle.htl_command.specs.declared.names.QuestionName.{QuestionName}
-use Rattle.htl_command.specs.declared.names.QuestionName.TheVariants as name
-use Rattle.htl_command.specs.declared.names.CommandOption.{CommandOption}
-use Rattle.htl_command.specs.declared.names.CommandOption.TheVariants.{Process, Since, AtLeast, Object, Tag, TagOfAll, Handle}
-use Rattle.htl_command.specs.declared.names.CommandOption.TheVariants.{Points, Top, Symbols, Workers, Until}
+use Rattle.htl_command.specs.declared.table.CommandName.{CommandName}
+use Rattle.htl_command.specs.declared.table.CommandName.TheVariants as command
+use Rattle.htl_command.specs.declared.table.QuestionName.{QuestionName}
+use Rattle.htl_command.specs.declared.names.CommandOption.TheVariants.{TagOfAll, Top, Symbols, Workers, Until}
 use Rattle.htl_command.specs.declared.printed.PrintedFault.{PrintedFault}
 use Rattle.htl_command.specs.declared.question.Format.{Format}
 use Rattle.htl_command.specs.declared.question.Format.TheVariants.{Plain, Json, Folded}
 use Rattle.htl_command.specs.declared.question.InputForm.{InputForm}
 use Rattle.htl_command.specs.declared.question.Job.{Job}
-use Rattle.htl_question.specs.declared.question.Question.{Question}
 use Rattle.htl_command.specs.declared.question.Setting.{Setting}
-use Rattle.htl_question.specs.declared.question.Question.TheVariants.{Summary, Outstanding, Diff, Tags, Bad, Leaks, Sites}
-use Rattle.htl_question.specs.declared.question.Question.TheVariants.{Stacks, Balance, TagStacks, Trace, Growth}
-use Rattle.htl_event.specs.declared.since.Since.TheVariants.{Snapshot}
-
--- the text that was given for an option
-abbrev pub given : CommandOption → List Row → Option Text
-given option rows = first_of (option_name option) rows
-
--- an option's value, by the rule of its kind
-abbrev pub value : {X : Type 0} → (Text → Option X) → CommandOption → List Row → Option X
-value rule option rows = option_and_then rule (given option rows)
-
--- the same of an option that may be left out
-abbrev pub optional : {X : Type 0} → (Text → Option X) → CommandOption → List Row → Option (Option X)
-optional rule option rows = option_map_or (λ text. option_map (λ x. Some x) (rule text)) (given option rows) (Some None)
-
--- the same of an option that stands for a value where it is left out
-abbrev pub defaulted : {X : Type 0} → (Text → Option X) → CommandOption → X → List Row → Option X
-defaulted rule option default rows = option_map_or rule (given option rows) (Some default)
-
--- what is made of two values, where both are there
-abbrev pub both : {X Y Z : Type 0} → (X → Y → Z) → Option X → Option Y → Option Z
-both make x y = option_and_then (λ a. option_map (make a) y) x
-
--- `clap` gives a flag that was used the text `true`
-abbrev pub is_given : CommandFlag → List Row → Bool
-is_given flag rows = option_map_or (λ text. bytes_eq text (codes "true")) (first_of (flag_name flag) rows) false
-
--- a balance is of the tags of all objects, or of the stacks of one tag
-abbrev pub balance_of : Bool → Option (List ℕ) → Question
-balance_of all None = Balance all
-balance_of all (Some tag) = TagStacks tag
-
--- the question of each name
-unfoldable pub question_of : QuestionName → List Row → Option Question
-question_of name.Summary rows = Some Summary
-question_of name.Outstanding rows = option_map (λ p. Outstanding p) (value process_in Process rows)
-question_of name.Diff rows = both (λ p s. Diff p s) (value process_in Process rows) (defaulted since_in Since Snapshot rows)
-question_of name.Tags rows = option_map (λ o. Tags o) (value object_in Object rows)
-question_of name.Bad rows = option_map (λ p. Bad p) (value process_in Process rows)
-question_of name.Leaks rows =
-    option_and_then (λ p. both (λ s n. Leaks p s n) (optional since_in Since rows) (defaulted count_in AtLeast 1 rows))
-    (value process_in Process rows)
-question_of name.Sites rows = both (λ s n. Sites s n) (optional since_in Since rows) (defaulted count_in AtLeast 1 rows)
-question_of name.Stacks rows = both (λ o t. Stacks o t) (value object_in Object rows) (value tag_in Tag rows)
-question_of name.Balance rows = option_map (balance_of (is_given flag.All rows)) (optional tag_in TagOfAll rows)
-question_of name.Trace rows = both (λ p h. Trace p h) (value process_in Process rows) (value handle_in Handle rows)
-question_of name.Growth rows = both (λ p n. Growth p n) (value process_in Process rows) (defaulted points_in Points 20 rows)
+use Rattle.htl_question.specs.declared.question.Question.TheVariants.{Outstanding}
 
 abbrev pub workers : List Row → Option ℕ
 workers rows = defaulted workers_in Workers 1 rows
@@ -110,7 +59,7 @@ job_by_values name rows =
       top = t;
       exit_code = is_given flag.ExitCode rows;
       format = format;
-    }) (setting_of rows) (optional count_in Top rows)) (optional moment_in Until rows)) (format_of rows)) (question_of name rows)
+    }) (setting_of rows) (optional count_in Top rows)) (optional moment_in Until rows)) (format_of rows)) ((question_row name).asked rows)
 
 unfoldable pub job_of : QuestionName → List Row → Option Job
 job_of name rows = option_and_then (λ job. if is_some (beside_tag rows) then None else Some job) (job_by_values name rows)

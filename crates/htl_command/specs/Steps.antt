@@ -10,17 +10,18 @@ use Rattle.clap.specs.declared.error.ErrorKind.{ErrorKind}
 use Rattle.clap.specs.declared.error.ErrorKind.TheVariants.{OutOfMemory}
 use Rattle.clap.specs.declared.parser.ArgMatches.{ArgMatches}
 use Rattle.htl_command.specs.Codes.{all_codes, code_name}
+use Rattle.htl_command.specs.Commands.{question_row}
+use Rattle.htl_command.specs.Options.{defaulted, given as given_in, is_given, optional, value}
 use Rattle.htl_command.specs.Printed.{Follow, IsNameOf, form_of}
 use Rattle.htl_command.specs.Refusals.{HasReason, IsUsageText, is_mistake, is_wish}
-use Rattle.htl_command.specs.Requests.{beside_tag, defaulted, given as given_in, is_given, optional, value, workers}
+use Rattle.htl_command.specs.Requests.{beside_tag, workers}
 use Rattle.htl_command.specs.Values.{count_in, handle_in, moment_in, object_in, points_in, process_in, since_in, tag_in}
 use Rattle.htl_command.specs.declared.code.Code.{Code}
 use Rattle.htl_command.specs.declared.names.CommandFlag.TheVariants as flag
 use Rattle.htl_command.specs.declared.names.CommandOption.{CommandOption}
 use Rattle.htl_command.specs.declared.names.CommandOption.TheVariants.{Process, Since, AtLeast, Object, Tag, TagOfAll, Handle}
 use Rattle.htl_command.specs.declared.names.CommandOption.TheVariants.{Points, Top, Symbols, Workers, Until}
-use Rattle.htl_command.specs.declared.names.QuestionName.{QuestionName}
-use Rattle.htl_command.specs.declared.names.QuestionName.TheVariants as name
+use Rattle.htl_command.specs.declared.table.QuestionName.{QuestionName}
 use Rattle.htl_command.specs.declared.printed.PrintedFault.{PrintedFault}
 use Rattle.htl_command.specs.declared.no_job.NoJob.{NoJob}
 use Rattle.htl_command.specs.declared.no_job.NoJob.TheVariants.{Value, Formats, BesideTag}
@@ -75,20 +76,6 @@ breaks_rule rows Workers = is_none (workers rows)
 breaks_rule rows Until = is_none (optional moment_in Until rows)
 breaks_rule rows Symbols = false
 
--- the options whose values make a question, in the order in which they are read
-abbrev pub question_options : QuestionName → List CommandOption
-question_options name.Summary = []
-question_options name.Outstanding = Process ∷ []
-question_options name.Diff = Process ∷ Since ∷ []
-question_options name.Tags = Object ∷ []
-question_options name.Bad = Process ∷ []
-question_options name.Leaks = Process ∷ Since ∷ AtLeast ∷ []
-question_options name.Sites = Since ∷ AtLeast ∷ []
-question_options name.Stacks = Object ∷ Tag ∷ []
-question_options name.Balance = TagOfAll ∷ []
-question_options name.Trace = Process ∷ Handle ∷ []
-question_options name.Growth = Process ∷ Points ∷ []
-
 -- of these options this is the first whose value breaks its rule
 abbrev pub IsFirstBroken : List Row → List CommandOption → InvalidValue → Type 0
 IsFirstBroken rows options refused = Names refused.option rows refused × (find (breaks_rule rows) options ≡ Some refused.option)
@@ -100,7 +87,7 @@ IsTwoForms rows why = ⊥
 
 -- the options whose values make a job, in the order in which they are read
 abbrev pub job_options : QuestionName → List CommandOption
-job_options name = question_options name ++ Workers ∷ Until ∷ Top ∷ []
+job_options name = (question_row name).options ++ Workers ∷ Until ∷ Top ∷ []
 
 -- the entries are no job: a value is the first that breaks its rule, or none does and two forms of an answer are asked for, or what can't
 -- be beside a tag

@@ -1,20 +1,21 @@
 //! The commands, as `clap` is given them.
-ghost use Rattle.std.specs.Prelude.{◌≡◌, IfOk, false, map};
+ghost use Rattle.std.specs.Prelude.{◌≡◌, IfOk, false, is_some, map};
 ghost use Rattle.clap.specs.Words.{app_of, new_app, rule_of, with_subcommand};
 ghost use Rattle.clap.specs.declared.builder.Command.TheViews.{out-Command as fields_of};
 ghost use Rattle.htl_command.specs.Steps.{Describes};
-ghost use Rattle.htl_command.specs.Commands.{name_of, own_options};
+ghost use Rattle.htl_command.specs.Commands.{name_of};
 ghost use Rattle.htl_command.specs.Entries.{code_rule, common_rules, command_app, dialogue_rules};
 ghost use Rattle.htl_command.specs.Entries.{dump_rules, encode_rules, files_rule};
-ghost use Rattle.htl_command.specs.Entries.{flag_rule, hleak_app, option_rule, program_app};
+ghost use Rattle.htl_command.specs.Entries.{flag_rule, hleak_app, option_rule, program_app, top_rules};
 ghost use Rattle.htl_command.specs.Entries.{with_commands as with_commands_of, with_rules};
 ghost use Rattle.htl_command.specs.declared.names.CommandFlag.TheVariants as flags;
 
 use crate::help::{
     ABOUT, AFTER_HELP, CODE_HELP, DIALOGUE_ABOUT, DIALOGUE_AFTER_HELP, DIALOGUE_FILES_HELP,
-    DIALOGUE_USAGE, FILES_HELP, HEX_TEXT_HELP, SUMMARY_TOP_HELP, TEXTS_HELP, VERSION,
+    DIALOGUE_USAGE, FILES_HELP, HEX_TEXT_HELP, TEXTS_HELP, VERSION,
 };
-use crate::names::{COMMANDS, CommandFlag, CommandName, CommandOption, QuestionName};
+use crate::names::{CommandFlag, CommandOption};
+use crate::table::{COMMANDS, CommandName};
 use clap::{Arg, ArgAction, Command};
 use std::alloc::{AllocError, Global};
 
@@ -99,22 +100,20 @@ impl Builder {
     {
         let mut command = command;
         for own in options {
-            command = command.arg(self.option(*own, own.help()))?;
+            command = command.arg(self.option(*own, own.help(self.place)))?;
         }
         Ok(command)
     }
 
-    /// The options of a question that not every one has. A summary has rows of several kinds.
-    fn with_own_options<'a>(self, command: Command<'a>, question: QuestionName) -> Built<'a>
+    /// With `--top`, where there is help of it.
+    fn with_top<'a>(self, command: Command<'a>, help: Option<&'a str>) -> Built<'a>
         requires { (fields_of command).has_globals ≡ false }
         ensures { IfOk result
-            (Describes (with_rules (app_of command.entry) (map option_rule (own_options question)))) }
+            (Describes (with_rules (app_of command.entry) (top_rules (is_some help.entry)))) }
     {
-        match question {
-            QuestionName::Summary => {
-                command.arg(self.option(CommandOption::Top, SUMMARY_TOP_HELP))
-            }
-            _ => self.with_options(command, question.own_options()),
+        match help {
+            Some(help) => command.arg(self.option(CommandOption::Top, help)),
+            None => Ok(command),
         }
     }
 
@@ -214,8 +213,10 @@ impl Builder {
         let bare = self.bare_command(name);
         match name {
             CommandName::Question(question) => {
-                let command = self.with_own_options(bare, question)?;
-                let command = self.with_flags(command, question.own_flags())?;
+                let row = question.row();
+                let command = self.with_options(bare, row.options)?;
+                let command = self.with_top(command, row.top)?;
+                let command = self.with_flags(command, row.flags)?;
                 self.with_common_options(command)
             }
             CommandName::Explain => bare.arg(self.code())?.arg(self.notes()),

@@ -3,8 +3,8 @@
 ghost use Rattle.std.specs.Prelude.{◌≡◌, ◌==◌, IfOk, is_some, length, map, not, option_map};
 ghost use Rattle.std.specs.Prelude.{string_bytes};
 ghost use Rattle.clap.specs.Words.{all_of, first_of};
-ghost use Rattle.htl_command.specs.Requests.{file_names, given as given_in};
-ghost use Rattle.htl_command.specs.Requests.{is_given as is_given_in};
+ghost use Rattle.htl_command.specs.Options.{given as given_in, is_given as is_given_in};
+ghost use Rattle.htl_command.specs.Requests.{file_names};
 ghost use Rattle.htl_command.specs.Steps.{entries_of};
 ghost use Rattle.htl_command.specs.declared.names.CommandOption.TheVariants as option;
 

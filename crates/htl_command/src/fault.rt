@@ -6,8 +6,8 @@ ghost use Rattle.htl_command.specs.Steps.{Reports};
 
 use crate::builder::Place;
 use crate::help::CODE_EXPECTED;
-use crate::names::CommandName;
 use crate::no_job::NoJob;
+use crate::table::CommandName;
 use crate::tip::{Tip, around_tip};
 use clap::error::ErrorKind;
 use std::alloc::{AllocError, Global};

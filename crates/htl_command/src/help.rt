@@ -1,6 +1,8 @@
 //! What a person reads of the commands and their options: the texts of help.
 
-use crate::names::{CommandFlag, CommandName, CommandOption, QuestionName};
+use crate::builder::Place;
+use crate::names::{CommandFlag, CommandOption};
+use crate::table::CommandName;
 
 pub(crate) const VERSION: &str = "0.1.0";
 
@@ -65,7 +67,9 @@ With --fold no line asks for 'trace', 'growth' or '--until'.";
 
 pub(crate) const FILES_HELP: &str = "Trace segments; standard input where no file is given";
 
-pub(crate) const SUMMARY_TOP_HELP: &str = "At most N processes and N objects: 1 to 4294967295";
+pub(crate) const ROWS_HELP: &str = "At most N rows: decimal, 1 to 4294967295";
+
+pub(crate) const ROWS_OF_EACH_HELP: &str = "At most N processes and N objects: 1 to 4294967295";
 
 pub(crate) const HEX_TEXT_HELP: &str = "Write hexadecimal digits, not bytes";
 
@@ -82,7 +86,7 @@ impl CommandName {
     /// What the command is for, in one line.
     pub(crate) fn about<'a>(self) -> &'a str {
         match self {
-            CommandName::Question(question) => question.about(),
+            CommandName::Question(question) => question.row().about,
             CommandName::Explain => "What a fault means, and what to do",
             CommandName::Dump => "Segments as text, to read, compare and change",
             CommandName::Encode => "The bytes of segments that are given as text",
@@ -93,7 +97,7 @@ impl CommandName {
     /// A command line to begin with, after what else is to be known.
     pub(crate) fn example<'a>(self) -> &'a str {
         match self {
-            CommandName::Question(question) => question.example(),
+            CommandName::Question(question) => question.row().example,
             CommandName::Explain => "Example:\n  hleak explain S10",
             CommandName::Dump => "Example:\n  hleak dump cpu0.hls > cpu0.txt",
             CommandName::Encode => {
@@ -119,66 +123,6 @@ Example:
     }
 }
 
-impl QuestionName {
-    /// What the command answers, in one line.
-    pub(crate) fn about<'a>(self) -> &'a str {
-        match self {
-            QuestionName::Summary => "What leaks at all: processes, objects, and missing segments",
-            QuestionName::Outstanding =>
-                "Handles that are open, each with the stack that opened it",
-            QuestionName::Diff => "Handles opened since a snapshot and still open (!htrace -diff)",
-            QuestionName::Tags => "References and dereferences of an object, by tag (!obtrace)",
-            QuestionName::Bad => "References to invalid handles, by handle and stack (BAD REF)",
-            QuestionName::Leaks => "Stacks by how many of their handles are still open, most first",
-            QuestionName::Sites =>
-                "Stacks by how many of their handles are open, over all processes",
-            QuestionName::Stacks => "Stacks behind one tag of an object (!obtrace)",
-            QuestionName::Balance => "Tags that do not balance on some object, over all objects",
-            QuestionName::Trace =>
-                "Each open, close and bad reference of a handle (!htrace HANDLE)",
-            QuestionName::Growth => "How many handles are open as of each of many moments",
-        }
-    }
-
-    /// A command line to begin with, after what else is to be known.
-    pub(crate) fn example<'a>(self) -> &'a str {
-        match self {
-            QuestionName::Summary => {
-                "\
-With gaps=0 the last segments of a processor may still be missing. Answers are
-final up to complete_to, which --until complete asks for.
-
-Example:
-  hleak summary cpu0.hls cpu1.hls"
-            }
-            QuestionName::Outstanding =>
-                "Example:\n  hleak outstanding --process 4 --symbols names.csv cpu0.hls cpu1.hls",
-            QuestionName::Diff =>
-                "Example:\n  hleak diff --process 4 --since 1200 cpu0.hls cpu1.hls",
-            QuestionName::Tags =>
-                "Example:\n  hleak tags --object 0xffffa00000001000 cpu0.hls cpu1.hls",
-            QuestionName::Bad =>
-                "Example:\n  hleak bad --process 4 --symbols names.csv cpu0.hls cpu1.hls",
-            QuestionName::Leaks =>
-                "Example:\n  hleak leaks --process 4 --workers 4 cpu0.hls cpu1.hls",
-            QuestionName::Sites =>
-                "Example:\n  hleak sites --since snapshot --symbols names.csv cpu0.hls cpu1.hls",
-            QuestionName::Stacks =>
-                "Example:\n  hleak stacks --object 0xffffa00000001000 --tag Lky8 cpu0.hls cpu1.hls",
-            QuestionName::Balance => {
-                "\
-Examples:
-  hleak balance cpu0.hls cpu1.hls
-  hleak balance --tag Lky8 --symbols names.csv cpu0.hls cpu1.hls"
-            }
-            QuestionName::Trace =>
-                "Example:\n  hleak trace --process 4 --handle 0x44 cpu0.hls cpu1.hls",
-            QuestionName::Growth =>
-                "Example:\n  hleak growth --process 4 --points 50 cpu0.hls cpu1.hls",
-        }
-    }
-}
-
 impl CommandOption {
     /// What help calls the value.
     pub(crate) fn value_name<'a>(self) -> &'a str {
@@ -196,7 +140,8 @@ impl CommandOption {
         }
     }
 
-    pub(crate) fn help<'a>(self) -> &'a str {
+    /// What it is for. Of other options it names those that stand where it is typed.
+    pub(crate) fn help<'a>(self, place: Place) -> &'a str {
         match self {
             CommandOption::Process => "The process: decimal, at most 4294967295",
             CommandOption::Since => {
@@ -221,19 +166,27 @@ or without 0x"
 The tag: four bytes of text, as Lky8, or 0x and eight
 hexadecimal digits, as 0x4c6b7938"
             }
-            CommandOption::TagOfAll => {
-                "\
+            CommandOption::TagOfAll => match place {
+                Place::Shell => {
+                    "\
 The stacks that used this tag, instead of tags: four
 bytes of text, as Lky8, or 0x and eight hexadecimal
 digits, as 0x4c6b7938; not with --all or --exit-code"
-            }
+                }
+                Place::Dialogue => {
+                    "\
+The stacks that used this tag, instead of tags: four
+bytes of text, as Lky8, or 0x and eight hexadecimal
+digits, as 0x4c6b7938; not with --all"
+                }
+            },
             CommandOption::Handle => {
                 "\
 The handle: 1 to 16 hexadecimal digits, with or without
 0x, at most 0xffffffff; its low two bits are ignored"
             }
             CommandOption::Points => "At most N moments: decimal, 2 to 1000 [default: 20]",
-            CommandOption::Top => "At most N rows: decimal, 1 to 4294967295",
+            CommandOption::Top => ROWS_HELP,
             CommandOption::Symbols => "Names for addresses: CSV of start,end,module,name",
             CommandOption::Workers => "Use up to N threads: 1 to 8 [default: 1]",
             CommandOption::Until => {

@@ -4,14 +4,14 @@ ghost use Rattle.clap.specs.Words.{subcommand_rows_of};
 ghost use Rattle.htl_command.specs.Refusals.{IsUsageWith, RefusesQuestion};
 ghost use Rattle.htl_command.specs.Requests.{asked_by, asked_in, asked_met};
 ghost use Rattle.htl_command.specs.Steps.{entries_of};
-ghost use Rattle.htl_command.specs.declared.names.CommandName.TheVariants as command;
+ghost use Rattle.htl_command.specs.declared.table.CommandName.TheVariants as command;
 
 use crate::builder::Place;
 use crate::fault::{ParseFault, no_command, no_question, other_command, refused_entries};
 use crate::matching::matches;
-use crate::names::{CommandName, QuestionName};
 use crate::question::Job;
 use crate::reading::{is_of_run, job};
+use crate::table::{CommandName, QuestionName};
 use clap::ArgMatches;
 use std::alloc::Global;
 

@@ -2,7 +2,7 @@
 
 ghost use Rattle.std.specs.Prelude.{◌≡◌, IfErr, option_map};
 ghost use Rattle.std.specs.Result.{result_ok};
-ghost use Rattle.htl_command.specs.Requests.{defaulted, given as given_in, optional, value};
+ghost use Rattle.htl_command.specs.Options.{defaulted, given as given_in, optional, value};
 ghost use Rattle.htl_command.specs.Requests.{workers as workers_given};
 ghost use Rattle.htl_command.specs.Steps.{Names, entries_of};
 ghost use Rattle.htl_command.specs.Values.{count_in, handle_in, moment_in, object_in, points_in};
@@ -36,10 +36,7 @@ pub(crate) fn since<'a>(entries: &ArgMatches<'a>) -> Result<Option<Since>, Inval
     let option = CommandOption::Since;
     match given(entries, option) {
         None => Ok(None),
-        Some(given) => match values::since(given) {
-            Some(since) => Ok(Some(since)),
-            None => Err(InvalidValue { option, given }),
-        },
+        Some(given) => Ok(Some(values::since(given).ok_or(InvalidValue { option, given })?)),
     }
 }
 
@@ -90,10 +87,7 @@ pub(crate) fn tag_of_all<'a>(entries: &ArgMatches<'a>) -> Result<Option<[u8; 4]>
     let option = CommandOption::TagOfAll;
     match given(entries, option) {
         None => Ok(None),
-        Some(given) => match values::tag(given) {
-            Some(tag) => Ok(Some(tag)),
-            None => Err(InvalidValue { option, given }),
-        },
+        Some(given) => Ok(Some(values::tag(given).ok_or(InvalidValue { option, given })?)),
     }
 }
 
@@ -113,10 +107,7 @@ pub(crate) fn top<'a>(entries: &ArgMatches<'a>) -> Result<Option<u32>, InvalidVa
     let option = CommandOption::Top;
     match given(entries, option) {
         None => Ok(None),
-        Some(given) => match values::count(given) {
-            Some(top) => Ok(Some(top)),
-            None => Err(InvalidValue { option, given }),
-        },
+        Some(given) => Ok(Some(values::count(given).ok_or(InvalidValue { option, given })?)),
     }
 }
 
@@ -127,10 +118,7 @@ pub(crate) fn until<'a>(entries: &ArgMatches<'a>) -> Result<Option<Moment>, Inva
     let option = CommandOption::Until;
     match given(entries, option) {
         None => Ok(None),
-        Some(given) => match values::moment(given) {
-            Some(moment) => Ok(Some(moment)),
-            None => Err(InvalidValue { option, given }),
-        },
+        Some(given) => Ok(Some(values::moment(given).ok_or(InvalidValue { option, given })?)),
     }
 }
 

@@ -2,21 +2,23 @@
 
 ghost use Rattle.std.specs.Prelude.{◌≡◌, IfErr, IfOk, None, OnErr, find};
 ghost use Rattle.std.specs.Result.{result_ok};
-ghost use Rattle.htl_command.specs.Requests.{AsksNothing, IsAskedFor, balance_of, beside_tag};
+ghost use Rattle.htl_command.specs.Commands.{balance_of, question_row};
+ghost use Rattle.htl_command.specs.Requests.{AsksNothing, IsAskedFor, beside_tag};
 ghost use Rattle.htl_command.specs.Requests.{format_of, input_form, is_of_run, job_by_values, job_of};
-ghost use Rattle.htl_command.specs.Requests.{question_of, request_of, setting_of};
+ghost use Rattle.htl_command.specs.Requests.{request_of, setting_of};
 ghost use Rattle.htl_command.specs.Steps.{IsFirstBroken, IsNoJob, IsTwoForms, Names, entries_of};
-ghost use Rattle.htl_command.specs.Steps.{breaks_rule, job_options, question_options};
+ghost use Rattle.htl_command.specs.Steps.{breaks_rule, job_options};
 ghost use Rattle.htl_command.specs.declared.command.Command.TheVariants as wish;
-ghost use Rattle.htl_command.specs.declared.names.CommandName.TheVariants as command;
+ghost use Rattle.htl_command.specs.declared.table.CommandName.TheVariants as command;
 ghost use Rattle.htl_command.specs.declared.names.CommandOption.TheVariants as option;
 
 use crate::entries::{entry, has_files, has_option, is_given};
-use crate::names::{CommandFlag, CommandOption, QuestionName};
+use crate::names::{CommandFlag, CommandOption};
 use crate::no_job::{InvalidValue, NoJob};
 use crate::options;
 use crate::printed::PrintedFault;
 use crate::question::{Format, InputForm, Job, Setting};
+use crate::table::QuestionName;
 use clap::ArgMatches;
 use htl_question::{Question, Since};
 
@@ -103,12 +105,11 @@ pub(crate) fn printed_fault<'a>(entries: &ArgMatches<'a>) -> Result<PrintedFault
 }
 
 /// The question of the name, with the values of its own options.
-#[tactic(auto, unfolding(crate::specs::Requests::question_of))]
 fn question<'a>(name: QuestionName, entries: &ArgMatches<'a>) -> Result<Question, InvalidValue<'a>>
-    ensures ok { result_ok result ≡ question_of name (entries_of entries.now) }
-    ensures err { IfErr result (IsFirstBroken (entries_of entries.now) (question_options name)) }
+    ensures ok { result_ok result ≡ (question_row name).asked (entries_of entries.now) }
+    ensures err { IfErr result (IsFirstBroken (entries_of entries.now) (question_row name).options) }
     ensures none { IfOk result (λ _.
-        find (breaks_rule (entries_of entries.now)) (question_options name) ≡ None) }
+        find (breaks_rule (entries_of entries.now)) (question_row name).options ≡ None) }
 {
     Ok(match name {
         QuestionName::Summary => Question::Summary,

@@ -1,7 +1,7 @@
 //! What helps where `clap` refuses arguments, in the place of a tip of its own that would mislead.
 
 use crate::builder::Place;
-use crate::names::{COMMANDS, CommandName, QuestionName};
+use crate::table::{COMMANDS, CommandName, QuestionName};
 use std::fmt;
 
 /// What stands before a tip in a refusal.
@@ -101,7 +101,7 @@ impl fmt::Display for Tip<'_> {
             Tip::Short(name) => write!(
                 f,
                 "{TIP}a question is written in full: '{}'",
-                name.as_str()
+                name.row().name
             ),
             Tip::Line => write!(
                 f,
@@ -170,7 +170,7 @@ fn is_path(word: &str) -> bool {
 fn question_from(word: &str) -> Option<QuestionName> {
     for command in &COMMANDS {
         match *command {
-            CommandName::Question(name) if name.as_str().starts_with(word) => return Some(name),
+            CommandName::Question(name) if name.row().name.starts_with(word) => return Some(name),
             _ => {}
         }
     }

@@ -563,7 +563,7 @@ Usage: balance [OPTIONS]
 Options:
       --tag <TAG>  The stacks that used this tag, instead of tags: four
                    bytes of text, as Lky8, or 0x and eight hexadecimal
-                   digits, as 0x4c6b7938; not with --all or --exit-code
+                   digits, as 0x4c6b7938; not with --all
       --top <N>    At most N rows: decimal, 1 to 4294967295
       --all        Also tags that balance on each object
       --until <N>  Only events up to this sequence count: decimal, at most

@@ -5,8 +5,10 @@ use Rattle.std.specs.Option.{option_or}
 use Rattle.std.proofs.lemmas.List.Folds.{find-append}
 use Rattle.std.proofs.lemmas.Result.{err_from_is_err_and}
 use Rattle.clap.specs.Words.{Row}
-use Rattle.htl_command.specs.Requests.{optional, setting_of, workers}
-use Rattle.htl_command.specs.Steps.{IsFirstBroken, Names, breaks_rule, entries_of, question_options}
+use Rattle.htl_command.specs.Commands.{question_row}
+use Rattle.htl_command.specs.Options.{optional}
+use Rattle.htl_command.specs.Requests.{setting_of, workers}
+use Rattle.htl_command.specs.Steps.{IsFirstBroken, Names, breaks_rule, entries_of}
 use Rattle.htl_command.specs.Values.{count_in, moment_in}
 use Rattle.htl_command.specs.declared.names.CommandOption.{CommandOption}
 use Rattle.htl_command.specs.declared.names.CommandOption.TheVariants.{Top, Until, Workers}
@@ -58,13 +60,10 @@ top_broken rows n u is fits none = rw (← is, ← fits, ← none) refl
 some_workers : (rows : List Row) (s : Setting) → Some s ≡ setting_of rows → (n : ℕ) × (Some n ≡ workers rows)
 some_workers rows s is = some_before _ (workers rows) s is
 
-no_workers : (rows : List Row) → None ≡ setting_of rows → None ≡ workers rows
-no_workers rows is = none_before _ (workers rows) is
-
 pub returns-in_err-question-clause-err : goal.returns-in_err-question-clause-err
 returns-in_err-question-clause-err c =
     let p = err_from_is_err_and c.from_residual.result c.from_residual.ensures.1 in
-    rw (p.1, p.2) (own_first (entries_of c.args.entries.now) (question_options c.args.name) later
+    rw (p.1, p.2) (own_first (entries_of c.args.entries.now) (question_row c.args.name).options later
     c.in_err-question.field-0.0 c.in_err-question.ensures.err)
 
 pub returns-in_err-setting-clause-err : goal.returns-in_err-setting-clause-err
@@ -75,8 +74,8 @@ returns-in_err-setting-clause-err c =
     let names = c.in_err-setting.ensures.err in
     rw (p.1, p.2) (
       named rows Workers refused names,
-      then_later rows (question_options c.args.name) later c.in_ok-question.ensures.none
-          ∙ workers_broken rows (no_workers rows c.in_err-setting.ensures.ok) ∙ ap (λ o. Some o) (sym names.option),
+      then_later rows (question_row c.args.name).options later c.in_ok-question.ensures.none
+          ∙ workers_broken rows (none_before _ (workers rows) c.in_err-setting.ensures.ok) ∙ ap (λ o. Some o) (sym names.option),
     )
 
 pub returns-in_err-until-clause-err : goal.returns-in_err-until-clause-err
@@ -88,7 +87,7 @@ returns-in_err-until-clause-err c =
     let workers = some_workers rows c.in_ok-setting.field-0 c.in_ok-setting.ensures.ok in
     rw (p.1, p.2) (
       named rows Until refused names,
-      then_later rows (question_options c.args.name) later c.in_ok-question.ensures.none
+      then_later rows (question_row c.args.name).options later c.in_ok-question.ensures.none
           ∙ until_broken rows workers.0 workers.1 c.in_err-until.ensures.ok ∙ ap (λ o. Some o) (sym names.option),
     )
 
@@ -101,7 +100,7 @@ returns-in_err-top-clause-err c =
     let workers = some_workers rows c.in_ok-setting.field-0 c.in_ok-setting.ensures.ok in
     rw (p.1, p.2) (
       named rows Top refused names,
-      then_later rows (question_options c.args.name) later c.in_ok-question.ensures.none
+      then_later rows (question_row c.args.name).options later c.in_ok-question.ensures.none
           ∙ top_broken rows workers.0 c.in_ok-until.field-0 workers.1 c.in_ok-until.ensures.ok c.in_err-top.ensures.ok
           ∙ ap (λ o. Some o) (sym names.option),
     )

@@ -3,15 +3,18 @@ import collections
 import contextlib
 import fcntl
 import os
+import queue
 import re
 import stat
 import subprocess
 import sys
+import threading
 import time
 
 from hleaklib import Ended, workers
 
-PIPE_BYTES, MOST_PIPE_BYTES = 1 << 16, 1 << 20  # that a pipe holds, and that it may be made to hold
+MOST_PIPE_BYTES = 1 << 20  # that a pipe may be made to hold
+MOST_BLOCKS = 64  # of at most as many bytes, which are kept of answers that nobody has taken yet
 MOST_DIALOGUES = 2
 SECONDS_AT_REST = 5  # since a file was written to: a trace that goes on has an event each second
 MOST_AHEAD = 256  # questions that wait for their answers; their lines have to fit into a pipe
@@ -22,26 +25,33 @@ class Dialogue:
 
     def __init__(self, program, words, is_first):
         pipes = {"stdin": subprocess.PIPE, "stdout": subprocess.PIPE, "stderr": None if is_first else subprocess.PIPE}
-        self.hleak = subprocess.Popen([program, "ask", *words], bufsize=PIPE_BYTES, **pipes)
+        self.hleak = subprocess.Popen([program, "ask", *words], bufsize=0, **pipes)
         with contextlib.suppress(AttributeError, OSError):  # (before Python 3.10, and where the system has no room)
             fcntl.fcntl(self.hleak.stdout, fcntl.F_SETPIPE_SZ, MOST_PIPE_BYTES)
+        self.blocks, self.printed = queue.Queue(MOST_BLOCKS), self.all_lines()
+        threading.Thread(target=self.read, daemon=True).start()
 
-    def end(self):
-        with contextlib.suppress(BrokenPipeError):
-            self.hleak.stdin.close()
-        for pipe in filter(None, (self.hleak.stdout, self.hleak.stderr)):
-            pipe.close()  # (it would wait for the rest of an answer to be read)
-        self.hleak.wait()
+    def read(self):
+        """Keeps what the program prints, so that it goes on to the next question before its answer is taken."""
+        while block := self.hleak.stdout.read(MOST_PIPE_BYTES):
+            self.blocks.put(block)
+        self.blocks.put(b"")
+
+    def all_lines(self):
+        """The lines of all answers, without their ends."""
+        begun = b""
+        while block := self.blocks.get():
+            *lines, begun = (begun + block).split(b"\n")
+            yield from lines
 
     def ask(self, question):
         with contextlib.suppress(BrokenPipeError):
             self.hleak.stdin.write(f"{question} --json\n".encode())
-            self.hleak.stdin.flush()
 
     def lines(self):
         """The lines of the next answer in JSON, one by one, as bytes. All have to be taken before those of another one."""
-        for line in self.hleak.stdout:
-            if line == b"\n":  # ends the answer
+        for line in self.printed:
+            if not line:  # ends the answer
                 return
             yield line
         if self.hleak.stderr:  # what the first one says too, but for this
@@ -58,7 +68,10 @@ def is_at_rest(path):
 def number_of(files):
     """How many dialogues may read the files: several where a processor is there for each, and twice the memory that they take by what was
     measured."""
-    if not all(map(is_at_rest, files)):
+    try:
+        if not all(map(is_at_rest, files)):
+            return 1
+    except OSError:  # (the program will say what is wrong with the file)
         return 1
     with open("/proc/meminfo", encoding="ascii") as file:
         there = 1024 * int(re.search(r"MemAvailable: *(\d+)", file.read())[1])
@@ -66,17 +79,12 @@ def number_of(files):
 
 
 class Dialogues:
-    """Dialogues over the same files, which share the questions. First there is one."""
+    """Dialogues over the same files, which share the questions."""
 
     def __init__(self, program, options, files):
-        self.command, self.files = (program, [workers(), *options, "--", *files]), files
-        self.dialogues = [Dialogue(*self.command, is_first=True)]
+        words = [workers(), *options, "--", *files]
+        self.dialogues = [Dialogue(program, words, is_first=at == 0) for at in range(number_of(files))]
         self.questions, self.waiting = collections.deque(), collections.deque()  # (those that are asked: their dialogues)
-
-    def add(self):
-        """Begins others, once the first one has answered: then nothing is wrong with the files, and the program is built."""
-        more = number_of(self.files) - len(self.dialogues)
-        self.dialogues += [Dialogue(*self.command, is_first=False) for _ in range(more)]
 
     def __enter__(self):
         return self
@@ -87,7 +95,9 @@ class Dialogues:
         for dialogue in self.dialogues:
             if fault:
                 dialogue.hleak.kill()  # (for the same reason)
-            dialogue.end()
+            dialogue.hleak.stdin.close()
+        for dialogue in self.dialogues:
+            dialogue.hleak.wait()
 
     def ask(self, questions):
         """Asks questions ahead, so that answers are made while those before them are read and told of."""

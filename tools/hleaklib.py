@@ -1,5 +1,4 @@
 """What the tools beside this file share: names of frames, of opens and of objects, texts and their faults, and how a tool ends."""
-import csv
 import os
 import re
 import sys
@@ -55,6 +54,8 @@ def key_of(kind, text):
 
 def names_of(path):
     """What opens are of by their sequences, or objects by their addresses: a table of names, as --names of other tools writes it."""
+    import csv  # (few runs have a table, and it takes as long to load as much else)
+
     rows, names = csv.reader((words + "\n" for _, words in lines_of(path)), strict=True), {}
     try:
         kind, *others = next(rows, None) or [""]

@@ -5,16 +5,21 @@ from .pages import element, joined
 from .rows import Lines
 from .telling import System
 
+MOST_FINDINGS = 3  # of stacks that leave handles open
+
 
 class Material:
-    """The stacks that leave handles open, how many handles they had at moments, and of the first processes curves and handles. Sections
-    add what they find to the findings."""
+    """The stacks that leave handles open, those with most handles first; how many handles the first ones had at moments, and of the first
+    processes curves and handles. Sections add what they find to the findings."""
 
     def __init__(self, trace, given, files):
         self.trace, self.given, self.files = trace, given, files
         self.system = System(given.system)
         self.sites = trace.sites()
-        self.leaking = self.sites.greatest(files.known)
+        most = max(given.top, MOST_FINDINGS)
+        self.leaking = self.sites.greatest(most, files.known)
+        trace.add_processes(self.leaking[:most])
+        trace.questions.count(site.names for site in self.leaking[:most])
         self.lines = Lines([site.names for site in self.leaking], self.system)
         self.whole = sum(site.count for site in self.leaking)
         self.handles = {row["process"]: trace.handles(row) for row in trace.shown()}
@@ -35,12 +40,12 @@ class Material:
         return site.count - self.middle()[1][site.names] if self.moments else 0
 
     def handles_of(self, site):
-        """The open handles of a site that were looked at one by one."""
-        return [row for found in self.handles.values() for row in found.get(site.names, ())]
+        """The open handles of a site that were looked at one by one, each by its JSON."""
+        return [row for found in self.handles.values() for row in found.rows.get(site.names, ())]
 
     def known(self):
         """The sites that the list of known ones has."""
-        return [site for site in self.sites.greatest() if site.names in self.files.known]
+        return [site for names, site in self.sites.sites.items() if names in self.files.known] if self.files.known else []
 
     def before(self):
         """How many handles each stack had in the older answer, without known ones."""

@@ -30,13 +30,13 @@ def attribute_of(name):
 
 
 def joined(*parts):
-    return Html("".join([part if type(part) is Html else html_of(part) for part in parts]))
+    return Html("".join([part if type(part) is Html else escaped(str(part)) for part in parts]))
 
 
 def element(name, *parts, **attributes):
     """An element with these parts. An attribute is named as Python allows it: `class_`, `aria_label`."""
     words = "".join([f' {attribute_of(key)}="{html_of(value)}"' for key, value in attributes.items()]) if attributes else ""
-    inside = "".join([part if type(part) is Html else html_of(part) for part in parts])
+    inside = "".join([part if type(part) is Html else escaped(str(part)) for part in parts])
     return Html(f"<{name}{words}>{inside}</{name}>")
 
 

@@ -45,9 +45,9 @@ def head_of(material, row, most):
 
 def stacks_of(material, row, room):
     """The stacks that opened what is open."""
-    sites = material.trace.sites_of(row).first_greatest(material.given.top, material.files.known)
+    sites = material.trace.sites_of(row).greatest(material.given.top, material.files.known)
     whole, lines = sum(site.count for site in sites), Lines([site.names for site in sites], material.system)
-    handles, names = material.handles[row["process"]], material.files.names
+    handles, names = material.handles[row["process"]].rows, material.files.names
 
     def stack(site):
         own, numbers = handles.get(site.names, []), (f"{site.count:,}", share_of(site.count, whole))
@@ -63,7 +63,9 @@ def bad_of(material, row, room, bad):
     """The stacks that used handles that weren't open. The first is added to a list."""
     if not row["bad"]:
         return ""
-    sites = material.trace.bad(row).first_greatest(material.given.top)
+    found, most = material.trace.bad(row), material.given.top
+    sites = found.greatest(most)
+    found.tell_keys(sites[:most])
     lines = Lines([site.names for site in sites], material.system)
     bad.append((sites[0].count, row["process"], lines.call(sites[0].names)))
 
@@ -73,5 +75,5 @@ def bad_of(material, row, room, bad):
         numbers = f"{site.count:,}", counted(len(site.keys), "handle")
         return stack_of(numbers, lines.of(site.names), calls_of_site(site), listed("Handles", items, len(site.keys)))
 
-    rows = shown(lines, map(stack, sites), len(sites), room, material.given.top)
+    rows = shown(lines, map(stack, sites), len(sites), room, most)
     return joined(element("h4", "Uses of handles that weren't open"), rows)

@@ -3,7 +3,7 @@ import collections
 import functools
 
 from .pages import Html, counted, element, html_of, joined, left_out, note
-from .sites import call_of, frames_of
+from .sites import call_of, fields_of, frames_of
 from .telling import Apart
 
 MOST_LETTERS = 200  # of a call in a line; within the stack it is whole
@@ -76,8 +76,9 @@ def calls_of_site(site):
 
 
 def counts_of_names(rows, names):
-    """What open handles are of, that of which there are most first, and how many each is."""
-    return collections.Counter(names[row["sequence"]] for row in rows if row["sequence"] in names).most_common()
+    """What open handles are of, that of which there are most first, and how many each is. The handles are rows in JSON."""
+    sequences = [row["sequence"] for row in fields_of(rows)] if names else []
+    return collections.Counter(names[sequence] for sequence in sequences if sequence in names).most_common()
 
 
 def names_of_handles(rows, names):
@@ -91,7 +92,7 @@ def names_of_handles(rows, names):
 def handles_of(rows, names, count):
     """Open handles one by one, with the sequences and threads of their opens, and what they are of."""
     items = []
-    for row in rows[:MOST_HANDLES]:
+    for row in fields_of(rows[:MOST_HANDLES]):
         name = (" ", element("code", names[row["sequence"]])) if row["sequence"] in names else ()
         items.append(element("li", element("b", row["handle"]), f" sequence {row['sequence']:,}, thread {row['thread']}", *name))
     return listed("Handles", items, count)

@@ -10,11 +10,17 @@ MOST_STACKS, MOST_FRAMES = 20_000, 500_000  # that are kept to be found again
 # is. Within a string the quotes would be escaped.
 STACK, FIRST, NEXT, OFFSET = b',"stack":', b'[{"address":"', b'},{"address":"', b',"offset":'
 NO_NAME = b'"name":""'
+NEXT_ADDRESS = '"},{"address":"'  # behind a frame without a name
 
 
 def frames_of(text):
     """The frames of a stack by its JSON: of each the JSON behind its first quotes."""
     return text[len(FIRST) : -2].split(NEXT) if text != b"[]" else []
+
+
+def addresses_of(text):
+    """The addresses of a stack by its JSON, where no frame has a name."""
+    return text[len(FIRST) : -3].decode().split(NEXT_ADDRESS) if text != b"[]" else []
 
 
 def call_of(text):
@@ -53,6 +59,8 @@ class Names(dict):
         self.called = {}
 
     def __missing__(self, text):
+        if len(self) >= MOST_FRAMES:
+            self.clear()
         called = text[text.index(b'"') : text.rfind(OFFSET)]
         name = self.called.get(called)
         if name is None:
@@ -64,37 +72,37 @@ class Names(dict):
         return name
 
 
+def fields_of(rows):
+    """The fields of rows without stacks, by their JSON."""
+    return json.loads(b"[" + b",".join(rows) + b"]")
+
+
 class Rows:
-    """Reads rows of answers in JSON. A stack that comes again, as most do, is not read again."""
+    """Reads stacks of rows in JSON. One that comes again, as most do, is not read again."""
 
     def __init__(self):
         self.stacks, self.names = {}, Names()
-
-    def read(self, lines):
-        """The fields of rows."""
-        heads, stacks = [], []
-        for line in lines:
-            head, mark, text = line.partition(STACK)
-            heads.append(head + b"}" if mark else head)
-            stacks.append(self.stack(text) if mark else None)
-        rows = json.loads(b"[" + b",".join(heads) + b"]")
-        for row, stack in zip(rows, stacks):
-            if stack:
-                row["stack"] = stack
-        return rows
 
     def stack(self, text):
         """The stack with this JSON, behind which the rest of its line stands."""
         return self.stacks.get(text) or self.added(text)
 
+    def innermost(self, text):
+        """The name of the innermost call of such a stack, which is read alone, or None where the stack has fewer than two."""
+        end = text.find(NEXT)
+        return None if end < 0 else self.names[text[len(FIRST) : end]]
+
     def added(self, text):
         if len(self.stacks) >= MOST_STACKS:
             self.stacks.clear()
-        if len(self.names) >= MOST_FRAMES:
-            self.names.clear()
         own = text.rstrip()[:-1]
-        stack = self.stacks[text] = Stack(own, tuple(map(self.names.__getitem__, frames_of(own))))
+        stack = self.stacks[text] = Stack(own, self.names_of(own))
         return stack
+
+    def names_of(self, text):
+        if OFFSET not in text:  # (no call has a name)
+            return tuple(map(sys.intern, addresses_of(text)))
+        return tuple(map(self.names.__getitem__, frames_of(text)))
 
 
 class Site:
@@ -125,43 +133,48 @@ class Sites:
     """The sites of a list, by their names."""
 
     def __init__(self):
-        self.sites, self.site_of = {}, {}
+        self.sites, self.rows = {}, []
 
-    def site(self, names):
-        return self.sites.get(names) or self.sites.setdefault(names, Site(names))
-
-    def add(self, stack, key, count):
-        site = self.site_of.get(stack)
+    def add(self, stack, count):
+        """Adds a stack. Gives its site."""
+        site = self.sites.get(stack.names)
         if site is None:
-            site = self.site_of[stack] = self.site(stack.names)
+            site = self.sites[stack.names] = Site(stack.names)
         site.count += count
         site.stacks[stack] = site.stacks.get(stack, 0) + count
-        site.keys[key] = site.keys.get(key, 0) + count
+        return site
 
-    def add_stack(self, stack, count):
-        """Adds a stack that is told of no key."""
-        site = self.site(stack.names)
-        site.count += count
-        site.stacks[stack] = site.stacks.get(stack, 0) + count
+    def add_rows(self, rows):
+        """Adds rows, of each its stack, its key and its count. The keys are told of none of the sites yet."""
+        counts = {}
+        for stack, _, count in rows:
+            counts[stack] = counts.get(stack, 0) + count
+        for stack, count in counts.items():
+            self.add(stack, count)
+        self.rows = rows
 
-    def add_keys(self, others):
-        """Adds of which keys another list tells how much these sites come to."""
-        for other in others.sites.values():
-            keys = self.site(other.names).keys
-            for key, count in other.keys.items():
+    def tell_keys(self, sites):
+        """Adds to some sites how much of each of them is of which key."""
+        keys_of = {stack: site.keys for site in sites for stack in site.stacks}
+        for stack, key, count in self.rows:
+            keys = keys_of.get(stack)
+            if keys is not None:
                 keys[key] = keys.get(key, 0) + count
 
-    def greatest(self, but=frozenset()):
-        """All but those of some names, the greatest counts first, and then by their names."""
-        return sorted((site for site in self.sites.values() if site.names not in but), key=order_of)
+    def count(self):
+        return sum([site.count for site in self.sites.values()])
 
-    def first_greatest(self, most, but=frozenset()):
-        """The same, where only the first ones are in this order."""
-        sites = [site for site in self.sites.values() if site.names not in but]
-        first = heapq.nsmallest(most, sites, key=order_of)
-        before = {site.names for site in first}
-        return first + [site for site in sites if site.names not in before]
+    def greatest(self, most, but=frozenset()):
+        """All but those of some names: first the ones with the greatest counts, at most so many, and then by their names."""
+        return first_of([site for site in self.sites.values() if not but or site.names not in but], most, order_of)
 
 
 def order_of(site):
     return -site.count, site.names
+
+
+def first_of(sites, most, order):
+    """The same sites, of which the first ones, at most so many, are in an order, and the others behind them in none."""
+    first = heapq.nsmallest(most, sites, key=order)
+    before = set(map(id, first))
+    return first + [site for site in sites if id(site) not in before]

@@ -1,14 +1,15 @@
 """What leaks at all: a sentence, what was found, the numbers of the summary, and which moments are certain."""
+from .material import MOST_FINDINGS
 from .pages import counted, element, facts, joined, left_out, share_of
 from .rows import counts_of_names, short
 
-MOST_GAPS, MOST_FINDINGS = 100, 3
+MOST_GAPS = 100
 
 
 def lead_of(material):
     """What leaks, in a sentence."""
     trace = material.trace
-    handles = counted(sum(site.count for site in material.sites.greatest()), "handle is", "handles are")
+    handles = counted(material.sites.count(), "handle is", "handles are")
     used = f"handles that weren't open were used {counted(sum(row['bad'] for row in trace.processes), 'time')}"
     unbalanced = counted(trace.head["unbalanced"], "object has", "objects have")
     if material.given.process:

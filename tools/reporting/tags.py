@@ -1,10 +1,11 @@
 """The tags that don't balance on some object, over all objects: how often each was used, and the stacks that used it."""
 from .pages import Room, counted, element, facts, joined, left_out, opened
+from .questions import SIDES
 from .rows import Lines, calls_of_site, shown, stack_of
+from .sites import first_of
 from .trace import is_unbalanced
 
 BYTES, MOST_FINDINGS = 200_000, 3
-SIDES = ("references", "dereferences")
 
 
 def tags_of(material):
@@ -36,14 +37,14 @@ def net_of(counts):
     return counts["references"] - counts["dereferences"]
 
 
-def ordered(uses):
-    """The stacks that used a tag, those first whose references and dereferences differ most."""
-    return sorted(uses.sites.greatest(), key=lambda site: -abs(net_of(site.keys)))
+def order_of(site):
+    """The place of a stack: those come first whose references and dereferences differ most."""
+    return -abs(net_of(site.keys)), -site.count, site.names
 
 
 def stacks_of(material, uses, tag, room):
     """The stacks that used a tag. Over all objects each says on how many of them."""
-    sites = ordered(uses)
+    sites = first_of(list(uses.sites.sites.values()), material.given.top, order_of)
     lines = Lines([site.names for site in sites], material.system)
 
     def stack(site):
@@ -99,8 +100,6 @@ def finding_of(material, tag):
 
 def told_of_stack(material, tag):
     """The only stack whose references and dereferences differ by as much as the tag's, where there is one."""
-    sites = ordered(material.trace.uses_of_all(tag))
-    same = [site for site in sites if net_of(site.keys) == net_of(tag)]
-    if len(same) != 1:
-        return []
-    return [", as many as come from ", Lines([site.names for site in sites], material.system).call_within(same[0].names)]
+    sites = material.trace.uses_of_all(tag).sites.sites
+    same = [names for names, site in sites.items() if net_of(site.keys) == net_of(tag)]
+    return [", as many as come from ", Lines(sites, material.system).call_within(same[0])] if len(same) == 1 else []

@@ -34,6 +34,8 @@ class System:
 
     def own(self, names):
         """The calls of a stack that are not of these, or all of them where there are no others."""
+        if "!" not in "".join(names):
+            return names
         return tuple(itertools.filterfalse(self.has, names)) or names
 
 
@@ -43,19 +45,38 @@ class Apart:
     it. A page shows few stacks of a long list, so lines are made where they are shown."""
 
     def __init__(self, stacks, system):
-        self.shared = shared_by(stacks)
-        shared = set(self.shared)
-        self.paths = {names: path_of(system.own(names), shared) for names in stacks}
-        self.alike = collections.defaultdict(list)
-        for names, path in self.paths.items():
-            self.alike[path].append(names)
-        self.ordered = sorted(self.alike)  # so that the paths that begin most alike are neighbours
+        self.system, self.shared = system, shared_by(stacks)
+        self.all_have = set(self.shared)
+        self.begun, self.groups = collections.defaultdict(list), {}
+        path = self.path if self.shared else system.own
+        for names in stacks:
+            self.begun[first_of(path(names))].append(names)
+        self.line = functools.lru_cache(None)(self.line)
+
+    def path(self, names):
+        """The calls that a line shows: neither the system's nor those that all stacks have, but where there are no others."""
+        own = self.system.own(names)
+        return tuple(itertools.filterfalse(self.all_have.__contains__, own)) or own
+
+    def group(self, first):
+        """The stacks whose paths begin with a call, by their paths, and these in an order in which those are neighbours that begin most
+        alike."""
+        if first not in self.groups:
+            alike = collections.defaultdict(list)
+            for names in self.begun[first]:
+                alike[self.path(names)].append(names)
+            self.groups[first] = alike, sorted(alike)
+        return self.groups[first]
 
     def line(self, names):
-        path = self.paths[names]
-        group = self.alike[path]
-        at = depth_in(sorted(group), names) if len(group) > 1 else 0
-        return line_of(path, max(depth_in(self.ordered, path) - 1, 0), names[at - 1 : at])
+        path = self.path(names)
+        alike, ordered = self.group(first_of(path))
+        at = depth_in(sorted(alike[path]), names) if len(alike[path]) > 1 else 0
+        return line_of(path, max(depth_in(ordered, path) - 1, 0), names[at - 1 : at])
+
+
+def first_of(path):
+    return path[0] if path else None
 
 
 def depth_in(ordered, path):
@@ -67,12 +88,10 @@ def depth_in(ordered, path):
 
 def common_of(path, other):
     """How many names two paths have in common, from their first one on."""
-    return next((at for at, (name, its) in enumerate(zip(path, other)) if name != its), min(len(path), len(other)))
-
-
-def path_of(own, shared):
-    """The calls that a line shows: neither the system's nor those that all stacks have, but where there are no others."""
-    return tuple(itertools.filterfalse(shared.__contains__, own)) or own if shared else own
+    for at, (name, its) in enumerate(zip(path, other)):
+        if name != its:
+            return at
+    return min(len(path), len(other))
 
 
 def line_of(path, at, other):

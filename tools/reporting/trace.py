@@ -3,7 +3,7 @@ import collections
 
 from hleaklib import Fault
 
-from .questions import MOST_HANDLES, Questions
+from .questions import MOST_HANDLES, NO_HANDLES, Questions
 from .sites import Sites
 
 MOST_ROWS = 1000  # of a summary, where no more are needed
@@ -22,8 +22,8 @@ def is_before(since, moment):
 
 
 class Trace:
-    """A trace as of the moment that was given, or of its end. What sections tell is asked for before any is made, in the order in which they
-    tell it, so that the program has always something to answer."""
+    """A trace as of the moment that was given, or of its end. What sections tell is asked for before any is made, so that the program has
+    always something to answer; and first what takes long to read, so that this is done while it answers the rest."""
 
     def __init__(self, dialogues, given):
         self.dialogues, self.questions, self.answers, self.own = dialogues, Questions(given), {}, {}
@@ -31,7 +31,6 @@ class Trace:
         self.since, self.top, self.is_over_all = given.since, given.top, not given.process
         self.head, rows = self.summary(max(MOST_ROWS, given.top))
         self.until = self.questions.until = self.head.get("until")
-        dialogues.add()
         before = self.head["gaps"] + self.head["processes"]
         self.gaps, every = rows[: self.head["gaps"]], rows[self.head["gaps"] : before]
         self.processes = [row for row in every if given.process is None or row["process"] in given.process]
@@ -42,18 +41,20 @@ class Trace:
             if all(row["process"] != number for row in every):
                 raise Fault(f"process {number}", "it has no open, close or bad reference here, or none up to --until")
         of_objects = [] if given.process else [self.questions.balance(given.top)]
-        self.ask([*of_objects, *map(self.questions.growth, self.shown()), *(self.questions.tags(row["object"]) for row in self.objects)])
-        self.ask([*self.questions_of_handles()])
+        self.ask([*of_objects, *map(self.questions.growth, self.shown()[:1]), *(self.questions.tags(row["object"]) for row in self.objects)])
+        self.ask(map(self.questions.bad, self.used_badly()))
+        self.ask([*map(self.questions.growth, self.shown()[1:]), *self.questions_of_handles()])
         head, self.balance = self.told(of_objects[0]) if of_objects else ({"count": 0}, [])
         self.unbalanced = head["count"]  # tags, of which these are the first
         points = self.growth(self.found[0]) if self.found else [(0, 0)]
         self.first, self.last = points[0][0], points[-1][0]
-        self.ask([*self.questions_of_moments(), *map(self.questions.bad, self.used_badly())])
+        self.ask(self.questions_of_moments())
         self.tags_shown = self.examples()
-        self.ask([*self.questions_of_objects()])
+        self.ask(self.questions_of_objects())
 
     def ask(self, questions):
         """Asks questions, whose answers are read once one of them is told."""
+        questions = list(questions)
         self.asked_ahead.extend(questions)
         self.dialogues.ask(question.text for question in questions)
 
@@ -84,19 +85,19 @@ class Trace:
         yield from (self.questions.handles(process) for process in self.shown() if process["outstanding"])
         for process in self.asked():
             if not self.is_told_by_handles(process) and self.is_after(process, self.until):
-                yield self.questions.leaks(process, self.until)
+                yield self.questions.leaks(process)
 
     def questions_of_moments(self):
         if self.is_over_all:
-            yield self.questions.sites(self.until)
+            yield self.questions.sites()
         for moment in self.moments():
             yield from self.questions_at(moment)
 
     def questions_at(self, moment):
         """The questions that tell how many handles stacks had as of a moment."""
         if self.is_by_sites():
-            return [self.questions.sites(moment)] if is_before(self.since, moment) else []
-        return [self.questions.leaks(process, moment) for process in self.asked() if self.is_after(process, moment)]
+            return [self.questions.sites_at(moment)] if is_before(self.since, moment) else []
+        return [self.questions.leaks_at(process, moment) for process in self.asked() if self.is_after(process, moment)]
 
     def questions_of_objects(self):
         yield from map(self.questions.uses_of_all, self.balance)
@@ -126,9 +127,9 @@ class Trace:
         """Whether a moment comes after the one from which on handles of a process count."""
         return is_before(self.questions.since_of(process), moment)
 
-    def leaks(self, process, moment):
-        """The stacks of a process with open handles as of a moment, and how many handles each has."""
-        return self.told(self.questions.leaks(process, moment)) if self.is_after(process, moment) else []
+    def leaks(self, process):
+        """The stacks of a process with open handles, and how many handles each has."""
+        return self.told(self.questions.leaks(process)) if self.is_after(process, self.until) else []
 
     def sites_of(self, process):
         """The stacks of a process with open handles."""
@@ -136,25 +137,31 @@ class Trace:
         if number not in self.own:
             self.own[number] = sites = Sites()
             if self.is_told_by_handles(process):
-                leaks = [(row["stack"], 1) for rows in self.handles(process).values() for row in rows]
+                leaks = self.handles(process).stacks.items()
             else:
-                leaks = self.leaks(process, self.until) if process["outstanding"] else []
+                leaks = self.leaks(process) if process["outstanding"] else []
             for stack, count in leaks:
-                sites.add(stack, number, count)
+                sites.add(stack, count)
         return self.own[number]
 
     def sites(self):
-        """Every stack that leaves handles open in the processes that the page is about, and how many of them those have that were asked."""
+        """Every stack that leaves handles open in the processes that the page is about."""
         sites, each = Sites(), [self.sites_of(process) for process in self.asked()]
         if self.is_over_all:
-            stacks = self.told(self.questions.sites(self.until))
+            stacks = self.told(self.questions.sites())
         else:
             stacks = [it for its in each for site in its.sites.values() for it in site.stacks.items()]
         for stack, count in stacks:
-            sites.add_stack(stack, count)
-        for its in each:
-            sites.add_keys(its)
+            sites.add(stack, count)
         return sites
+
+    def add_processes(self, sites):
+        """Adds to sites how many of their handles those processes have that were asked."""
+        for process in self.asked():
+            own = self.sites_of(process).sites
+            for site in sites:
+                if site.names in own:
+                    site.keys[process["process"]] = own[site.names].count
 
     def is_by_sites(self):
         """Whether one question tells how many handles stacks had as of a moment: not of some processes, and not since snapshots of the
@@ -169,18 +176,14 @@ class Trace:
         return sorted(moments - {self.last})
 
     def counts_at(self, moment):
-        """How many handles the stacks with each names had as of a moment."""
-        counts = collections.Counter()
-        for question in self.questions_at(moment):
-            for stack, handles in self.told(question):
-                counts[stack.names] = counts.get(stack.names, 0) + handles
-        return counts
+        """How many handles the stacks that are counted had as of a moment, by the names of their calls."""
+        return sum(map(self.told, self.questions_at(moment)), collections.Counter())
 
     def growth(self, process):
         return self.told(self.questions.growth(process))
 
     def handles(self, process):
-        return self.told(self.questions.handles(process)) if process["outstanding"] else {}
+        return self.told(self.questions.handles(process)) if process["outstanding"] else NO_HANDLES
 
     def bad(self, process):
         return self.told(self.questions.bad(process))

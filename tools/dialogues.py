@@ -14,8 +14,8 @@ import time
 from hleaklib import Ended, workers
 
 MOST_PIPE_BYTES = 1 << 20  # that a pipe may be made to hold
-MOST_BLOCKS = 64  # of at most as many bytes, which are kept of answers that nobody has taken yet
-MOST_DIALOGUES = 2
+MOST_BLOCKS = 32  # of at most as many bytes, which are kept of answers that nobody has taken yet
+MOST_DIALOGUES = 3
 SECONDS_AT_REST = 5  # since a file was written to: a trace that goes on has an event each second
 MOST_AHEAD = 256  # questions that wait for their answers; their lines have to fit into a pipe
 

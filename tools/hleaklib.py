@@ -1,4 +1,6 @@
-"""What the tools beside this file share: names of frames, of opens and of objects, texts and their faults, and how a tool ends."""
+"""What the tools beside this file share: names of frames, of opens and of objects, texts and their faults, arguments, what is
+written where, and how a tool ends."""
+import argparse
 import os
 import re
 import sys
@@ -71,6 +73,24 @@ def names_of(path):
     except csv.Error as error:
         raise Fault(f"{path}, line {rows.line_num}", f"not a row of a table: {error}") from None
     return names
+
+
+def write(texts, path=None):
+    """Writes texts one after the other to a file, or to standard output."""
+    if path is None:
+        for text in texts:
+            sys.stdout.buffer.write(text.encode())
+        sys.stdout.flush()
+    else:
+        with open(path, "w", encoding="utf-8", newline="") as file:
+            file.writelines(texts)
+
+
+def arguments(about):
+    """A parser of arguments, for a tool that is described so."""
+    parser = argparse.ArgumentParser(description=about, formatter_class=argparse.RawDescriptionHelpFormatter)
+    parser.add_argument("-o", metavar="FILE", dest="output", help="write to this file in place of standard output, and only where all went well")
+    return parser
 
 
 def ended(tool, act):

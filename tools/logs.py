@@ -9,6 +9,8 @@ import itertools
 import re
 import sys
 
+from hleaklib import arguments, write
+
 GREATEST = 2**64 - 1
 GREATEST_NUMBER = 2**32 - 2
 MOST_EVENTS, MOST_FRAMES, MOST_FRAMES_OF_VERSION_1 = 4096, 64, 32
@@ -153,24 +155,6 @@ def names_table_of(key, names):
 def more(places):
     """How many places there are behind the first one."""
     return f" ({len(places) - 1} more such)" if len(places) > 1 else ""
-
-
-def write(texts, path=None):
-    """Writes texts one after the other to a file, or to standard output."""
-    if path is None:
-        for text in texts:
-            sys.stdout.buffer.write(text.encode())
-        sys.stdout.flush()
-    else:
-        with open(path, "w", encoding="utf-8", newline="") as file:
-            file.writelines(texts)
-
-
-def arguments(about):
-    """A parser of arguments, for a tool that is described so."""
-    parser = argparse.ArgumentParser(description=about, formatter_class=argparse.RawDescriptionHelpFormatter)
-    parser.add_argument("-o", metavar="FILE", dest="output", help="write to this file in place of standard output, and only where all went well")
-    return parser
 
 
 def whole(most):

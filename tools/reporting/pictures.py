@@ -106,12 +106,15 @@ def flame_of(stacks, system, room):
     return picture, number_of_calls(path for path, _ in stacks) - len(parts)
 
 
+WHOLE = element("rect", width="100%", height="100%")
+
+
 def box_of(box, whole, system):
     module = box.name.partition("!")[0]
     colour = "s" if system.has(box.name) or not box.depth else f"c{zlib.crc32(module.encode()) % COLOURS}"
     label = box.name if len(box.name) <= MOST_LETTERS else box.name[:MOST_LETTERS] + "…"
     title = element("title", f"{box.name}: {box.count:,}, {share_of(box.count, whole)}")
-    parts = title, element("rect", width="100%", height="100%"), element("text", label, x=4, y=14)
+    parts = title, WHOLE, element("text", label, x=4, y=14)
     x, width = f"{100 * box.at / max(whole, 1):.3f}%", f"{100 * box.count / max(whole, 1):.3f}%"
     thin = " thin" if box.count < THIN * whole else ""
     return element("svg", joined(*parts), class_=colour + thin, x=x, y=ROW * box.depth, width=width, height=ROW - 1)

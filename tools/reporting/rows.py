@@ -3,7 +3,7 @@ import collections
 import functools
 
 from .pages import Html, counted, element, html_of, joined, left_out, note
-from .sites import call_of, fields_of, frames_of
+from .sites import addresses_of, call_of, fields_of, frames_of, has_names
 from .telling import Apart
 
 MOST_LETTERS = 200  # of a call in a line; within the stack it is whole
@@ -53,9 +53,16 @@ def stack_of(numbers, line, *inside, **attributes):
 
 @functools.lru_cache(None)
 def call_with_address(text):
-    """A call with how far within its function it is, and its address, by its JSON. (Of all elements a page has most of these.)"""
+    """A call with how far within its function it is, and its address, by its JSON."""
     address, _, name = call_of(text)
     return Html(f'<li><code>{html_of(name)}</code> <code class="at">{address}</code></li>' if name else f"<li><code>{address}</code></li>")
+
+
+def calls_with_addresses(text):
+    """The calls of a stack by its JSON. (Of all elements a page has most of these.)"""
+    if has_names(text):
+        return element("ol", *map(call_with_address, frames_of(text)))
+    return element("ol", Html("".join([f"<li><code>{address}</code></li>" for address in addresses_of(text)])))
 
 
 def calls_of(names):
@@ -67,7 +74,7 @@ def calls_of_site(site):
     if not site.names:
         return calls_of(())
     stacks = site.texts()
-    lists = [element("ol", *map(call_with_address, frames_of(text))) for text, _ in stacks[:MOST_STACKS]]
+    lists = [calls_with_addresses(text) for text, _ in stacks[:MOST_STACKS]]
     if len(stacks) == 1:
         return lists[0]
     head = element("summary", f"{counted(len(stacks), 'stack')} with these names, by their addresses")

@@ -18,6 +18,11 @@ def frames_of(text):
     return text[len(FIRST) : -2].split(NEXT) if text != b"[]" else []
 
 
+def has_names(text):
+    """Whether a call of a stack has a name, by the stack's JSON."""
+    return OFFSET in text
+
+
 def addresses_of(text):
     """The addresses of a stack by its JSON, where no frame has a name."""
     return text[len(FIRST) : -3].decode().split(NEXT_ADDRESS) if text != b"[]" else []
@@ -100,9 +105,9 @@ class Rows:
         return stack
 
     def names_of(self, text):
-        if OFFSET not in text:  # (no call has a name)
-            return tuple(map(sys.intern, addresses_of(text)))
-        return tuple(map(self.names.__getitem__, frames_of(text)))
+        if has_names(text):
+            return tuple(map(self.names.__getitem__, frames_of(text)))
+        return tuple(map(sys.intern, addresses_of(text)))
 
 
 class Site:

@@ -5,9 +5,14 @@ use Rattle.htl_device.specs.States.{SourceState}
 use Rattle.htl_inputs.specs.Readings.{AreRead}
 use Rattle.htl_inputs.specs.Sources.{EndsBefore}
 use Rattle.htl_inputs.specs.declared.fault.RunFault.{RunFault}
-use Rattle.htl_inputs.specs.declared.fault.RunFault.TheVariants.{Case, Hex, Read, Segment, Text, Workers}
+use Rattle.htl_inputs.specs.declared.fault.RunFault.TheVariants.{Case, Hex, Read, Segment, Text, Workers, Write}
 use Rattle.htl_inputs.proofs.ReadingLaws.{read_then, well}
-use Rattle.htl_main.specs.Picking.{EndsPrinting}
+use Rattle.htl_main.specs.Picking.{EndsAnswer}
+
+-- why an answer over a case isn't made, or isn't written
+abbrev pub EndsPrinting : RunFault → Type 0
+EndsPrinting Write = ⊤
+EndsPrinting fault = EndsAnswer fault
 
 -- a fault of the case of all segments, or of an answer over it
 abbrev pub IsLate : RunFault → Type 0

@@ -1,5 +1,5 @@
 -- What is found of a question's subject among the events that are asked about is found among all events.
-use Rattle.std.proofs.Common.{◌≡◌, ◌⊎◌, ℕ, Bool, true, false, List, [], ◌∷◌, Option, IsPermutation, inl, inr, refl, sym, ap, ◌∙◌}
+use Rattle.std.proofs.Common.{◌≡◌, ◌⊎◌, ℕ, Bool, true, false, List, [], ◌∷◌, Option, None, Some, IfNone, IsPermutation, inl, inr, refl, sym, ap, ◌∙◌}
 use Rattle.std.specs.Prelude.{◌&&◌, Contains, filter, not}
 use Rattle.std.specs.List.{list_any}
 use Rattle.std.proofs.lemmas.Bool.{cases_Bool}
@@ -21,6 +21,7 @@ use Rattle.htl_question.specs.Questions.{Serves, is_of_all_handles, subject_of}
 use Rattle.htl_question.specs.Subjects.{is_about}
 use Rattle.htl_question.specs.declared.question.Question.{Question}
 use Rattle.htl_question.proofs.About.{about_is_wanted, all_of_subject, unseen_stack, wanted_is_about}
+use Rattle.htl_evidence.specs.Told.{ArePicksFor, PicksUntil, picks_until}
 use Rattle.htl_symbols.proofs.Searches.{list_any-true, list_any-false}
 use Rattle.htl_main.specs.Picked.{TellsOfNoHandle}
 use Rattle.htl_main.specs.Picking.{is_of_open_handles, IsPickedAsOf}
@@ -144,7 +145,24 @@ abbrev pub picked_as_of : {interest : Interest} {until : Option ℕ} {case : Pic
     → IsPickedUntil interest T until case → IsPickedAsOf interest until case segments
 picked_as_of segments T case_of picked = record { trace = T; case_of = case_of; picked = picked }
 
+-- and tells what is asked of it
+pub told_by : (question : Question) (interest : Interest) (until : Option ℕ) (case : Picked) (segments : List Content)
+    (evidence : PicksUntil) → evidence ≡ picks_until case until → Serves question interest
+    → (is : IsPickedAsOf interest until case segments) → ArePicksFor evidence question is.trace until
+told_by question interest until case segments evidence made serves is = rw made record {
+  is_case = is.case_of.is_case;
+  moment = refl;
+  interest = interest;
+  serves = serves;
+  are = is.picked;
+}
+
 -- ---- where picks fall short
+
+-- what is said of no value holds where there is none
+pub none_left : {X P : Type 0} (found : Option X) → IfNone found P → ((x : X) → found ≡ Some x → ⊥) → P
+none_left None of_none other = of_none
+none_left (Some x) of_none other = absurd (other x refl)
 
 -- they don't: one was found, or not only open handles are wanted
 pub falls_not_short : (found of : Bool) → (not found && of) ≡ false → (found ≡ true) ⊎ (of ≡ false)

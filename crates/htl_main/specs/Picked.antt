@@ -1,5 +1,5 @@
 -- A run that keeps of its inputs only what its question asks about (this project's own).
-use Rattle.std.specs.Prelude.{◌≡◌, ◌≢◌, ℕ, List, [], Option, Result, IfErr}
+use Rattle.std.specs.Prelude.{◌≡◌, ◌≢◌, ℕ, List, [], Option, Result, Ok, Err, IfErr}
 use Rattle.htl_event.specs.declared.interest.Interest.{Interest}
 use Rattle.htl_event.specs.declared.interest.Interest.TheVariants.{OpenHandles}
 use Rattle.htl_event.specs.Interests.{wanted}
@@ -21,6 +21,8 @@ use Rattle.htl_main.specs.Subjects.{ReportsAbsence}
 use Rattle.htl_main.specs.declared.completed.Completed.{Completed}
 use Rattle.htl_main.specs.declared.picks.Lacking.{Lacking}
 use Rattle.htl_main.specs.declared.picks.Lacking.TheVariants as lacking
+use Rattle.htl_main.specs.declared.picks.Unpicked.{Unpicked}
+use Rattle.htl_main.specs.declared.picks.Unpicked.TheVariants as unpicked
 
 -- what is reported beside the answer holds of the inputs
 pub record Reports (job : Job) (inputs : List (List ℕ)) (symbols : Option (List ℕ)) (completed : Completed) : Type 0 where
@@ -49,6 +51,12 @@ IsLackOf interest segments job lacking.Segments = NeedsWhole segments
 abbrev pub Lacks : Interest → Job → List (List ℕ) → Lacking → Type 0
 Lacks interest job inputs lack =
     (segments : List Content) × DecodeAll job.setting.form inputs segments × IsLackOf interest segments job lack
+
+-- how a run of picks ends by what it reports: well, also where something is lacking, or for a fault
+abbrev pub by_refusal : Result Completed Unpicked → Result (Unit {0}) RunFault
+by_refusal (Ok completed) = Ok tt
+by_refusal (Err (unpicked.Lacking lack)) = Ok tt
+by_refusal (Err (unpicked.Refused fault)) = Err fault
 
 -- no rule of a case is reported as broken
 abbrev pub NeverCase : {S : Type 0} → Result S RunFault → Type 0

@@ -1,11 +1,8 @@
 -- For the clauses of private functions: what is picked of one source more, and of all, and why no answer is made of it.
-use Rattle.std.specs.Prelude.{◌≡◌, ◌≢◌, ⊤, ℕ, Bool, true, false, List, ◌++◌, All, Option, Result, Ok, Err, IfErr, IfOk}
-use Rattle.std.specs.Io.KnownBytes.{Appends}
-use Rattle.htl_device.specs.Devices.{AppendsPrefix}
-use Rattle.htl_device.specs.States.{SinkState}
+use Rattle.std.specs.Prelude.{⊤, ℕ, Bool, true, false, List, ◌++◌, Option}
 use Rattle.htl_event.specs.declared.interest.Interest.{Interest}
 use Rattle.htl_event.specs.declared.interest.Interest.TheVariants.{OpenHandles}
-use Rattle.htl_segment.specs.Content.{Content, Fits}
+use Rattle.htl_segment.specs.Content.{Content}
 use Rattle.htl_segment.specs.Picks.{ArePicksOf}
 use Rattle.htl_segment.specs.declared.picks.Picks.{Picks}
 use Rattle.htl_segment.specs.Traces.{Trace}
@@ -16,19 +13,14 @@ use Rattle.htl_command.specs.declared.question.Job.{Job}
 use Rattle.htl_inputs.specs.Ends.{IsInput}
 use Rattle.htl_inputs.specs.Inputs.{DecodeAll}
 use Rattle.htl_inputs.specs.declared.cuts.CutEnd.{CutEnd}
-use Rattle.htl_inputs.specs.CutInputs.{AreCut, AreCutEnds, Decoding, decoding}
+use Rattle.htl_inputs.specs.CutInputs.{AreCut, AreCutEnds}
 use Rattle.htl_inputs.specs.declared.fault.RunFault.{RunFault}
-use Rattle.htl_inputs.specs.declared.fault.RunFault.TheVariants.{Incomplete, NoSubject, Symbols, Memory, UnknownCut, Write}
-use Rattle.htl_main.specs.Causes.{IsCauseAfter}
+use Rattle.htl_inputs.specs.declared.fault.RunFault.TheVariants.{Incomplete, NoSubject, Symbols, Memory, UnknownCut}
 use Rattle.htl_main.specs.Coverages.{CoversSegments}
-use Rattle.htl_main.specs.Picked.{IsLackOf}
-use Rattle.htl_main.specs.Printed.{AreAnswerLines}
 use Rattle.htl_main.specs.Remarks.{RemarksIn}
-use Rattle.htl_main.specs.Runs.{LeavesSink}
 use Rattle.htl_main.specs.Subjects.{HasAbsenceIn}
 use Rattle.htl_main.specs.declared.completed.Completed.{Completed}
 use Rattle.htl_reading.specs.declared.outcome.EarlyEnd.{EarlyEnd}
-use Rattle.htl_main.specs.declared.picks.Lacking.{Lacking}
 use Rattle.htl_main.specs.declared.picks.picking.AllPicks.{AllPicks}
 
 -- only the open handles of a process are asked about
@@ -66,17 +58,6 @@ pub record IsPickedAsOf (interest : Interest) (until : Option ℕ) (case : Picke
   pub case_of : IsCaseOf segments trace
   pub picked : IsPickedUntil interest trace until case
 
--- these are picks of these segments
-pub record ArePickedFor (interest : Interest) (picks : Picks) (segments : List Content) : Type 0 where
-  pub picks_of : ArePicksOf interest picks segments
-  pub fits : All Fits segments
-
--- The lines of the answer over the case of these segments were written, or a first part of them.
-pub record PrintsOf (given : Decoding) (symbols : Option (List ℕ)) (job : Job) (Written : List ℕ → Type 0) : Type 0 where
-  pub lines : List ℕ
-  pub are : AreAnswerLines given symbols job lines
-  pub written : Written lines
-
 -- what is reported beside the answer holds of the case of these segments, and of the inputs that were cut
 pub record ReportsOf (segments : List Content) (symbols : Option (List ℕ)) (job : Job) (cuts : List CutEnd) (completed : Completed)
     : Type 0 where
@@ -99,29 +80,3 @@ EndsAnswer (Symbols fault) = ⊤
 EndsAnswer NoSubject = ⊤
 EndsAnswer Memory = ⊤
 EndsAnswer other = ⊥
-
--- why an answer over a case isn't made, or isn't written
-abbrev pub EndsPrinting : RunFault → Type 0
-EndsPrinting Write = ⊤
-EndsPrinting fault = EndsAnswer fault
-
--- The answer over the case of what was decoded was printed, and what is reported beside it holds; or its picks lack something to tell it;
--- or there is a reason why not.
-abbrev pub EndsOfPicks : Interest → Decoding → Option (List ℕ) → Job → Option (List ℕ) → Option (List ℕ)
-    → Result (Result Completed Lacking) RunFault → Type 0
-EndsOfPicks interest given symbols job old new (Ok (Ok completed)) =
-    PrintsOf given symbols job (Appends old new) × ReportsOf given.segments symbols job given.cuts completed
-EndsOfPicks interest given symbols job old new (Ok (Err lack)) = IsLackOf interest given.segments job lack
-EndsOfPicks interest given symbols job old new (Err fault) =
-    EndsPrinting fault × (fault ≢ Write → IsCauseAfter given symbols job fault)
-    × (fault ≡ Write → PrintsOf given symbols job (AppendsPrefix old new))
-
-pub record PrintsPicks (interest : Interest) (all : AllPicks) (symbols : Option (List ℕ)) (job : Job) (before after : SinkState)
-    (result : Result (Result Completed Lacking) RunFault) : Type 0 where
-  pub outcome : (segments : List Content) → ArePickedFor interest all.picks segments
-      → EndsOfPicks interest (decoding segments all.cuts.items) symbols job before.contents after.contents result
-  pub sink : LeavesSink before after result
-  -- Where something is lacking, nothing was written.
-  pub unwritten : IfOk result (λ ended. IfErr ended (λ lack. after ≡ before))
-  -- No failed read is reported, and no rule of a case.
-  pub ends : IfErr result EndsPrinting

@@ -20,7 +20,7 @@ use Rattle.htl_main.specs.Coverages.{IsCoverage}
 use Rattle.htl_main.specs.Folding.{AreFolded, AreReadToFold, Folding, IsBeginningRefused, IsFolded, IsFoldingRefused, IsHalfKnown, folding}
 use Rattle.htl_main.specs.Loading.{AreLoadedOf, in_setting}
 use Rattle.htl_main.specs.Origins.{IsBetween, by_fault}
-use Rattle.htl_main.specs.Picked.{Lacks, NeverCase, Reports}
+use Rattle.htl_main.specs.Picked.{Lacks, NeverCase, Reports, by_refusal}
 use Rattle.htl_main.specs.Printed.{HasSymbols, WorkersFit}
 use Rattle.htl_main.specs.declared.loading.adding.Added.{Added}
 use Rattle.htl_main.specs.declared.completed.Completed.{Completed}
@@ -28,6 +28,8 @@ use Rattle.htl_main.specs.declared.folding.Folded.{Folded}
 use Rattle.htl_main.specs.declared.loading.Loaded.{Loaded}
 use Rattle.htl_main.specs.declared.origin.Between.TheVariants.{Nothing}
 use Rattle.htl_main.specs.declared.picks.Lacking.{Lacking}
+use Rattle.htl_main.specs.declared.picks.Unpicked.{Unpicked}
+use Rattle.htl_main.specs.declared.picks.Unpicked.TheVariants as unpicked
 use Rattle.htl_main.specs.declared.refused.Refused.{Refused}
 
 -- Why a run over inputs of these texts has no answer: one of these causes. Where a write failed, some first part of the answer was written.
@@ -71,23 +73,23 @@ pub record IsRun (job : Job) (table : Option (List ℕ)) (old new : List SourceS
 
 -- The same of a run that keeps only events of this interest. It may lack something to tell its outcome, and names no two segments.
 abbrev pub EndsPicking : (RunFault → Type 0) → Interest → Job → List (List ℕ) → Option (List ℕ) → Option (List ℕ) → Option (List ℕ)
-    → Result (Result Completed Lacking) RunFault → Type 0
-EndsPicking Cause interest job texts table old new (Ok (Ok completed)) =
-    Prints job texts table old new × Reports job texts table completed
-EndsPicking Cause interest job texts table old new (Ok (Err lack)) = Lacks interest job texts lack
-EndsPicking Cause interest job texts table old new (Err fault) = Cause fault × (fault ≡ Write → PrintsPart job texts table old new)
+    → Result Completed Unpicked → Type 0
+EndsPicking Cause interest job texts table old new (Ok completed) = Prints job texts table old new × Reports job texts table completed
+EndsPicking Cause interest job texts table old new (Err (unpicked.Lacking lack)) = Lacks interest job texts lack
+EndsPicking Cause interest job texts table old new (Err (unpicked.Refused fault)) =
+    Cause fault × (fault ≡ Write → PrintsPart job texts table old new)
 
 pub record IsPicked (interest : Interest) (job : Job) (table : Option (List ℕ)) (old new : List SourceState) (before after : SinkState)
-    (result : Result (Result Completed Lacking) RunFault) : Type 0 where
+    (result : Result Completed Unpicked) : Type 0 where
   pub outcome : IfKnown old (λ texts. EndsPicking (IsSourcesCause job texts (lefts new) (ends new) table) interest job texts table
       before.contents after.contents result)
-  pub reading : AreRead false old new result
+  pub reading : AreRead false old new (by_refusal result)
   pub readers : AskForReaders false job.setting.workers old new
-  pub sink : LeavesSink before after result
+  pub sink : LeavesSink before after (by_refusal result)
   -- Where something is lacking, nothing was written.
-  pub unwritten : IfOk result (λ ended. IfErr ended (λ lack. after ≡ before))
+  pub unwritten : (lack : Lacking) → result ≡ Err (unpicked.Lacking lack) → after ≡ before
   -- No broken rule of a case is reported, since only whole segments tell which it is.
-  pub no_case : NeverCase result
+  pub no_case : NeverCase (by_refusal result)
 
 -- What inputs of these texts come to was loaded; or there is a reason why not, which is one for each job.
 abbrev pub EndsLoading : Setting → Option Moment → Option (List ℕ) → List (List ℕ) → List SourceState → Result Loaded Refused → Type 0

@@ -61,7 +61,7 @@ pub use htl_inputs::{CutEnd, CutInputs, RunFault};
 pub use htl_question::Question;
 pub use loading::{Added, Loaded, add, load};
 pub use origin::{Between, Origin};
-pub use picks::{Lacking, pick_from};
+pub use picks::{Lacking, Unpicked, pick_from};
 pub use printing::{AnswerText, answer_text, run};
 pub use refused::Refused;
 pub use remarks::Remarks;

@@ -9,12 +9,11 @@ ghost use Rattle.std.specs.Prelude.{◌≡◌, false, map};
 ghost use Rattle.std.specs.Option.{option_copied};
 ghost use Rattle.htl_device.specs.States.{AreOpen};
 ghost use Rattle.htl_question.specs.Questions.{Serves};
-ghost use Rattle.htl_main.specs.Picking.{PrintsPicks};
 ghost use Rattle.htl_main.specs.Runs.{IsPicked};
 
 use crate::completed::Completed;
 use crate::picks::answers::answered_of_picks;
-use crate::picks::picking::{AllPicks, pick_all};
+use crate::picks::picking::pick_all;
 use crate::printing::check_workers;
 use htl_case::PickedCase;
 use htl_command::Job;
@@ -36,11 +35,31 @@ pub enum Lacking {
     Segments,
 }
 
+/// Why a run of picks printed no answer.
+#[derive(Clone, Copy, Debug, PartialEq, Eq)]
+pub enum Unpicked {
+    /// What was picked doesn't tell the outcome.
+    Lacking(Lacking),
+    /// The run is refused, as `run_from` is.
+    Refused(RunFault),
+}
+
+impl From<RunFault> for Unpicked {
+    ghost use Rattle.std.specs.Prelude.{◌≡◌};
+    ghost use Rattle.htl_main.specs.declared.picks.Unpicked.TheVariants.{Refused};
+
+    ghost from_gives = { λ fault unpicked. unpicked ≡ Refused fault };
+
+    fn from(fault: RunFault) -> Unpicked {
+        Unpicked::Refused(fault)
+    }
+}
+
 /// The same as `run_from`, but it keeps no segments. It makes only the events that are of this
 /// interest: those that the question needs (`Question::interest`), or all of what it is about
 /// (`Question::widest_interest`).
 ///
-/// Where these don't tell the outcome, it returns what it lacks.
+/// Where these don't tell the outcome, it writes nothing and returns what it lacks.
 pub fn pick_from<Rt: Threads + Sync, R: Parted, W: Sink>(
     rt: &Rt,
     alloc: Global,
@@ -49,7 +68,7 @@ pub fn pick_from<Rt: Threads + Sync, R: Parted, W: Sink>(
     inputs: &mut [R],
     symbols: Option<&[u8]>,
     out: &mut W,
-) -> Result<Result<Completed, Lacking>, RunFault>
+) -> Result<Completed, Unpicked>
     requires ready { AreOpen (map R.state inputs.old) }
     requires out { (W.state out.old).failed ≡ false }
     requires bytes { job.now.setting.form.hex ≡ false }
@@ -66,31 +85,13 @@ pub fn pick_from<Rt: Threads + Sync, R: Parted, W: Sink>(
         job.setting.workers,
         inputs,
     )?;
-    print_picks(rt, alloc, job, interest, all, symbols, out)
-}
-
-/// Prints the answer over the picked case, or writes nothing and returns what is lacking.
-fn print_picks<W: Sink>(
-    rt: &(impl Threads + Sync),
-    alloc: Global,
-    job: &Job,
-    interest: Interest,
-    all: AllPicks,
-    symbols: Option<&[u8]>,
-    out: &mut W,
-) -> Result<Result<Completed, Lacking>, RunFault>
-    requires out { (W.state out.old).failed ≡ false }
-    requires serves { Serves job.now.question interest }
-    ensures { PrintsPicks interest all (option_copied symbols.entry) job.now
-        (W.state out.old) (W.state out.new) result }
-{
     let Some(case) = PickedCase::of(all.picks) else {
-        return Ok(Err(Lacking::Segments));
+        return Err(Unpicked::Lacking(Lacking::Segments));
     };
     let answered = answered_of_picks(rt, alloc, job, interest, case, &all.cuts, symbols)?;
     let Some((lines, completed)) = answered else {
-        return Ok(Err(Lacking::Process));
+        return Err(Unpicked::Lacking(Lacking::Process));
     };
     write_lines(out, &lines)?;
-    Ok(Ok(completed))
+    Ok(completed)
 }

@@ -6,7 +6,6 @@ ghost use Rattle.htl_event.specs.Moments.{counted_events};
 ghost use Rattle.htl_segment.specs.Content.{Content};
 ghost use Rattle.htl_segment.specs.Traces.{all_events};
 ghost use Rattle.htl_question.specs.Questions.{Serves};
-ghost use Rattle.htl_evidence.specs.Bases.{IsAnswer};
 ghost use Rattle.htl_inputs.specs.CutInputs.{decoding};
 ghost use Rattle.htl_main.specs.Causes.{IsCauseAfter};
 ghost use Rattle.htl_main.specs.Moments.{IsNamedMoment};
@@ -22,10 +21,9 @@ use crate::printing::{check_absence, check_gaps, lines, read_symbols};
 use crate::remarks::remarks_on;
 use htl_case::PickedCase;
 use htl_command::Job;
-use htl_event::{Interest, NoMemory};
+use htl_event::Interest;
 use htl_evidence::{Picks, answer};
 use htl_inputs::{CutEnd, RunFault, cut_inputs};
-use htl_question::Answer;
 use std::alloc::Global;
 use std::thread::Threads;
 
@@ -67,7 +65,8 @@ pub(crate) fn answered_of_picks(
     };
     let absence = absence_by(has_subject, job.question, until, case.span());
     check_absence(job, absence)?;
-    let answer = answer_of_picks(rt, alloc, job, until, &case)?;
+    let evidence = Picks::new(alloc, &case, until);
+    let answer = answer(rt, alloc, job.setting.workers, &evidence, job.question)?;
     let lines = lines(alloc, job, until, &answer, &symbols)?;
     let completed = Completed {
         coverage,
@@ -102,21 +101,4 @@ fn falls_short(interest: Interest, has_subject: bool) -> bool
     ensures { result ≡ (not has_subject && is_of_open_handles interest) }
 {
     !has_subject && matches!(interest, Interest::OpenHandles(_))
-}
-
-/// The answer to the job's question about what was picked of a case up to a moment.
-fn answer_of_picks<Rt: Threads + Sync>(
-    rt: &Rt,
-    alloc: Global,
-    job: &Job,
-    until: Option<u64>,
-    case: &PickedCase,
-) -> Result<Answer, NoMemory>
-    ensures { IfOk result (λ answer. (interest : Interest) (segments : List Content)
-        (serves : Serves job.now.question interest)
-        (is : IsPickedAsOf interest until case.now segments)
-        → IsAnswer is.trace until job.now.question answer) }
-{
-    let evidence = Picks::new(alloc, case, until);
-    answer(rt, alloc, job.setting.workers, &evidence, job.question)
 }

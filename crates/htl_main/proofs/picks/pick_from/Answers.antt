@@ -1,15 +1,14 @@
 -- What `pick_from` makes of picks comes of the segments of all inputs, and where it ends before the first read no source is read.
 use Rattle.std.proofs.Common.{map, false, refl}
 use Rattle.std.specs.Option.{option_copied}
-use Rattle.std.proofs.lemmas.Result.{IfErr-weaker, err_from_is_err_and}
+use Rattle.std.proofs.lemmas.Result.{err_from_is_err_and}
 use Rattle.htl_device.specs.States.{ends, lefts}
-use Rattle.htl_inputs.specs.CutInputs.{decoding}
 use Rattle.htl_inputs.proofs.ReadingLaws.{ends_too, unread}
-use Rattle.htl_main.proofs.AfterDecoding.{sources_stop}
-use Rattle.htl_main.proofs.AfterPicking.{ends_picking, ends_without_case, given_is, picked_run}
-use Rattle.htl_main.proofs.LateFaults.{printing_late, read_late}
-use Rattle.htl_main.proofs.picks.pick_from.Goals as goal
 use Rattle.htl_inputs.proofs.SourceLaws.{none_asked}
+use Rattle.htl_main.proofs.AfterDecoding.{sources_stop}
+use Rattle.htl_main.proofs.AfterPicking.{answer_no_write, ends_printing, is_picked, picked_for}
+use Rattle.htl_main.proofs.PickedAnswers.{none_left}
+use Rattle.htl_main.proofs.picks.pick_from.Goals as goal
 
 pub returns-in_err-check_workers : goal.returns-in_err-check_workers
 returns-in_err-check_workers g c =
@@ -20,7 +19,7 @@ returns-in_err-check_workers g c =
       reading = unread false (map g.R.Source.state c.args.inputs.now) c.requires.ready;
       readers = none_asked false c.args.job.now.setting.workers (map g.R.Source.state c.args.inputs.now);
       sink = record { untouched = λ other. refl; failed = λ told. absurd (cc told); fine = tt };
-      unwritten = tt;
+      unwritten = λ lack told. absurd (cc told);
       no_case = λ broken is. cc is;
     })
 
@@ -39,29 +38,84 @@ returns-in_err-all g c =
       reading = ends_too false (map g.R.Source.state c.args.inputs.now) now fault is.reads.reading;
       readers = is.reads.readers;
       sink = record { untouched = λ other. refl; failed = λ told. absurd (is.no_write (cc told)); fine = tt };
-      unwritten = tt;
+      unwritten = λ lack told. absurd (cc told);
       no_case = is.no_case;
     })
 
+pub returns-in_default : goal.returns-in_default
+returns-in_default g c =
+    is_picked c.args.job.now c.args.interest c.in_ok-all.all _ _ _ _ _ _ c.in_ok-check_workers.ensures.ok c.in_ok-all.ensures.reads (record {
+      outcome = λ segments are.
+          none_left c.of.result c.of.ensures.none c.in_default.not-Some c.args.interest segments are.picks_of are.fits;
+      sink = record { untouched = tt; failed = λ told. absurd (cc told); fine = c.requires.out };
+      unwritten = λ lack told. refl;
+      ends = tt;
+    })
+
+pub returns-in_default-answered : goal.returns-in_default-answered
+returns-in_default-answered g c =
+    let all = c.in_ok-all.all in
+    is_picked c.args.job.now c.args.interest all _ _ _ _ _ _ c.in_ok-check_workers.ensures.ok c.in_ok-all.ensures.reads (record {
+      outcome = λ segments are.
+          none_left _ c.in_ok-answered.ensures.none c.in_default-answered.not-Some segments
+          (picked_for c.args.interest all.picks segments _ c.in-Some.ensures.some are);
+      sink = record { untouched = tt; failed = λ told. absurd (cc told); fine = c.requires.out };
+      unwritten = λ lack told. refl;
+      ends = tt;
+    })
+
+pub returns-in_err-answered : goal.returns-in_err-answered
+returns-in_err-answered g c =
+    let p = err_from_is_err_and c.from_residual-in_err-answered.result c.from_residual-in_err-answered.ensures.1 in
+    let all = c.in_ok-all.all in
+    let is = c.in_err-answered.ensures in
+    let fault = c.in_err-answered.field-0.0 in
+    let unwritten = answer_no_write fault is.after in
+    rw (p.1, p.2) (is_picked c.args.job.now c.args.interest all _ _ _ _ _ _ c.in_ok-check_workers.ensures.ok c.in_ok-all.ensures.reads (record {
+      outcome = λ segments are.
+          let for = picked_for c.args.interest all.picks segments _ c.in-Some.ensures.some are in
+          (ends_printing fault is.after, λ told. rw (← c.deref.ensures.value) (is.err segments for), λ told. absurd (unwritten told));
+      sink = record { untouched = λ other. refl; failed = λ told. absurd (unwritten (cc told)); fine = tt };
+      unwritten = λ lack told. absurd (cc told);
+      ends = ends_printing fault is.after;
+    }))
+
+pub returns-in_err-write_lines : goal.returns-in_err-write_lines
+returns-in_err-write_lines g c =
+    let p = err_from_is_err_and c.from_residual-in_err-write_lines.result c.from_residual-in_err-write_lines.ensures.1 in
+    let all = c.in_ok-all.all in
+    let reported = c.in_err-write_lines.ensures.err in
+    rw (p.1, p.2, reported.0)
+    (is_picked c.args.job.now c.args.interest all _ _ _ _ _ _ c.in_ok-check_workers.ensures.ok c.in_ok-all.ensures.reads (record {
+      outcome = λ segments are.
+          let for = picked_for c.args.interest all.picks segments _ c.in-Some.ensures.some are in (
+            tt,
+            λ other. absurd (other refl),
+            λ told. record {
+              lines = c.in-Some-answered.lines.items;
+              are = rw (← c.deref.ensures.value) ((rw (c.in-Some-answered.is) at c.in_ok-answered.ensures.ok) segments for);
+              written = rw (← c.deref-2.ensures.value) (reported.2);
+            },
+          );
+      sink = record { untouched = λ other. absurd (other refl); failed = λ told. reported.1; fine = tt };
+      unwritten = λ lack told. absurd (cc told);
+      ends = tt;
+    }))
+
 pub returns : goal.returns
 returns g c =
-    let job = c.args.job.now in
-    let now = map g.R.Source.state c.pick_all.new.sources in
-    let picks = c.in_ok-all.all.picks in
-    let cuts = c.in_ok-all.all.cuts.items in
-    let is = c.print_picks.ensures in
-    let result = c.print_picks.result in
-    record {
-      outcome = λ texts all.
-          let all_picked = c.in_ok-all.ensures.reads.outcome texts all in
-          let run = picked_run job texts c.args.interest picks all_picked.picks in
-          ends_picking job c.args.interest texts (lefts now) (ends now) (option_copied c.args.symbols) (g.W.Sink.state c.args.out.now).contents
-          (g.W.Sink.state c.print_picks.new.out).contents (decoding run.segments cuts) result c.in_ok-check_workers.ensures.ok
-          (given_is job c.args.interest texts picks run cuts all_picked.cuts) (is.outcome run.segments run.picked);
-      reading = read_late false (map g.R.Source.state c.args.inputs.now) now c.in_ok-all.all result c.in_ok-all.ensures.reads.reading
-          (IfErr-weaker result _ _ printing_late is.ends);
-      readers = c.in_ok-all.ensures.reads.readers;
-      sink = is.sink;
-      unwritten = is.unwritten;
-      no_case = ends_without_case result is.ends;
-    }
+    let all = c.in_ok-all.all in
+    is_picked c.args.job.now c.args.interest all _ _ _ _ _ _ c.in_ok-check_workers.ensures.ok c.in_ok-all.ensures.reads (record {
+      outcome = λ segments are.
+          let for = picked_for c.args.interest all.picks segments _ c.in-Some.ensures.some are in (
+            record {
+              lines = c.in-Some-answered.lines.items;
+              are = rw (← c.deref.ensures.value) ((rw (c.in-Some-answered.is) at c.in_ok-answered.ensures.ok) segments for);
+              written = rw (← c.deref-2.ensures.value) (c.in_ok-write_lines.ensures.ok);
+            },
+            rw (← c.deref.ensures.value) ((rw (c.in-Some-answered.is) at c.in_ok-answered.ensures.reports) segments for),
+          );
+      sink = record { untouched = tt; failed = λ told. absurd (cc told); fine = c.in_ok-write_lines.ensures.fine };
+      unwritten = λ lack told. absurd (cc told);
+      ends = tt;
+    })

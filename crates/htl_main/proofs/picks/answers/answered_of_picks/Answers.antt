@@ -1,5 +1,5 @@
 -- The lines, the coverage, and what is told beside them are those of one answer over the case.
-use Rattle.std.proofs.Common.{◌≡◌, ◌∙◌, ℕ, Bool, Option, None, Some, IfNone, inr, refl, ap}
+use Rattle.std.proofs.Common.{◌≡◌, ◌∙◌, ℕ, Bool, Option, inr, ap}
 use Rattle.std.proofs.lemmas.Result.{err_from_is_err_and}
 use Rattle.std.specs.Option.{option_copied}
 use Rattle.htl_event.specs.Moments.{counted_events}
@@ -10,12 +10,8 @@ use Rattle.htl_main.specs.Moments.{IsNamedMoment}
 use Rattle.htl_main.specs.Subjects.{HasAbsence, absence_by, has_subject}
 use Rattle.htl_main.specs.declared.completed.Absence.{Absence}
 use Rattle.htl_main.proofs.Missing.{memory_cause, missing_cause, symbols_cause}
-use Rattle.htl_main.proofs.PickedAnswers.{picked_as_of}
+use Rattle.htl_main.proofs.PickedAnswers.{none_left, picked_as_of, told_by}
 use Rattle.htl_main.proofs.picks.answers.answered_of_picks.Goals as goal
-
-none_left : {X P : Type 0} (found : Option X) → IfNone found P → ((x : X) → found ≡ Some x → ⊥) → P
-none_left None of_none other = of_none
-none_left (Some x) of_none other = absurd (other x refl)
 
 -- why nothing can be found is told by whether what is asked about is among the events that count
 absence_of : (T : Trace) (job : Job) (until : Option ℕ) (found : Bool) (absence : Option Absence) → IsNamedMoment T job.until until
@@ -98,7 +94,7 @@ returns-clause-ok g c = λ segments is.
         until,
         named,
         c.in_ok-answer.answer,
-        c.in_ok-answer.ensures c.args.interest segments c.requires kept,
+        c.in_ok-answer.ensures T until (told_by c.args.job.now.question _ _ _ segments _ c.new-evidence.ensures c.requires kept),
         c.in_ok-lines.ensures,
       );
     }
@@ -129,7 +125,7 @@ returns-clause-reports g c = λ segments is.
           until,
           named,
           c.in_ok-answer.answer,
-          c.in_ok-answer.ensures c.args.interest segments c.requires kept,
+          c.in_ok-answer.ensures T until (told_by c.args.job.now.question _ _ _ segments _ c.new-evidence.ensures c.requires kept),
           c.remarks_on.ensures,
         ),
       );

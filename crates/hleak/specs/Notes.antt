@@ -9,8 +9,8 @@ use Rattle.htl_program.specs.declared.saying.lack.Lack.TheVariants as lacks
 use Rattle.hleak.specs.Shown.{shown_name}
 use Rattle.hleak.specs.Subjects.{input_name}
 use Rattle.hleak.specs.declared.explaining.task.Task.{Task}
-use Rattle.hleak.specs.declared.note.Note.{Note}
-use Rattle.hleak.specs.declared.note.Note.TheVariants.{Gaps, Unnamed}
+use Rattle.hleak.specs.declared.note.InputsNote.{InputsNote}
+use Rattle.hleak.specs.declared.note.InputsNote.TheVariants.{Gaps, Unnamed}
 
 -- one gap, or several
 abbrev pub gap_word : ℕ → List ℕ
@@ -21,7 +21,7 @@ abbrev pub others_text : ℕ → List ℕ
 others_text others = if others == 0 then [] else codes ", and " ++ (decimal others ++ codes " more")
 
 -- that segments are missing, or that the symbols have none of the addresses
-abbrev pub note_text : Note → List ℕ
+abbrev pub note_text : InputsNote → List ℕ
 note_text (Gaps coverage) =
     codes "hleak: note: " ++ (decimal coverage.gaps ++ (codes " " ++ (gap_word coverage.gaps
     ++ (codes ": segments are missing (summary lists them); ask with --until complete: answers are complete to "
@@ -29,7 +29,7 @@ note_text (Gaps coverage) =
 note_text Unnamed = codes "hleak: note: the symbol table has none of the addresses: is it of this build?"
 
 -- that segments are missing, where there is a gap
-abbrev pub gaps_noted : Coverage → Option Note
+abbrev pub gaps_noted : Coverage → Option InputsNote
 gaps_noted coverage = if coverage.gaps == 0 then None else Some (Gaps coverage)
 
 -- that inputs end within a segment

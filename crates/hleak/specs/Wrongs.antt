@@ -2,7 +2,8 @@
 use Rattle.std.specs.Prelude.{Bool, true, false}
 use Rattle.htl_command.specs.declared.fault.ParseFault.{ParseFault}
 use Rattle.htl_command.specs.declared.fault.ParseFault.TheVariants.{Help}
-use Rattle.htl_dialogue.specs.Notes.{Note, answered, refuses}
+use Rattle.htl_dialogue.specs.Notes.{OwnNote}
+use Rattle.htl_dialogue.specs.declared.note.Note.TheVariants as hear
 
 -- all but those that ask for help
 abbrev pub is_refusal : ParseFault → Bool
@@ -10,11 +11,11 @@ is_refusal (Help text) = false
 is_refusal other = true
 
 -- A note counts where it refuses a line.
-abbrev pub counts_as_wrong : Note → Bool
-counts_as_wrong (refuses fault) = is_refusal fault
+abbrev pub counts_as_wrong : OwnNote → Bool
+counts_as_wrong (hear.Refuses fault) = is_refusal fault
 counts_as_wrong other = false
 
 -- The symbols had none of the addresses of an answer.
-abbrev pub misses_names : Note → Bool
-misses_names (answered job absence remarks) = remarks.is_unnamed
+abbrev pub misses_names : OwnNote → Bool
+misses_names (hear.Answered job absence remarks) = remarks.is_unnamed
 misses_names other = false

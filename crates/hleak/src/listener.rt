@@ -5,15 +5,12 @@ ghost use Rattle.hleak.specs.Wrongs.{is_refusal};
 
 use crate::explaining::Task;
 use crate::lacking::Lacking;
-use crate::note::Note;
+use crate::note::InputsNote;
 use crate::terminals::Terminals;
 use crate::voice::Voice;
-use htl_ask::Speaker;
-use htl_command::Job;
-use htl_dialogue::Host;
-use htl_main::{
-    Absence, Added, Between, Coverage, CutInputs, ParseFault, Refused, Remarks, RunFault,
-};
+use htl_ask::{Note, Speaker};
+use htl_command::{Job, ParseFault};
+use htl_main::{Absence, Added, Between, Coverage, CutInputs, Refused, Remarks, RunFault};
 use htl_program::Lack;
 
 /// Whoever reads standard error while a dialogue goes on.
@@ -47,11 +44,43 @@ impl<'p> Listener<'p> {
         }
     }
 
+    /// Says that a line is awaited, where it is typed.
+    fn prompt(&self) {
+        if self.is_typed {
+            let _ = eprint!(self.voice.rt; "hleak> ");
+        }
+    }
+
+    /// Says where segments are missing, where notes are wanted, and which inputs are cut.
+    fn begin(&self, files: &[String], coverage: Coverage, cut: Option<CutInputs>) {
+        if let (Some(note), true) = (InputsNote::on_gaps(coverage), self.wants_notes) {
+            self.voice.say(note);
+        }
+        self.note_cut(Task::Convert(files), cut);
+    }
+
     /// Says which inputs end within a segment, where notes are wanted and some do.
     fn note_cut(&self, task: Task, inputs: Option<CutInputs>) {
         if let (Some(inputs), true) = (inputs, self.wants_notes) {
             self.voice.note_cut(task, inputs);
         }
+    }
+
+    /// Says which of the files that were read are cut, or why they are refused.
+    fn end_reading(&self, files: &[String], ended: Result<Added, Refused>) {
+        match ended {
+            Ok(added) => self.note_cut(Task::Read(files), added.cut),
+            Err(refused) => self.report(files, refused),
+        }
+    }
+
+    /// Says why a question isn't answered.
+    fn decline(&self, fault: RunFault) {
+        let refused = Refused {
+            fault,
+            between: Between::Nothing,
+        };
+        self.report(&[], refused);
     }
 
     /// Says why files are refused, and what that means where notes are wanted. The line that shows
@@ -66,13 +95,30 @@ impl<'p> Listener<'p> {
         }
     }
 
-    /// Keeps in mind that a line was refused, unless it asked for help.
-    fn count(&mut self, fault: &ParseFault)
+    /// Says why a line is wrong. It is kept in mind that one was refused, unless it asked for help.
+    fn refuse(&mut self, fault: &ParseFault)
         ensures { self.new ≡ record self.old {
           has_refused = self.old.has_refused || is_refusal fault.now;
         } }
     {
         self.has_refused |= is_refusal(fault);
+        self.voice.refuse(fault);
+    }
+
+    /// Says what a question lacks that was answered, and that the symbols have none of the addresses
+    /// of its answer, which is kept in mind.
+    fn note_answer(&mut self, job: &Job, absence: Option<Absence>, remarks: Remarks)
+        ensures { self.new ≡ record self.old {
+          has_missed_names = self.old.has_missed_names || remarks.is_unnamed;
+        } }
+    {
+        if let Some(lack) = Lack::of(job, absence, remarks) {
+            self.voice.say(Lacking { lack });
+        }
+        if remarks.is_unnamed && !self.has_missed_names {
+            self.voice.say(InputsNote::Unnamed);
+        }
+        self.has_missed_names |= remarks.is_unnamed;
     }
 }
 
@@ -83,7 +129,7 @@ fn is_refusal(fault: &ParseFault) -> bool
     !matches!(fault, ParseFault::Help(_))
 }
 
-impl Host for Listener<'_> {
+impl Speaker for Listener<'_> {
     ghost use Rattle.hleak.specs.Wrongs.{counts_as_wrong, misses_names};
 
     // A line that was refused is kept in mind, and an answer without names, and nothing else.
@@ -94,62 +140,28 @@ impl Host for Listener<'_> {
 
     ghost wants_absence = { λ s. s.wants_notes };
 
-    fn awaits(&mut self) {
-        if self.is_typed {
-            let _ = eprint!(self.voice.rt; "hleak> ");
+    // A person may ask for help.
+    ghost counts = { λ s. not s.is_typed || s.has_refused };
+
+    ghost noted = { λ s are_asked_for. record s { wants_notes = s.wants_notes || are_asked_for } };
+
+    fn hears(&mut self, note: Note<&[String], &ParseFault, &Job>) {
+        match note {
+            Note::Begins(files, coverage, cut) => self.begin(files, coverage, cut),
+            Note::Awaits => self.prompt(),
+            Note::Refuses(fault) => self.refuse(fault),
+            Note::Reads(files, ended) => self.end_reading(files, ended),
+            Note::Declines(fault) => self.decline(fault),
+            Note::Answered(job, absence, remarks) => self.note_answer(job, absence, remarks),
         }
-    }
-
-    fn refuses(&mut self, fault: &ParseFault) {
-        self.count(fault);
-        self.voice.refuse(fault);
-    }
-
-    fn reads(&mut self, files: &[String], ended: Result<Added, Refused>) {
-        match ended {
-            Ok(added) => self.note_cut(Task::Read(files), added.cut),
-            Err(refused) => self.report(files, refused),
-        }
-    }
-
-    fn declines(&mut self, fault: RunFault) {
-        let refused = Refused {
-            fault,
-            between: Between::Nothing,
-        };
-        self.report(&[], refused);
     }
 
     fn notes_absence(&self) -> bool {
         self.wants_notes
     }
 
-    fn answered(&mut self, job: &Job, absence: Option<Absence>, remarks: Remarks) {
-        if let Some(lack) = Lack::of(job, absence, remarks) {
-            self.voice.say(Lacking { lack });
-        }
-        if remarks.is_unnamed && !self.has_missed_names {
-            self.voice.say(Note::Unnamed);
-        }
-        self.has_missed_names |= remarks.is_unnamed;
-    }
-}
-
-impl Speaker for Listener<'_> {
-    // A person may ask for help.
-    ghost counts = { λ s. not s.is_typed || s.has_refused };
-
-    ghost noted = { λ s are_asked_for. record s { wants_notes = s.wants_notes || are_asked_for } };
-
     fn takes_notes(&mut self, are_asked_for: bool) {
         self.wants_notes |= are_asked_for;
-    }
-
-    fn begins(&mut self, files: &[String], coverage: Coverage, cut: Option<CutInputs>) {
-        if let (Some(note), true) = (Note::on_gaps(coverage), self.wants_notes) {
-            self.voice.say(note);
-        }
-        self.note_cut(Task::Convert(files), cut);
     }
 
     fn counts_wrong(&self) -> bool {

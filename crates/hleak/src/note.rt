@@ -8,28 +8,28 @@ use crate::shown::Shown;
 use htl_main::{Coverage, CutInputs};
 use std::fmt;
 
-/// A note on the segments.
+/// A note on what an answer is of: the segments, or the table of symbols.
 #[derive(Clone, Copy)]
-pub enum Note {
+pub enum InputsNote {
     /// Some are missing: the answer holds for those that are there.
     Gaps(Coverage),
     /// The table of symbols has none of the addresses that an answer shows.
     Unnamed,
 }
 
-impl Note {
+impl InputsNote {
     /// The note on a case with a gap. There is none on another.
-    pub fn on_gaps(coverage: Coverage) -> Option<Note>
+    pub fn on_gaps(coverage: Coverage) -> Option<InputsNote>
         ensures { result ≡ gaps_noted coverage }
     {
         if coverage.gaps == 0 {
             return None;
         }
-        Some(Note::Gaps(coverage))
+        Some(InputsNote::Gaps(coverage))
     }
 }
 
-impl fmt::Display for Note {
+impl fmt::Display for InputsNote {
     ghost use Rattle.std.specs.Prelude.{Some};
     ghost use Rattle.hleak.specs.Notes.{note_text};
 
@@ -37,7 +37,7 @@ impl fmt::Display for Note {
 
     fn fmt<W: fmt::Write>(&self, f: &mut fmt::Formatter<W>) -> fmt::Result {
         match *self {
-            Note::Gaps(Coverage { gaps, complete_to }) => {
+            InputsNote::Gaps(Coverage { gaps, complete_to }) => {
                 let word = gap_word(gaps);
                 write!(
                     f,
@@ -46,7 +46,7 @@ hleak: note: {gaps} {word}: segments are missing (summary lists them); ask with 
 answers are complete to {complete_to}"
                 )
             }
-            Note::Unnamed => write!(
+            InputsNote::Unnamed => write!(
                 f,
                 "hleak: note: the symbol table has none of the addresses: is it of this build?"
             ),

@@ -5,7 +5,7 @@ ghost use Rattle.std.specs.Prelude.{None};
 
 use crate::explaining::{Stopped, Task};
 use crate::lacking::Lacking;
-use crate::note::Note;
+use crate::note::InputsNote;
 use crate::terminals::Terminals;
 use crate::voice::Voice;
 use htl_command::{Command, ParseFault};
@@ -102,8 +102,8 @@ impl Person for Terminal<'_> {
             Message::Fault(refused) => self.voice.say(refused),
             Message::Meaning(command, refused) => self.explain(command, refused),
             Message::Lack(lack) => self.voice.say(Lacking { lack }),
-            Message::Unnamed => self.voice.say(Note::Unnamed),
-            Message::Gaps(coverage) => self.voice.say(Note::Gaps(coverage)),
+            Message::Unnamed => self.voice.say(InputsNote::Unnamed),
+            Message::Gaps(coverage) => self.voice.say(InputsNote::Gaps(coverage)),
             Message::Cut(command, inputs) => self.note_cut(command, inputs),
             Message::Stop(stopped) => self.voice.say(stopped),
             Message::StopMeaning(stopped) => self.explain_stop(stopped),

@@ -1,22 +1,23 @@
 -- What is said of a dialogue by the notes after its beginning is said of it by all notes.
 use Rattle.std.proofs.Common.{◌≡◌, ◌⊎◌, ℕ, Bool, false, List, [], ◌∷◌, ◌++◌, Option, inl, inr, take}
 use Rattle.htl_dialogue.specs.Dialogues.{Answers, Converses, Gets, GotAt, DialogueStops, last_wait}
-use Rattle.htl_dialogue.specs.Notes.{Note, awaits}
+use Rattle.htl_dialogue.specs.Notes.{OwnNote}
 use Rattle.htl_dialogue.specs.declared.dialogue.Conversed.{Conversed}
 use Rattle.htl_dialogue.specs.declared.dialogue.DialogueFault.{DialogueFault}
 use Rattle.htl_dialogue.specs.declared.dialogue.DialogueFault.TheVariants.{Questions, Write, NoMemory}
-use Rattle.htl_ask.specs.Asking.{BeginsAndGets, Opening, opening_note}
+use Rattle.htl_dialogue.specs.declared.note.Note.TheVariants as hear
+use Rattle.htl_ask.specs.Asking.{BeginsAndGets, Opening}
 
-module _ {S Host : Type 0} (answers : Answers S) (wanted : Bool) (before : S) (text : List ℕ) (old new : Option (List ℕ))
-    (told : Host → Note → Host) (audience host after : Host) (names : List (List ℕ)) (opening : Opening)
-    (is : host ≡ told audience (opening_note names opening.coverage opening.cut)) where
-  gets : (replies : List ℕ) (notes : List Note) → Gets old new told host after replies notes
-      → BeginsAndGets names old new told audience after opening replies notes
+module _ {S Speaker : Type 0} (answers : Answers S) (wanted : Bool) (before : S) (text : List ℕ) (old new : Option (List ℕ))
+    (told : Speaker → OwnNote → Speaker) (speaker begun after : Speaker) (names : List (List ℕ)) (opening : Opening)
+    (is : begun ≡ told speaker (hear.Begins names opening.coverage opening.cut)) where
+  gets : (replies : List ℕ) (notes : List OwnNote) → Gets old new told begun after replies notes
+      → BeginsAndGets names old new told speaker after opening replies notes
   gets replies notes got = (got.0, rw is at got.1)
 
   -- a dialogue that gets the notes after its beginning gets all its notes, with that of the beginning first
-  pub converses_begun : (conversed : Conversed) → Converses answers wanted before text (Gets old new told host after) conversed
-      → Converses answers wanted before text (BeginsAndGets names old new told audience after opening) conversed
+  pub converses_begun : (conversed : Conversed) → Converses answers wanted before text (Gets old new told begun after) conversed
+      → Converses answers wanted before text (BeginsAndGets names old new told speaker after opening) conversed
   converses_begun conversed all = record {
     after = all.after;
     replies = all.replies;
@@ -27,26 +28,26 @@ module _ {S Host : Type 0} (answers : Answers S) (wanted : Bool) (before : S) (t
     first = all.first;
   }
 
-  waited : (failed : Bool) (replies : List ℕ) (notes : List Note)
-      → Gets old new told host after replies (notes ++ awaits ∷ []) ⊎ ((failed ≡ false) × Gets old new told host after replies notes)
-      → BeginsAndGets names old new told audience after opening replies (notes ++ awaits ∷ [])
-      ⊎ ((failed ≡ false) × BeginsAndGets names old new told audience after opening replies notes)
-  waited failed replies notes (inl got) = inl (gets replies (notes ++ awaits ∷ []) got)
+  waited : (failed : Bool) (replies : List ℕ) (notes : List OwnNote)
+      → Gets old new told begun after replies (notes ++ hear.Awaits ∷ []) ⊎ ((failed ≡ false) × Gets old new told begun after replies notes)
+      → BeginsAndGets names old new told speaker after opening replies (notes ++ hear.Awaits ∷ [])
+      ⊎ ((failed ≡ false) × BeginsAndGets names old new told speaker after opening replies notes)
+  waited failed replies notes (inl got) = inl (gets replies (notes ++ hear.Awaits ∷ []) got)
   waited failed replies notes (inr got) = inr (got.0, gets replies notes got.1)
 
-  got_at : (state : S) (failed : Bool) (fault : DialogueFault) (later : List (List ℕ)) (replies : List ℕ) (notes : List Note)
-      → GotAt answers state failed (Gets old new told host after) fault later replies notes
-      → GotAt answers state failed (BeginsAndGets names old new told audience after opening) fault later replies notes
+  got_at : (state : S) (failed : Bool) (fault : DialogueFault) (later : List (List ℕ)) (replies : List ℕ) (notes : List OwnNote)
+      → GotAt answers state failed (Gets old new told begun after) fault later replies notes
+      → GotAt answers state failed (BeginsAndGets names old new told speaker after opening) fault later replies notes
   got_at state failed Write [] replies notes got = got
   got_at state failed Write (line ∷ more) replies notes got =
-      (got.0, got.1, got.2, got.3, got.4, gets (replies ++ take got.2 got.1) (notes ++ awaits ∷ got.3) got.5)
+      (got.0, got.1, got.2, got.3, got.4, gets (replies ++ take got.2 got.1) (notes ++ hear.Awaits ∷ got.3) got.5)
   got_at state failed Questions later replies notes got = waited failed replies notes got
   got_at state failed NoMemory later replies notes got = waited failed replies notes got
 
   -- a dialogue that stops with the notes after its beginning stops with all its notes, that of the beginning first
   pub stops_begun : (left : Option (List ℕ)) (failed : Bool) (fault : DialogueFault)
-      → DialogueStops answers wanted before text left failed (Gets old new told host after) fault
-      → DialogueStops answers wanted before text left failed (BeginsAndGets names old new told audience after opening) fault
+      → DialogueStops answers wanted before text left failed (Gets old new told begun after) fault
+      → DialogueStops answers wanted before text left failed (BeginsAndGets names old new told speaker after opening) fault
   stops_begun left failed fault at = record {
     earlier = at.earlier;
     later = at.later;

@@ -2,7 +2,7 @@
 -- inputs, where their segments are kept, or the segments that were taken, where these are forgotten. A question gets the text that a run of
 -- its own over these prints, or isn't answered while a segment is missing of a trace that is asked for complete.
 use Rattle.std.specs.Prelude.{◌≡◌, ◌≢◌, ◌≤◌, ◌⊎◌, ◌++◌, ◌∷◌, [], ⊤, ℕ, Bool, true, false, List, Option, None, Some, Result, Ok, Err, IfErr}
-use Rattle.std.specs.Prelude.{IfSome, is_some, length, map, option_map}
+use Rattle.std.specs.Prelude.{IfSome, is_some, length, map}
 use Rattle.htl_case.specs.Cases.{IsCaseOf}
 use Rattle.htl_command.specs.declared.question.Job.{Job}
 use Rattle.htl_command.specs.declared.question.Setting.{Setting}
@@ -16,8 +16,9 @@ use Rattle.htl_inputs.specs.declared.fault.RunFault.{RunFault}
 use Rattle.htl_inputs.specs.declared.fault.RunFault.TheVariants.{Incomplete, Memory, Read}
 use Rattle.htl_dialogue.specs.Dialogues.{Answers, Gets, answers_by}
 use Rattle.htl_dialogue.specs.Lines.{lines_of_dialogue}
-use Rattle.htl_dialogue.specs.Notes.{Note, begins}
+use Rattle.htl_dialogue.specs.Notes.{OwnNote}
 use Rattle.htl_dialogue.specs.declared.dialogue.DialogueFault.TheVariants.{Questions, Write}
+use Rattle.htl_dialogue.specs.declared.note.Note.TheVariants as hear
 use Rattle.htl_main.specs.Completeness.{IsComplete, IsLeastMissing}
 use Rattle.htl_main.specs.Coverages.{IsCoverage}
 use Rattle.htl_main.specs.Folding.{Folding, IsAskedOver, IsBeginningRefused, IsCollectionOf, IsFolded, IsFoldingRefused, IsHalfKnown}
@@ -192,7 +193,7 @@ answers_over world setting forgets symbols =
 
 -- ---- the beginning
 
--- what an audience is told before the first line: how much of their trace the inputs have, and which of them end within a segment
+-- what a speaker is told before the first line: how much of their trace the inputs have, and which of them end within a segment
 pub record Opening : Type 0 where
   pub coverage : Coverage
   pub cut : Option CutInputs
@@ -223,16 +224,11 @@ Begins false setting symbols texts (inputs read) opening = (read ≡ texts) × O
 Begins true setting symbols texts (segments taken) opening = OpensFolded setting symbols texts taken opening
 Begins folds setting symbols texts read opening = ⊥
 
--- the first note, on files of these names
-abbrev pub opening_note : List (List ℕ) → Coverage → Option CutInputs → Note
-opening_note names coverage cut =
-    begins names coverage.gaps coverage.complete_to (option_map (λ inputs. (inputs.first, inputs.others)) cut)
-
--- A sink got these replies, and the audience these notes, after it was told this of the files of these names.
-abbrev pub BeginsAndGets : {Host : Type 0} → List (List ℕ) → Option (List ℕ) → Option (List ℕ) → (Host → Note → Host) → Host → Host
-    → Opening → List ℕ → List Note → Type 0
-BeginsAndGets names old new told audience after opening replies notes =
-    Gets old new told audience after replies (opening_note names opening.coverage opening.cut ∷ notes)
+-- A sink got these replies, and the speaker these notes, after they were told this of the files of these names.
+abbrev pub BeginsAndGets : {Speaker : Type 0} → List (List ℕ) → Option (List ℕ) → Option (List ℕ) → (Speaker → OwnNote → Speaker)
+    → Speaker → Speaker → Opening → List ℕ → List OwnNote → Type 0
+BeginsAndGets names old new told speaker after opening replies notes =
+    Gets old new told speaker after replies (hear.Begins names opening.coverage opening.cut ∷ notes)
 
 -- why a run of its own over sources of these bytes would end, whatever it is asked of all events
 abbrev pub IsRunsCause : Setting → Option (List ℕ) → List (List ℕ) → List SourceState → RunFault → Type 0

@@ -4,7 +4,7 @@ use Rattle.htl_command.specs.declared.command.Dialogue.{Dialogue}
 use Rattle.htl_device.specs.States.{SinkState, SourceState}
 use Rattle.htl_inputs.specs.declared.fault.RunFault.TheVariants.{Memory}
 use Rattle.htl_dialogue.specs.Dialogues.{Converses, DialogueStops}
-use Rattle.htl_dialogue.specs.Notes.{Note}
+use Rattle.htl_dialogue.specs.Notes.{OwnNote}
 use Rattle.htl_dialogue.specs.declared.dialogue.Conversed.{Conversed}
 use Rattle.htl_main.specs.Origins.{by_fault}
 use Rattle.htl_world.specs.Endings.{IsUnopened, IsUntabled}
@@ -24,12 +24,12 @@ pub record Talk (S : Type 0) : Type 0 where
   pub left : SourceState
   pub old : SinkState
   pub new : SinkState
-  pub told : S → Note → S
+  pub told : S → OwnNote → S
   pub wants_absence : Bool
   pub before : S
   pub after : S
 
-abbrev pub talk : {S : Type 0} → SourceState → SourceState → SinkState → SinkState → (S → Note → S) → Bool → S → S → Talk S
+abbrev pub talk : {S : Type 0} → SourceState → SourceState → SinkState → SinkState → (S → OwnNote → S) → Bool → S → S → Talk S
 talk questions left old new told wants_absence before after = record {
   questions = questions;
   left = left;
@@ -42,7 +42,7 @@ talk questions left old new told wants_absence before after = record {
 }
 
 -- after the opening the output got these replies, and the speaker these notes
-abbrev pub HasGot : {S : Type 0} → List (List ℕ) → Talk S → Opening → List ℕ → List Note → Type 0
+abbrev pub HasGot : {S : Type 0} → List (List ℕ) → Talk S → Opening → List ℕ → List OwnNote → Type 0
 HasGot names talk opening = BeginsAndGets names talk.old.contents talk.new.contents talk.told talk.before talk.after opening
 
 -- A dialogue began over inputs of these texts and with this table, and this holds of what was read before the first line, and of each text

@@ -14,9 +14,8 @@ use crate::ask_fault::AskFault;
 use crate::dialogue::converse_lines;
 use crate::files::Files;
 use crate::kept::{Begun, begin};
-use crate::speaker::Speaker;
 use htl_device::{Sink, Source};
-use htl_dialogue::Conversed;
+use htl_dialogue::{Conversed, Note, Speaker};
 use htl_main::{Between, Refused};
 use htl_world::{World, as_bytes, open_all};
 use std::alloc::Global;
@@ -26,21 +25,21 @@ use std::thread::Threads;
 /// The first file that can't be opened is reported, or else the table, before a question is read.
 ///
 /// Afterwards `inputs` has what was opened, as far as it was read.
-pub fn converse<Rt: Threads + Sync, W: World, Q: Source, O: Sink, H: Speaker>(
+pub fn converse<Rt: Threads + Sync, W: World, Q: Source, O: Sink, S: Speaker>(
     alloc: Global,
     world: &mut W,
     files: &Files<Rt>,
     inputs: &mut Vec<W::Input>,
     questions: &mut Q,
     out: &mut O,
-    speaker: &mut H,
+    speaker: &mut S,
 ) -> Result<Conversed, AskFault>
     requires questions { IsOpen (Q.state questions.old) }
     requires out { (O.state out.old).failed ≡ false }
     ensures conversed { IsConversed (change (W.state world.old) (W.state world.new))
         (map W.Input.state inputs.new.items) files.now.dialogue.now
         (talk (Q.state questions.old) (Q.state questions.new) (O.state out.old) (O.state out.new)
-        H.told (H.wants_absence speaker.old) speaker.old speaker.new) result }
+        S.told (S.wants_absence speaker.old) speaker.old speaker.new) result }
     ensures untouched { IfErr (before_dialogue result)
         (λ _. (questions.new ≡ questions.old) × (out.new ≡ out.old)
         × (speaker.new ≡ speaker.old)) }
@@ -61,7 +60,7 @@ pub fn converse<Rt: Threads + Sync, W: World, Q: Source, O: Sink, H: Speaker>(
 }
 
 /// Replies to the lines over opened inputs.
-fn ask_opened<Rt: Threads + Sync, W: World, Q: Source, O: Sink, H: Speaker>(
+fn ask_opened<Rt: Threads + Sync, W: World, Q: Source, O: Sink, S: Speaker>(
     alloc: Global,
     world: &mut W,
     files: &Files<Rt>,
@@ -69,7 +68,7 @@ fn ask_opened<Rt: Threads + Sync, W: World, Q: Source, O: Sink, H: Speaker>(
     symbols: Option<&[u8]>,
     questions: &mut Q,
     out: &mut O,
-    speaker: &mut H,
+    speaker: &mut S,
 ) -> Result<Conversed, AskFault>
     requires ready { AreOpen (map W.Input.state inputs.old.items) }
     requires questions { IsOpen (Q.state questions.old) }
@@ -77,7 +76,7 @@ fn ask_opened<Rt: Threads + Sync, W: World, Q: Source, O: Sink, H: Speaker>(
     ensures outcome { IfKnown (map W.Input.state inputs.old.items) (λ texts. EndsConversing
         (W.state world.old).known (map W.Input.state inputs.new.items) files.now.dialogue.now
         (talk (Q.state questions.old) (Q.state questions.new) (O.state out.old) (O.state out.new)
-        H.told (H.wants_absence speaker.old) speaker.old speaker.new)
+        S.told (S.wants_absence speaker.old) speaker.old speaker.new)
         texts (option_copied symbols.entry) result) }
     ensures devices { ReportsDevices (Q.state questions.old).remaining (Q.state questions.new)
         (O.state out.new).failed result }
@@ -109,7 +108,7 @@ fn ask_opened<Rt: Threads + Sync, W: World, Q: Source, O: Sink, H: Speaker>(
         inputs,
         symbols,
     )?;
-    speaker.begins(&files.dialogue.files, coverage, cut);
+    speaker.hears(Note::Begins(&files.dialogue.files, coverage, cut));
     let conversed = converse_lines(
         alloc,
         world,

@@ -22,21 +22,23 @@ use crate::files::Files;
 use crate::kept::Kept;
 use htl_command::Job;
 use htl_device::{MAX_READS, Sink, Source, write_whole};
-use htl_dialogue::{Conversed, DialogueFault, Host, ReadAhead, Said, next_line, read_line};
+use htl_dialogue::{
+    Conversed, DialogueFault, Note, ReadAhead, Said, Speaker, next_line, read_line,
+};
 use htl_main::{Added, AnswerText, Refused, Remarks, RunFault};
 use htl_world::World;
 use std::alloc::{AllocError, Global};
 use std::thread::Threads;
 
 /// Replies to each line of the source up to `quit` or its end, and returns how that went. A line
-/// may name files to read: later lines are answered from these too. The host hears that a line is
-/// awaited, and before the reply why the line is wrong, what its files added, or why its question
-/// isn't answered; after the reply to a question it hears what is told of that and of its answer.
+/// may name files to read: later lines are answered from these too. The speaker hears that a line
+/// is awaited, and before the reply why the line is wrong, what its files added, or why its question
+/// isn't answered; after the reply to a question, what is told of that and of its answer.
 /// `has_table` says whether addresses are named by a table of symbols.
 ///
 /// All lines that were read have their replies before more is read, and nothing is read once a line
 /// ends the dialogue.
-pub(crate) fn converse_lines<Rt: Threads + Sync, W: World, Q: Source, O: Sink, H: Host>(
+pub(crate) fn converse_lines<Rt: Threads + Sync, W: World, Q: Source, O: Sink, S: Speaker>(
     alloc: Global,
     world: &mut W,
     files: &Files<Rt>,
@@ -44,24 +46,24 @@ pub(crate) fn converse_lines<Rt: Threads + Sync, W: World, Q: Source, O: Sink, H
     has_table: bool,
     questions: &mut Q,
     out: &mut O,
-    host: &mut H,
+    speaker: &mut S,
 ) -> Result<Conversed, DialogueFault>
     requires workers { WorkersFit files.now.dialogue.now.setting.workers }
     requires questions { IsOpen (Q.state questions.old) }
     requires out { (O.state out.old).failed ≡ false }
-    // Each line gets its reply, and the host its notes.
+    // Each line gets its reply, and the speaker the notes on it.
     ensures ok { (text : List ℕ) → (Q.state questions.old).remaining ≡ Some text → IfOk result
         (Converses (answers_from (W.state world.old).known
-        files.now.dialogue.now.setting (is_state kept.old) has_table) (H.wants_absence host.old)
-        kept.old text (Gets (O.state out.old).contents (O.state out.new).contents H.told host.old
-        host.new)) }
+        files.now.dialogue.now.setting (is_state kept.old) has_table) (S.wants_absence speaker.old)
+        kept.old text (Gets (O.state out.old).contents (O.state out.new).contents S.told speaker.old
+        speaker.new)) }
     // After a fault, the lines before it have their replies; if a read failed, these are all that
     // were read.
     ensures stops { (text : List ℕ) → (Q.state questions.old).remaining ≡ Some text → IfErr result
         (DialogueStops (answers_from (W.state world.old).known
-        files.now.dialogue.now.setting (is_state kept.old) has_table) (H.wants_absence host.old)
+        files.now.dialogue.now.setting (is_state kept.old) has_table) (S.wants_absence speaker.old)
         kept.old text (Q.state questions.new).remaining (Q.state questions.new).failed
-        (Gets (O.state out.old).contents (O.state out.new).contents H.told host.old host.new)) }
+        (Gets (O.state out.old).contents (O.state out.new).contents S.told speaker.old speaker.new)) }
     ensures fine { OnOk result (((Q.state questions.new).failed ≡ false)
         × ((O.state out.new).failed ≡ false)) }
     // What failed is reported, and nothing else is reported as failed.
@@ -77,13 +79,13 @@ pub(crate) fn converse_lines<Rt: Threads + Sync, W: World, Q: Source, O: Sink, H
     let mut held = ReadAhead::new(alloc)?;
     let mut conversed = Conversed::fine();
     for _line in 0..MAX_READS {
-        host.awaits();
+        speaker.hears(Note::Awaits);
         let next = next_line(alloc, questions, &mut held)?;
         let said = read_line(alloc, &next.line, kept.forgets())?;
         if ends(&said) {
             return Ok(conversed);
         }
-        let line = reply(alloc, world, files, kept, has_table, &said, out, host)?;
+        let line = reply(alloc, world, files, kept, has_table, &said, out, speaker)?;
         conversed = conversed.then(line);
         if next.is_last {
             return Ok(conversed);
@@ -99,8 +101,8 @@ fn ends(said: &Said) -> bool
     matches!(said, Said::Quits)
 }
 
-/// Writes the reply to a line, and tells the host of it.
-fn reply<Rt: Threads + Sync, W: World, O: Sink, H: Host>(
+/// Writes the reply to a line, and tells the speaker of it.
+fn reply<Rt: Threads + Sync, W: World, O: Sink, S: Speaker>(
     alloc: Global,
     world: &mut W,
     files: &Files<Rt>,
@@ -108,21 +110,21 @@ fn reply<Rt: Threads + Sync, W: World, O: Sink, H: Host>(
     has_table: bool,
     said: &Said,
     out: &mut O,
-    host: &mut H,
+    speaker: &mut S,
 ) -> Result<Conversed, DialogueFault>
     requires workers { WorkersFit files.now.dialogue.now.setting.workers }
     requires out { (O.state out.old).failed ≡ false }
     requires asks { IsOfForm (is_state kept.old) said.now }
     ensures ok { IfOk result (Replies (answers_from (W.state world.old).known
-        files.now.dialogue.now.setting (is_state kept.old) has_table) (H.wants_absence host.old)
-        said.now kept.old kept.new (O.state out.old).contents (O.state out.new).contents H.told
-        host.old host.new) }
+        files.now.dialogue.now.setting (is_state kept.old) has_table) (S.wants_absence speaker.old)
+        said.now kept.old kept.new (O.state out.old).contents (O.state out.new).contents S.told
+        speaker.old speaker.new) }
     ensures fine { OnOk result ((O.state out.new).failed ≡ false) }
     ensures err { IfErr result (IsRefusedReply (answers_from (W.state world.old).known
         files.now.dialogue.now.setting (is_state kept.old) has_table) said.now kept.old
-        (O.state out.old).contents (O.state out.new).contents (O.state out.new).failed H.told
-        host.old host.new) }
-    ensures same { H.wants_absence host.new ≡ H.wants_absence host.old }
+        (O.state out.old).contents (O.state out.new).contents (O.state out.new).failed S.told
+        speaker.old speaker.new) }
+    ensures same { S.wants_absence speaker.new ≡ S.wants_absence speaker.old }
     ensures form { OnOk result (is_state kept.new ≡ is_state kept.old) }
     ensures asked { Asks (change (W.state world.old) (W.state world.new))
         (LineAsks (saying said.now)) }
@@ -130,18 +132,18 @@ fn reply<Rt: Threads + Sync, W: World, O: Sink, H: Host>(
     match said {
         Said::Nothing | Said::Quits => Ok(Conversed::fine()),
         Said::Wrong(fault) => {
-            host.refuses(fault);
+            speaker.hears(Note::Refuses(fault));
             write(out, b"\n")?;
             Ok(Conversed {
                 has_wrong: true,
                 first_fault: None,
             })
         }
-        Said::Asks(job) => reply_to(alloc, files, kept, has_table, job, out, host),
+        Said::Asks(job) => reply_to(alloc, files, kept, has_table, job, out, speaker),
         Said::Reads(names) => {
             let ended = files.read(alloc, world, kept, names)?;
             let text = reading_reply(alloc, ended)?;
-            host.reads(names, ended);
+            speaker.hears(Note::Reads(names, ended));
             write(out, text.as_bytes())?;
             Ok(Conversed {
                 has_wrong: false,
@@ -151,42 +153,42 @@ fn reply<Rt: Threads + Sync, W: World, O: Sink, H: Host>(
     }
 }
 
-/// Writes the reply to a question, and tells the host why it isn't answered, or of its answer.
-fn reply_to<Rt: Threads + Sync, O: Sink, H: Host>(
+/// Writes the reply to a question, and tells the speaker why it isn't answered, or of its answer.
+fn reply_to<Rt: Threads + Sync, O: Sink, S: Speaker>(
     alloc: Global,
     files: &Files<Rt>,
     kept: &Kept,
     has_table: bool,
     job: &Job,
     out: &mut O,
-    host: &mut H,
+    speaker: &mut S,
 ) -> Result<Conversed, DialogueFault>
     requires workers { WorkersFit files.now.dialogue.now.setting.workers }
     requires out { (O.state out.old).failed ≡ false }
     requires asks { is_state kept.now ≡ true → needs_events job.now ≡ false }
     ensures ok { (world : Known) → IfOk result (Replies (answers_from world
-        files.now.dialogue.now.setting (is_state kept.now) has_table) (H.wants_absence host.old)
+        files.now.dialogue.now.setting (is_state kept.now) has_table) (S.wants_absence speaker.old)
         (Said.Asks job.now) kept.now kept.now (O.state out.old).contents (O.state out.new).contents
-        H.told host.old host.new) }
+        S.told speaker.old speaker.new) }
     ensures fine { OnOk result ((O.state out.new).failed ≡ false) }
     ensures err { (world : Known) → IfErr result (IsRefusedReply (answers_from world
         files.now.dialogue.now.setting (is_state kept.now) has_table) (Said.Asks job.now) kept.now
-        (O.state out.old).contents (O.state out.new).contents (O.state out.new).failed H.told
-        host.old host.new) }
-    ensures same { H.wants_absence host.new ≡ H.wants_absence host.old }
+        (O.state out.old).contents (O.state out.new).contents (O.state out.new).failed S.told
+        speaker.old speaker.new) }
+    ensures same { S.wants_absence speaker.new ≡ S.wants_absence speaker.old }
 {
     match kept.answer(files.rt, alloc, files.dialogue.setting, job) {
         Ok(AnswerText { mut lines, remarks }) => {
             lines.push(b'\n')?;
             write(out, &lines)?;
-            tell(kept, has_table, job, remarks, host);
+            tell(kept, has_table, job, remarks, speaker);
             Ok(Conversed::fine())
         }
         Err(fault) => {
             if is_memory(fault) {
                 return Err(DialogueFault::NoMemory);
             }
-            host.declines(fault);
+            speaker.hears(Note::Declines(fault));
             write(out, b"\n")?;
             Ok(Conversed {
                 has_wrong: false,
@@ -223,16 +225,16 @@ fn fault_of(ended: Result<Added, Refused>) -> Option<RunFault>
     }
 }
 
-/// Tells a host that wants to know it why nothing can be found of what the job's question is about,
-/// and what is told of its answer.
-fn tell<H: Host>(kept: &Kept, has_table: bool, job: &Job, remarks: Remarks, host: &mut H)
-    ensures told { Tells has_table (HasAbsenceIn kept.now) remarks (H.wants_absence host.old)
-        H.told host.old job.now host.new }
-    ensures same { H.wants_absence host.new ≡ H.wants_absence host.old }
+/// Tells a speaker who wants to know it why nothing can be found of what the job's question is
+/// about, and what is told of its answer.
+fn tell<S: Speaker>(kept: &Kept, has_table: bool, job: &Job, remarks: Remarks, speaker: &mut S)
+    ensures told { Tells has_table (HasAbsenceIn kept.now) remarks (S.wants_absence speaker.old)
+        S.told speaker.old job.now speaker.new }
+    ensures same { S.wants_absence speaker.new ≡ S.wants_absence speaker.old }
 {
-    if host.notes_absence() {
+    if speaker.notes_absence() {
         let absence = kept.absence(job);
-        host.answered(job, absence, told_of(has_table, remarks));
+        speaker.hears(Note::Answered(job, absence, told_of(has_table, remarks)));
     }
 }
 

@@ -5,9 +5,8 @@
 //! Here the answers come from what is kept of the files, all segments or what was folded of them.
 //!
 //! Files, in reading order: `conversing.rt` (a dialogue, from the names that it begins with to its
-//! end), `speaker.rt` (who types the lines), `ask_fault.rt` (why it ends before they do),
-//! `dialogue.rt` (the replies to the lines), `files.rt` (the files that a line names), `kept.rt`
-//! (what is kept of them).
+//! end), `ask_fault.rt` (why it ends before its lines do), `dialogue.rt` (the replies to the lines),
+//! `files.rt` (the files that a line names), `kept.rt` (what is kept of them).
 //!
 //! `specs/` is read in the order of `specs/Lib`: `LineRounds` (which names lines ask for), `Asking`
 //! (who answers from what was read), `Outcomes` (what comes of a dialogue), `Loads` (the same of what
@@ -19,9 +18,8 @@ mod conversing;
 mod dialogue;
 mod files;
 mod kept;
-mod speaker;
 
 pub use ask_fault::AskFault;
 pub use conversing::converse;
 pub use files::Files;
-pub use speaker::Speaker;
+pub use htl_dialogue::{Note, Speaker};

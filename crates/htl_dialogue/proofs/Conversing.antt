@@ -6,11 +6,12 @@ use Rattle.std.specs.List.{list_any}
 use Rattle.std.proofs.lemmas.List.{append-nil, length_push}
 use Rattle.htl_dialogue.specs.Dialogues.{Answers, Converses, Gets, asked_lines, before_end, is_end, last_wait}
 use Rattle.htl_dialogue.specs.Lines.{lines_of_dialogue}
-use Rattle.htl_dialogue.specs.Notes.{Note, awaits}
+use Rattle.htl_dialogue.specs.Notes.{OwnNote}
 use Rattle.htl_dialogue.specs.Reading.{IsLine, IsNext}
 use Rattle.htl_dialogue.specs.Replying.{KeepsFault}
 use Rattle.htl_dialogue.specs.Sayings.{saying, saying_in, saying_of}
 use Rattle.htl_dialogue.specs.declared.dialogue.Conversed.{Conversed}
+use Rattle.htl_dialogue.specs.declared.note.Note.TheVariants as hear
 use Rattle.htl_dialogue.specs.declared.reading.NextLine.{NextLine}
 use Rattle.htl_dialogue.specs.declared.saying.Said.{Said}
 use Rattle.htl_dialogue.proofs.Exchanging.{AreReplied, IsNextReply, none_replied, one_replied}
@@ -23,8 +24,8 @@ abbrev pub line_is_end : List ℕ → Bool
 line_is_end line = is_end (saying_of line)
 
 -- So many lines were read of a text of which this is left, and got their replies and their notes. None ends the dialogue.
-pub record Progress {S Host : Type 0} (answers : Answers S) (wanted : Bool) (told : Host → Note → Host) (initial : S) (text : List ℕ)
-    (old : Option (List ℕ)) (host : Host) (left : Option (List ℕ)) (state : S) (new : Option (List ℕ)) (now : Host)
+pub record Progress {S Speaker : Type 0} (answers : Answers S) (wanted : Bool) (told : Speaker → OwnNote → Speaker) (initial : S) (text : List ℕ)
+    (old : Option (List ℕ)) (speaker : Speaker) (left : Option (List ℕ)) (state : S) (new : Option (List ℕ)) (now : Speaker)
     (conversed : Conversed) (count : ℕ) : Type 0 where
   pub read : List ℕ
   pub rest : List ℕ
@@ -34,7 +35,7 @@ pub record Progress {S Host : Type 0} (answers : Answers S) (wanted : Bool) (tol
   pub reads : (more : List ℕ) → lines_of_dialogue (read ++ more) ≡ lines ++ lines_of_dialogue more
   pub asks : (more : List (List ℕ)) → before_end (lines ++ more) ≡ lines ++ before_end more
   pub goes_on : (more : List (List ℕ)) → list_any line_is_end (lines ++ more) ≡ list_any line_is_end more
-  pub are : AreReplied answers wanted told initial old host lines state new now conversed
+  pub are : AreReplied answers wanted told initial old speaker lines state new now conversed
   pub each : length lines ≡ count
 
 -- A line was read, and this is said of it in a dialogue that forgets events or keeps them.
@@ -51,8 +52,8 @@ asked_none line more ends = rw ends refl
 pub asked_one : (line : List ℕ) (more : List (List ℕ)) → line_is_end line ≡ false → before_end (line ∷ more) ≡ line ∷ before_end more
 asked_one line more goes_on = rw goes_on refl
 
-waits : (text : List ℕ) (b : Bool) (wait : List Note) → list_any line_is_end (lines_of_dialogue text) ≡ b
-    → (if b then awaits ∷ [] else []) ≡ wait → last_wait text ≡ wait
+waits : (text : List ℕ) (b : Bool) (wait : List OwnNote) → list_any line_is_end (lines_of_dialogue text) ≡ b
+    → (if b then hear.Awaits ∷ [] else []) ≡ wait → last_wait text ≡ wait
 waits text b wait is of = rw is of
 
 any_first : (line : List ℕ) (more : List (List ℕ)) → line_is_end line ≡ true → list_any line_is_end (line ∷ more) ≡ true
@@ -62,11 +63,11 @@ any_later : (line : List ℕ) (more : List (List ℕ)) → line_is_end line ≡ 
     → list_any line_is_end (line ∷ more) ≡ list_any line_is_end more
 any_later line more goes_on = rw goes_on refl
 
-module _ {S Host : Type 0} {answers : Answers S} {wanted : Bool} {told : Host → Note → Host} {initial : S} {text : List ℕ}
-    {old : Option (List ℕ)} {host : Host} where
+module _ {S Speaker : Type 0} {answers : Answers S} {wanted : Bool} {told : Speaker → OwnNote → Speaker} {initial : S} {text : List ℕ}
+    {old : Option (List ℕ)} {speaker : Speaker} where
   -- nothing was read
   pub begins : {left : Option (List ℕ)} (conversed : Conversed) → left ≡ Some text → conversed.has_wrong ≡ false
-      → conversed.first_fault ≡ None → Progress answers wanted told initial text old host left initial old host conversed 0
+      → conversed.first_fault ≡ None → Progress answers wanted told initial text old speaker left initial old speaker conversed 0
   begins conversed is right fine = record {
     read = [];
     rest = text;
@@ -81,10 +82,10 @@ module _ {S Host : Type 0} {answers : Answers S} {wanted : Bool} {told : Host �
   }
 
   -- the line ends the dialogue
-  pub ended : {left after new : Option (List ℕ)} {state : S} {now mid : Host} {conversed : Conversed} {count : ℕ} {next : NextLine}
-      {of : Said} → Progress answers wanted told initial text old host left state new now conversed count → mid ≡ told now awaits
+  pub ended : {left after new : Option (List ℕ)} {state : S} {now mid : Speaker} {conversed : Conversed} {count : ℕ} {next : NextLine}
+      {of : Said} → Progress answers wanted told initial text old speaker left state new now conversed count → mid ≡ told now hear.Awaits
       → Takes answers.forgets left after next of → is_end (saying of) ≡ true
-      → Converses answers wanted initial text (Gets old new told host mid) conversed
+      → Converses answers wanted initial text (Gets old new told speaker mid) conversed
   ended {left = left} {after = after} {state = state} {now = now} {mid = mid} {next = next} {of = of} so_far waited line ends =
       let first = first_line so_far.rest left after next so_far.left_is line.found in
       let same = line.says first.bytes first.is in
@@ -93,7 +94,7 @@ module _ {S Host : Type 0} {answers : Answers S} {wanted : Bool} {told : Host �
       ∙ ap (λ l. so_far.lines ++ l) first.lines in
       let all : asked_lines text ≡ so_far.lines = ap before_end lines ∙ so_far.asks (first.bytes ∷ first.others)
       ∙ ap (λ l. so_far.lines ++ l) (asked_none first.bytes first.others is) ∙ append-nil so_far.lines in
-      let wait : last_wait text ≡ awaits ∷ [] = waits text true (awaits ∷ []) (ap (list_any line_is_end) lines
+      let wait : last_wait text ≡ hear.Awaits ∷ [] = waits text true (hear.Awaits ∷ []) (ap (list_any line_is_end) lines
       ∙ so_far.goes_on (first.bytes ∷ first.others) ∙ any_first first.bytes first.others is) refl in
       let are = so_far.are in
       record {
@@ -101,18 +102,18 @@ module _ {S Host : Type 0} {answers : Answers S} {wanted : Bool} {told : Host �
         replies = are.replies;
         notes = are.notes;
         exchanged = rw all (are.exchanged);
-        got = (are.written, rw wait (one_more told host now mid are.notes are.heard waited));
+        got = (are.written, rw wait (one_more told speaker now mid are.notes are.heard waited));
         any = rw all (are.any);
         first = are.first;
       }
 
   -- the line got its reply and its notes, and is the last
-  pub replied_last : {left rest mid_out new : Option (List ℕ)} {before after : S} {now end : Host} {conversed all : Conversed}
+  pub replied_last : {left rest mid_out new : Option (List ℕ)} {before after : S} {now end : Speaker} {conversed all : Conversed}
       {count : ℕ} {next : NextLine} {of : Said}
-      → Progress answers wanted told initial text old host left before mid_out now conversed count
+      → Progress answers wanted told initial text old speaker left before mid_out now conversed count
       → Takes answers.forgets left rest next of → is_end (saying of) ≡ false
       → IsNextReply answers wanted told of before after mid_out new now end conversed all → next.is_last ≡ true
-      → Converses answers wanted initial text (Gets old new told host end) all
+      → Converses answers wanted initial text (Gets old new told speaker end) all
   replied_last {left = left} {rest = rest} {after = after} {next = next} {of = of} so_far line goes_on reply last =
       let first = first_line so_far.rest left rest next so_far.left_is line.found in
       let same = line.says first.bytes first.is in
@@ -135,12 +136,12 @@ module _ {S Host : Type 0} {answers : Answers S} {wanted : Bool} {told : Host �
       }
 
   -- or lines are left
-  pub replied : {left rest mid_out new : Option (List ℕ)} {before after : S} {now end : Host} {conversed all : Conversed}
+  pub replied : {left rest mid_out new : Option (List ℕ)} {before after : S} {now end : Speaker} {conversed all : Conversed}
       {count : ℕ} {next : NextLine} {of : Said}
-      → Progress answers wanted told initial text old host left before mid_out now conversed count
+      → Progress answers wanted told initial text old speaker left before mid_out now conversed count
       → Takes answers.forgets left rest next of → is_end (saying of) ≡ false
       → IsNextReply answers wanted told of before after mid_out new now end conversed all → next.is_last ≡ false
-      → Progress answers wanted told initial text old host rest after new end all (count + 1)
+      → Progress answers wanted told initial text old speaker rest after new end all (count + 1)
   replied {left = left} {rest = rest} {next = next} {of = of} so_far line goes_on reply more =
       let first = first_line so_far.rest left rest next so_far.left_is line.found in
       let same = line.says first.bytes first.is in

@@ -5,7 +5,7 @@ use Rattle.htl_command.specs.declared.fault.ParseFault.{ParseFault}
 use Rattle.htl_command.specs.declared.question.Job.{Job}
 use Rattle.htl_inputs.specs.declared.fault.RunFault.{RunFault}
 use Rattle.htl_dialogue.specs.Dialogues.{Answers, AreExchanges, Converses, GotAt, IsReplied, DialogueStops, asked_lines}
-use Rattle.htl_dialogue.specs.Notes.{AreTold, AreToldOf, IsFaultOf, Note}
+use Rattle.htl_dialogue.specs.Notes.{AreTold, AreToldOf, IsFaultOf, OwnNote}
 use Rattle.htl_dialogue.specs.Sayings.{Saying, asks, nothing, quits, reads, saying_in, wrong}
 use Rattle.htl_dialogue.specs.declared.dialogue.Conversed.{Conversed}
 use Rattle.htl_dialogue.specs.declared.dialogue.DialogueFault.{DialogueFault}
@@ -25,7 +25,7 @@ module _ {A B : Type 0} (one : Answers A) (other : Answers B) (alike : one.forge
     → other.has_absence b job absence)
     (reads_too : (a : A) (b : B) (files : List (List ℕ)) (after : A) (ended : Result Added Refused) → Follows a b
     → one.reads a files after ended → (there : B) × Follows after there × other.reads b files there ended) where
-  replied_too : (IsWhy : ParseFault → Type 0) (a : A) (b : B) (said : Saying) (after : A) (reply : List ℕ) (notes : List Note)
+  replied_too : (IsWhy : ParseFault → Type 0) (a : A) (b : B) (said : Saying) (after : A) (reply : List ℕ) (notes : List OwnNote)
       → Follows a b → IsReplied one IsWhy a said after reply notes
       → (there : B) × Follows after there × IsReplied other IsWhy b said there reply notes
   replied_too IsWhy a b (asks job) after reply notes follows is =
@@ -36,14 +36,14 @@ module _ {A B : Type 0} (one : Answers A) (other : Answers B) (alike : one.forge
   replied_too IsWhy a b nothing after reply notes follows is = (b, rw (is.0) follows, (refl, is.1, is.2))
   replied_too IsWhy a b quits after reply notes follows is = (b, rw (is.0) follows, (refl, is.1, is.2))
 
-  told_of_too : (wanted : Bool) (a : A) (b : B) (job : Job) (notes : List Note) → Follows a b
+  told_of_too : (wanted : Bool) (a : A) (b : B) (job : Job) (notes : List OwnNote) → Follows a b
       → AreToldOf one.has_table (one.has_outcome a) (one.has_absence a) wanted job notes
       → AreToldOf other.has_table (other.has_outcome b) (other.has_absence b) wanted job notes
   told_of_too false a b job notes follows is = is
   told_of_too true a b job notes follows is =
       (is.0, outcome_too a b job is.0 follows is.1, is.2, absence_too a b job is.2 follows is.3, rw (← same_table) is.4)
 
-  told_too : (wanted : Bool) (a : A) (b : B) (said : Saying) (notes : List Note) → Follows a b
+  told_too : (wanted : Bool) (a : A) (b : B) (said : Saying) (notes : List OwnNote) → Follows a b
       → AreTold one.has_table (one.has_outcome a) (one.has_absence a) wanted said notes
       → AreTold other.has_table (other.has_outcome b) (other.has_absence b) wanted said notes
   told_too wanted a b (asks job) notes follows is = told_of_too wanted a b job notes follows is
@@ -52,7 +52,7 @@ module _ {A B : Type 0} (one : Answers A) (other : Answers B) (alike : one.forge
   told_too wanted a b nothing notes follows is = is
   told_too wanted a b quits notes follows is = is
 
-  exchanges_too : (wanted : Bool) (a : A) (b : B) (lines : List (List ℕ)) (after : A) (replies : List ℕ) (notes : List Note)
+  exchanges_too : (wanted : Bool) (a : A) (b : B) (lines : List (List ℕ)) (after : A) (replies : List ℕ) (notes : List OwnNote)
       → Follows a b → AreExchanges one wanted a lines after replies notes
       → (there : B) × Follows after there × AreExchanges other wanted b lines there replies notes
   exchanges_too wanted a b [] after replies notes follows are = (b, rw (are.0) follows, (refl, are.1, are.2))
@@ -83,7 +83,7 @@ module _ {A B : Type 0} (one : Answers A) (other : Answers B) (alike : one.forge
       )
 
   -- A dialogue with the first that comes to its end is one with the other.
-  pub converses_too : (wanted : Bool) (a : A) (b : B) (text : List ℕ) (Got : List ℕ → List Note → Type 0) (conversed : Conversed)
+  pub converses_too : (wanted : Bool) (a : A) (b : B) (text : List ℕ) (Got : List ℕ → List OwnNote → Type 0) (conversed : Conversed)
       → Follows a b → Converses one wanted a text Got conversed → Converses other wanted b text Got conversed
   converses_too wanted a b text Got conversed follows is =
       let all = exchanges_too wanted a b (asked_lines text) is.after is.replies is.notes follows is.exchanged in
@@ -97,8 +97,8 @@ module _ {A B : Type 0} (one : Answers A) (other : Answers B) (alike : one.forge
         first = is.first;
       }
 
-  got_too : (a : A) (b : B) (failed : Bool) (Got : List ℕ → List Note → Type 0) (fault : DialogueFault) (later : List (List ℕ))
-      (replies : List ℕ) (notes : List Note) → Follows a b → GotAt one a failed Got fault later replies notes
+  got_too : (a : A) (b : B) (failed : Bool) (Got : List ℕ → List OwnNote → Type 0) (fault : DialogueFault) (later : List (List ℕ))
+      (replies : List ℕ) (notes : List OwnNote) → Follows a b → GotAt one a failed Got fault later replies notes
       → GotAt other b failed Got fault later replies notes
   got_too a b failed Got Questions later replies notes follows is = is
   got_too a b failed Got NoMemory later replies notes follows is = is
@@ -110,7 +110,7 @@ module _ {A B : Type 0} (one : Answers A) (other : Answers B) (alike : one.forge
 
   -- So is one that a fault ends.
   pub stops_too : (wanted : Bool) (a : A) (b : B) (text : List ℕ) (left : Option (List ℕ)) (failed : Bool)
-      (Got : List ℕ → List Note → Type 0) (fault : DialogueFault) → Follows a b
+      (Got : List ℕ → List OwnNote → Type 0) (fault : DialogueFault) → Follows a b
       → DialogueStops one wanted a text left failed Got fault → DialogueStops other wanted b text left failed Got fault
   stops_too wanted a b text left failed Got fault follows is =
       let all = exchanges_too wanted a b is.earlier is.state is.replies is.notes follows is.exchanged in

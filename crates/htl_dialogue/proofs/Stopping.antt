@@ -8,13 +8,14 @@ use Rattle.htl_device.specs.declared.whole.ReadFault.{ReadFault}
 use Rattle.htl_device.specs.declared.whole.ReadFault.TheVariants as reads
 use Rattle.htl_dialogue.specs.Dialogues.{Answers, AreRead, Gets, GotAt, DialogueStops, asked_lines, before_end, is_end}
 use Rattle.htl_dialogue.specs.Lines.{lines_of_dialogue}
-use Rattle.htl_dialogue.specs.Notes.{Note, awaits}
+use Rattle.htl_dialogue.specs.Notes.{OwnNote}
 use Rattle.htl_dialogue.specs.Reading.{IsBegun}
 use Rattle.htl_dialogue.specs.Replying.{IsRefusedReply, of_read}
 use Rattle.htl_dialogue.specs.Sayings.{saying}
 use Rattle.htl_dialogue.specs.declared.dialogue.Conversed.{Conversed}
 use Rattle.htl_dialogue.specs.declared.dialogue.DialogueFault.{DialogueFault}
 use Rattle.htl_dialogue.specs.declared.dialogue.DialogueFault.TheVariants.{Questions, Write, NoMemory}
+use Rattle.htl_dialogue.specs.declared.note.Note.TheVariants as hear
 use Rattle.htl_dialogue.specs.declared.reading.NextLine.{NextLine}
 use Rattle.htl_dialogue.specs.declared.saying.Said.{Said}
 use Rattle.htl_dialogue.proofs.Conversing.{Progress, Takes, asked_one, line_is_end}
@@ -39,9 +40,9 @@ pub read_failed : (fault : ReadFault) → of_read fault ≡ Questions → fault 
 read_failed reads.Failed is = refl
 read_failed reads.NoMemory is = cc
 
-module _ {S Host : Type 0} {answers : Answers S} {wanted : Bool} {told : Host → Note → Host} {initial : S} {text : List ℕ}
-    {old : Option (List ℕ)} {host : Host} {left : Option (List ℕ)} {state : S} {new : Option (List ℕ)} {now : Host}
-    {conversed : Conversed} {count : ℕ} (so_far : Progress answers wanted told initial text old host left state new now conversed count)
+module _ {S Speaker : Type 0} {answers : Answers S} {wanted : Bool} {told : Speaker → OwnNote → Speaker} {initial : S} {text : List ℕ}
+    {old : Option (List ℕ)} {speaker : Speaker} {left : Option (List ℕ)} {state : S} {new : Option (List ℕ)} {now : Speaker}
+    {conversed : Conversed} {count : ℕ} (so_far : Progress answers wanted told initial text old speaker left state new now conversed count)
   where
     -- the lines that are left
     cut_at : asked_lines text ≡ so_far.lines ++ asked_lines so_far.rest
@@ -62,10 +63,10 @@ module _ {S Host : Type 0} {answers : Answers S} {wanted : Bool} {told : Host �
         taken (Some later) is = so_far.is ∙ ap (λ l. so_far.read ++ l) is ∙ sym (append_assoc so_far.read begun.bytes later)
 
     -- the lines so far are all that got their replies
-    stops_here : (after : Option (List ℕ)) (mid : Host) (failed : Bool) (fault : DialogueFault)
-        → GotAt answers state failed (Gets old new told host mid) fault (asked_lines so_far.rest) so_far.are.replies so_far.are.notes
+    stops_here : (after : Option (List ℕ)) (mid : Speaker) (failed : Bool) (fault : DialogueFault)
+        → GotAt answers state failed (Gets old new told speaker mid) fault (asked_lines so_far.rest) so_far.are.replies so_far.are.notes
         → (failed ≡ true → AreRead text after so_far.lines)
-        → DialogueStops answers wanted initial text after failed (Gets old new told host mid) fault
+        → DialogueStops answers wanted initial text after failed (Gets old new told speaker mid) fault
     stops_here after mid failed fault got in_time = record {
       earlier = so_far.lines;
       later = asked_lines so_far.rest;
@@ -79,15 +80,15 @@ module _ {S Host : Type 0} {answers : Answers S} {wanted : Bool} {told : Host �
     }
 
     -- a line was awaited
-    pub stopped : (after : Option (List ℕ)) (mid : Host) (failed : Bool) (fault : DialogueFault) → mid ≡ told now awaits
+    pub stopped : (after : Option (List ℕ)) (mid : Speaker) (failed : Bool) (fault : DialogueFault) → mid ≡ told now hear.Awaits
         → IsBeforeReply fault → (failed ≡ true → AreRead text after so_far.lines)
-        → DialogueStops answers wanted initial text after failed (Gets old new told host mid) fault
+        → DialogueStops answers wanted initial text after failed (Gets old new told speaker mid) fault
     stopped after mid failed fault waited is in_time = stops_here after mid failed fault (went fault is) in_time
       where
-        gets : Gets old new told host mid so_far.are.replies (so_far.are.notes ++ awaits ∷ [])
-        gets = (so_far.are.written, one_more told host now mid so_far.are.notes so_far.are.heard waited)
+        gets : Gets old new told speaker mid so_far.are.replies (so_far.are.notes ++ hear.Awaits ∷ [])
+        gets = (so_far.are.written, one_more told speaker now mid so_far.are.notes so_far.are.heard waited)
 
-        went : (fault : DialogueFault) → IsBeforeReply fault → GotAt answers state failed (Gets old new told host mid) fault
+        went : (fault : DialogueFault) → IsBeforeReply fault → GotAt answers state failed (Gets old new told speaker mid) fault
             (asked_lines so_far.rest) so_far.are.replies so_far.are.notes
         went Write is = absurd is
         went Questions is = inl gets
@@ -95,24 +96,24 @@ module _ {S Host : Type 0} {answers : Answers S} {wanted : Bool} {told : Host �
 
     -- or none was
     pub stopped_between : (after : Option (List ℕ)) (failed : Bool) (fault : DialogueFault) → IsBeforeReply fault → failed ≡ false
-        → DialogueStops answers wanted initial text after failed (Gets old new told host now) fault
+        → DialogueStops answers wanted initial text after failed (Gets old new told speaker now) fault
     stopped_between after failed fault is fine = stops_here after now failed fault (went fault is) (λ bad. cc)
       where
-        gets : Gets old new told host now so_far.are.replies so_far.are.notes
+        gets : Gets old new told speaker now so_far.are.replies so_far.are.notes
         gets = (so_far.are.written, so_far.are.heard)
 
-        went : (fault : DialogueFault) → IsBeforeReply fault → GotAt answers state failed (Gets old new told host now) fault
+        went : (fault : DialogueFault) → IsBeforeReply fault → GotAt answers state failed (Gets old new told speaker now) fault
             (asked_lines so_far.rest) so_far.are.replies so_far.are.notes
         went Write is = absurd is
         went Questions is = inr (fine, gets)
         went NoMemory is = inr (fine, gets)
 
     -- the reply to a line could not be written, or there was none
-    pub unreplied : {rest : Option (List ℕ)} {next : NextLine} {of : Said} (after end_out : Option (List ℕ)) (mid end : Host)
-        (failed write_failed : Bool) (fault : DialogueFault) → mid ≡ told now awaits → Takes answers.forgets left rest next of
+    pub unreplied : {rest : Option (List ℕ)} {next : NextLine} {of : Said} (after end_out : Option (List ℕ)) (mid end : Speaker)
+        (failed write_failed : Bool) (fault : DialogueFault) → mid ≡ told now hear.Awaits → Takes answers.forgets left rest next of
         → is_end (saying of) ≡ false
         → IsRefusedReply answers of state new end_out write_failed told mid end fault → failed ≡ false
-        → DialogueStops answers wanted initial text after failed (Gets old end_out told host end) fault
+        → DialogueStops answers wanted initial text after failed (Gets old end_out told speaker end) fault
     unreplied after end_out mid end failed write_failed Questions waited line goes_on refused fine = absurd refused
     unreplied after end_out mid end failed write_failed NoMemory waited line goes_on refused fine =
         rw (refused.0, refused.2) (stopped after mid failed NoMemory waited tt (λ bad. cc))
@@ -140,7 +141,7 @@ module _ {S Host : Type 0} {answers : Answers S} {wanted : Bool} {told : Host �
             reply_is_of_line answers first.bytes of state part.after part.reply part.early same (line.keeps first.bytes first.is) part.replied,
             (
               Appends-trans old new end_out so_far.are.replies (take written.0 part.reply) so_far.are.written written.1,
-              line_more told host now mid end so_far.are.notes part.early so_far.are.heard waited part.all,
+              line_more told speaker now mid end so_far.are.notes part.early so_far.are.heard waited part.all,
             ),
           );
           in_time = λ bad. cc;
@@ -149,10 +150,10 @@ module _ {S Host : Type 0} {answers : Answers S} {wanted : Bool} {told : Host �
 -- ---- too many lines
 
 -- a text has the lines that were read of it
-pub too_many : {S Host : Type 0} {answers : Answers S} {wanted : Bool} {told : Host → Note → Host} {initial : S} {old : Option (List ℕ)}
-    {host : Host} {left : Option (List ℕ)} {state : S} {new : Option (List ℕ)} {now : Host} {conversed : Conversed} {count : ℕ}
+pub too_many : {S Speaker : Type 0} {answers : Answers S} {wanted : Bool} {told : Speaker → OwnNote → Speaker} {initial : S} {old : Option (List ℕ)}
+    {speaker : Speaker} {left : Option (List ℕ)} {state : S} {new : Option (List ℕ)} {now : Speaker} {conversed : Conversed} {count : ℕ}
     (known : Option (List ℕ)) (most : ℕ)
-    → ((text : List ℕ) → known ≡ Some text → Progress answers wanted told initial text old host left state new now conversed count)
+    → ((text : List ℕ) → known ≡ Some text → Progress answers wanted told initial text old speaker left state new now conversed count)
     → most ≤ count → IfSome known (λ text. most ≤ length (lines_of_dialogue text))
 too_many None most so_far many = tt
 too_many (Some text) most so_far many =

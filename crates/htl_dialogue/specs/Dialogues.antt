@@ -1,4 +1,4 @@
--- What a dialogue writes, and what its host is told (this project's own): the reply to one line after the other, up to the one that
+-- What a dialogue writes, and what its speaker is told (this project's own): the reply to one line after the other, up to the one that
 -- ends it. Who answers may change: files that a line names are read, and the lines after it are answered from these too.
 use Rattle.std.specs.Prelude.{◌≡◌, ◌⊎◌, ℕ, Bool, true, false, List, [], ◌∷◌, ◌++◌, Option, Some, if◌then◌else◌, take}
 use Rattle.std.specs.Prelude.{Result, Ok, Err}
@@ -8,12 +8,12 @@ use Rattle.htl_command.specs.declared.fault.ParseFault.{ParseFault}
 use Rattle.htl_command.specs.declared.question.Job.{Job}
 use Rattle.htl_inputs.specs.declared.fault.RunFault.{RunFault}
 use Rattle.htl_dialogue.specs.Lines.{lines_of_dialogue}
-use Rattle.htl_dialogue.specs.Notes.{AreTold, IsFaultOf, Note, after_notes, awaits, declined, first_fault, refuses}
-use Rattle.htl_dialogue.specs.Notes.{reads as notes_reading}
+use Rattle.htl_dialogue.specs.Notes.{AreTold, IsFaultOf, OwnNote, after_notes, declined, first_fault}
 use Rattle.htl_dialogue.specs.Sayings.{Saying, nothing, quits, asks, reads, wrong, saying_in, saying_of}
 use Rattle.htl_dialogue.specs.declared.dialogue.Conversed.{Conversed}
 use Rattle.htl_dialogue.specs.declared.dialogue.DialogueFault.{DialogueFault}
 use Rattle.htl_dialogue.specs.declared.dialogue.DialogueFault.TheVariants.{Questions, Write, NoMemory}
+use Rattle.htl_dialogue.specs.declared.note.Note.TheVariants as hear
 use Rattle.htl_main.specs.Adding.{added_text}
 use Rattle.htl_main.specs.declared.loading.adding.Added.{Added}
 use Rattle.htl_main.specs.declared.completed.Absence.{Absence}
@@ -53,33 +53,33 @@ reading_reply (Err refused) = 10 ∷ []
 -- What becomes of what a line says, up to its reply: the state that it leads to, the reply, and the notes before it. A question gets the
 -- text of its answer and a line feed; a wrong line, or a question that isn't answered, the line feed alone; and a line that says nothing
 -- gets nothing. Why a line is wrong, or isn't answered, is given first.
-abbrev pub IsReplied : {S : Type 0} → Answers S → (ParseFault → Type 0) → S → Saying → S → List ℕ → List Note → Type 0
+abbrev pub IsReplied : {S : Type 0} → Answers S → (ParseFault → Type 0) → S → Saying → S → List ℕ → List OwnNote → Type 0
 IsReplied answers IsWhy before (asks job) after reply notes =
     (after ≡ before) × (outcome : Result AnswerText RunFault) × answers.has_outcome before job outcome × (reply ≡ question_reply outcome)
     × (notes ≡ declined outcome)
 IsReplied answers IsWhy before (reads files) after reply notes =
     (ended : Result Added Refused) × answers.reads before files after ended × (reply ≡ reading_reply ended)
-    × (notes ≡ notes_reading files ended ∷ [])
+    × (notes ≡ hear.Reads files ended ∷ [])
 IsReplied answers IsWhy before wrong after reply notes =
-    (after ≡ before) × (reply ≡ 10 ∷ []) × ((fault : ParseFault) × IsWhy fault × (notes ≡ refuses fault ∷ []))
+    (after ≡ before) × (reply ≡ 10 ∷ []) × ((fault : ParseFault) × IsWhy fault × (notes ≡ hear.Refuses fault ∷ []))
 IsReplied answers IsWhy before nothing after reply notes = (after ≡ before) × (reply ≡ []) × (notes ≡ [])
 IsReplied answers IsWhy before quits after reply notes = (after ≡ before) × (reply ≡ []) × (notes ≡ [])
 
 -- A line is awaited and got its reply, with these notes before it and after it.
 pub record IsExchange {S : Type 0} (answers : Answers S) (wanted : Bool) (before : S) (line : List ℕ) (after : S) (reply : List ℕ)
-    (notes : List Note) : Type 0 where
-  pub early : List Note
-  pub late : List Note
+    (notes : List OwnNote) : Type 0 where
+  pub early : List OwnNote
+  pub late : List OwnNote
   pub replied : IsReplied answers (IsFaultOf answers.forgets line) before (saying_in answers.forgets line) after reply early
   pub told : AreTold answers.has_table (answers.has_outcome before) (answers.has_absence before) wanted
       (saying_in answers.forgets line) late
-  pub all : notes ≡ awaits ∷ (early ++ late)
+  pub all : notes ≡ hear.Awaits ∷ (early ++ late)
 
 -- Lines got their replies, one after the other.
-abbrev pub AreExchanges : {S : Type 0} → Answers S → Bool → S → List (List ℕ) → S → List ℕ → List Note → Type 0
+abbrev pub AreExchanges : {S : Type 0} → Answers S → Bool → S → List (List ℕ) → S → List ℕ → List OwnNote → Type 0
 AreExchanges answers wanted before [] after replies notes = (after ≡ before) × (replies ≡ []) × (notes ≡ [])
 AreExchanges {S = S} answers wanted before (line ∷ more) after replies notes =
-    (between : S) × (reply later : List ℕ) × (own rest : List Note) × IsExchange answers wanted before line between reply own
+    (between : S) × (reply later : List ℕ) × (own rest : List OwnNote) × IsExchange answers wanted before line between reply own
     × AreExchanges answers wanted between more after later rest × (replies ≡ reply ++ later) × (notes ≡ own ++ rest)
 
 abbrev pub is_end : Saying → Bool
@@ -100,20 +100,21 @@ abbrev pub asked_lines : List ℕ → List (List ℕ)
 asked_lines text = before_end (lines_of_dialogue text)
 
 -- one line more is awaited, where it ends the dialogue
-abbrev pub last_wait : List ℕ → List Note
-last_wait text = if list_any (λ line. is_end (saying_of line)) (lines_of_dialogue text) then awaits ∷ [] else []
+abbrev pub last_wait : List ℕ → List OwnNote
+last_wait text = if list_any (λ line. is_end (saying_of line)) (lines_of_dialogue text) then hear.Awaits ∷ [] else []
 
--- the known bytes of a sink got these replies, and a host these notes
-abbrev pub Gets : {Host : Type 0} → Option (List ℕ) → Option (List ℕ) → (Host → Note → Host) → Host → Host → List ℕ → List Note → Type 0
-Gets old new told host after replies notes = Appends old new replies × (after ≡ after_notes told host notes)
+-- the known bytes of a sink got these replies, and a speaker these notes
+abbrev pub Gets : {Speaker : Type 0} → Option (List ℕ) → Option (List ℕ) → (Speaker → OwnNote → Speaker) → Speaker → Speaker → List ℕ
+    → List OwnNote → Type 0
+Gets old new told speaker after replies notes = Appends old new replies × (after ≡ after_notes told speaker notes)
 
--- Converses: all lines of the text got their replies and the host its notes on them. What is said of it is whether a line was wrong, and
--- the fault of the first files that are refused, or of the first question that isn't answered.
+-- Converses: all lines of the text got their replies and the speaker the notes on them. What is said of it is whether a line was wrong,
+-- and the fault of the first files that are refused, or of the first question that isn't answered.
 pub record Converses {S : Type 0} (answers : Answers S) (wanted : Bool) (before : S) (text : List ℕ)
-    (Got : List ℕ → List Note → Type 0) (conversed : Conversed) : Type 0 where
+    (Got : List ℕ → List OwnNote → Type 0) (conversed : Conversed) : Type 0 where
   pub after : S
   pub replies : List ℕ
-  pub notes : List Note
+  pub notes : List OwnNote
   pub exchanged : AreExchanges answers wanted before (asked_lines text) after replies notes
   pub got : Got replies (notes ++ last_wait text)
   pub any : conversed.has_wrong ≡ list_any (λ line. is_wrong (saying_in answers.forgets line)) (asked_lines text)
@@ -121,15 +122,17 @@ pub record Converses {S : Type 0} (answers : Answers S) (wanted : Bool) (before 
 
 -- What was written and told where a fault ends the replies. Where a reply could not be written, some first part of it was, after the
 -- notes before it. Before another fault one line more was awaited; or none, if no read failed.
-abbrev pub GotAt : {S : Type 0} → Answers S → S → Bool → (List ℕ → List Note → Type 0) → DialogueFault → List (List ℕ) → List ℕ
-    → List Note → Type 0
+abbrev pub GotAt : {S : Type 0} → Answers S → S → Bool → (List ℕ → List OwnNote → Type 0) → DialogueFault → List (List ℕ) → List ℕ
+    → List OwnNote → Type 0
 GotAt answers state failed Got Write [] replies notes = ⊥
 GotAt {S = S} answers state failed Got Write (line ∷ more) replies notes =
-    (after : S) × (reply : List ℕ) × (count : ℕ) × (early : List Note)
+    (after : S) × (reply : List ℕ) × (count : ℕ) × (early : List OwnNote)
     × IsReplied answers (IsFaultOf answers.forgets line) state (saying_in answers.forgets line) after reply early
-    × Got (replies ++ take count reply) (notes ++ awaits ∷ early)
-GotAt answers state failed Got Questions later replies notes = Got replies (notes ++ awaits ∷ []) ⊎ ((failed ≡ false) × Got replies notes)
-GotAt answers state failed Got NoMemory later replies notes = Got replies (notes ++ awaits ∷ []) ⊎ ((failed ≡ false) × Got replies notes)
+    × Got (replies ++ take count reply) (notes ++ hear.Awaits ∷ early)
+GotAt answers state failed Got Questions later replies notes =
+    Got replies (notes ++ hear.Awaits ∷ []) ⊎ ((failed ≡ false) × Got replies notes)
+GotAt answers state failed Got NoMemory later replies notes =
+    Got replies (notes ++ hear.Awaits ∷ []) ⊎ ((failed ≡ false) × Got replies notes)
 
 -- These are the lines that were read to their line feeds, of a text of which this is left.
 abbrev pub AreRead : List ℕ → Option (List ℕ) → List (List ℕ) → Type 0
@@ -138,13 +141,13 @@ AreRead text left lines = (read begun : List ℕ) × Consumes (Some text) left r
 -- A fault ends the dialogue: the lines before it got their replies. Where a read failed, these are all lines that were read, so that no
 -- line waits for its reply while the next is read, and nothing is read after a line that ends the dialogue.
 pub record DialogueStops {S : Type 0} (answers : Answers S) (wanted : Bool) (before : S) (text : List ℕ) (left : Option (List ℕ))
-    (failed : Bool) (Got : List ℕ → List Note → Type 0) (fault : DialogueFault) : Type 0 where
+    (failed : Bool) (Got : List ℕ → List OwnNote → Type 0) (fault : DialogueFault) : Type 0 where
   pub earlier : List (List ℕ)
   pub later : List (List ℕ)
   pub cut : asked_lines text ≡ earlier ++ later
   pub state : S
   pub replies : List ℕ
-  pub notes : List Note
+  pub notes : List OwnNote
   pub exchanged : AreExchanges answers wanted before earlier state replies notes
   pub got : GotAt answers state failed Got fault later replies notes
   pub in_time : failed ≡ true → AreRead text left earlier

@@ -9,7 +9,7 @@ use Rattle.htl_command.specs.declared.fault.ParseFault.TheVariants.{Memory}
 use Rattle.htl_command.specs.declared.question.Job.{Job}
 use Rattle.htl_inputs.specs.declared.fault.RunFault.{RunFault}
 use Rattle.htl_dialogue.specs.Dialogues.{Answers, IsReplied, is_wrong}
-use Rattle.htl_dialogue.specs.Notes.{AreTold, AreToldOf, IsFaultOf, Note, after_notes, first_fault}
+use Rattle.htl_dialogue.specs.Notes.{AreTold, AreToldOf, IsFaultOf, OwnNote, after_notes, first_fault}
 use Rattle.htl_dialogue.specs.Sayings.{saying}
 use Rattle.htl_dialogue.specs.declared.dialogue.Conversed.{Conversed}
 use Rattle.htl_dialogue.specs.declared.dialogue.DialogueFault.{DialogueFault}
@@ -52,42 +52,42 @@ KeepsFault forgets line = HasFault (IsFaultOf forgets line)
 abbrev pub IsSaidFault : Said → ParseFault → Type 0
 IsSaidFault of fault = HasFault (λ kept. fault ≡ kept) of
 
--- What was said got its reply: the known bytes of a sink got it, and the host the notes before it and after it. It is told whether a line
--- was wrong, and the fault of files that were to be read, or of a question that isn't answered.
-pub record Replies {S Host : Type 0} (answers : Answers S) (wanted : Bool) (of : Said) (before after : S) (old new : Option (List ℕ))
-    (told : Host → Note → Host) (host heard : Host) (conversed : Conversed) : Type 0 where
+-- What was said got its reply: the known bytes of a sink got it, and the speaker the notes before it and after it. It is told whether a
+-- line was wrong, and the fault of files that were to be read, or of a question that isn't answered.
+pub record Replies {S Speaker : Type 0} (answers : Answers S) (wanted : Bool) (of : Said) (before after : S) (old new : Option (List ℕ))
+    (told : Speaker → OwnNote → Speaker) (speaker heard : Speaker) (conversed : Conversed) : Type 0 where
   pub reply : List ℕ
-  pub early : List Note
-  pub late : List Note
+  pub early : List OwnNote
+  pub late : List OwnNote
   pub replied : IsReplied answers (IsSaidFault of) before (saying of) after reply early
   pub told_late : AreTold answers.has_table (answers.has_outcome before) (answers.has_absence before) wanted (saying of) late
   pub written : Appends old new reply
-  pub all : heard ≡ after_notes told host (early ++ late)
+  pub all : heard ≡ after_notes told speaker (early ++ late)
   pub wrong : conversed.has_wrong ≡ is_wrong (saying of)
   pub first : conversed.first_fault ≡ first_fault early
 
--- a host heard of a question whose answer has these remarks, where it wants to know
-pub record Tells {Host : Type 0} (has_table : Bool) (HasAbsence : Job → Option Absence → Type 0) (remarks : Remarks) (wanted : Bool)
-    (told : Host → Note → Host) (host : Host) (job : Job) (after : Host) : Type 0 where
-  pub late : List Note
+-- a speaker heard of a question whose answer has these remarks, where they want to know
+pub record Tells {Speaker : Type 0} (has_table : Bool) (HasAbsence : Job → Option Absence → Type 0) (remarks : Remarks) (wanted : Bool)
+    (told : Speaker → OwnNote → Speaker) (speaker : Speaker) (job : Job) (after : Speaker) : Type 0 where
+  pub late : List OwnNote
   pub is : (answer : AnswerText) → answer.remarks ≡ remarks
       → AreToldOf has_table (λ _ outcome. outcome ≡ Ok answer) HasAbsence wanted job late
-  pub heard : after ≡ after_notes told host late
+  pub heard : after ≡ after_notes told speaker late
 
 -- a write failed after some first part of the reply, and after the notes before it
-pub record Breaks {S Host : Type 0} (answers : Answers S) (of : Said) (before : S) (old new : Option (List ℕ)) (told : Host → Note → Host)
-    (host heard : Host) : Type 0 where
+pub record Breaks {S Speaker : Type 0} (answers : Answers S) (of : Said) (before : S) (old new : Option (List ℕ))
+    (told : Speaker → OwnNote → Speaker) (speaker heard : Speaker) : Type 0 where
   pub after : S
   pub reply : List ℕ
-  pub early : List Note
+  pub early : List OwnNote
   pub replied : IsReplied answers (IsSaidFault of) before (saying of) after reply early
   pub written : AppendsPrefix old new reply
-  pub all : heard ≡ after_notes told host early
+  pub all : heard ≡ after_notes told speaker early
 
 -- why a line got no reply: memory was refused, or a write failed
-abbrev pub IsRefusedReply : {S Host : Type 0} → Answers S → Said → S → Option (List ℕ) → Option (List ℕ) → Bool → (Host → Note → Host)
-    → Host → Host → DialogueFault → Type 0
-IsRefusedReply answers of before old new failed told host heard NoMemory = (new ≡ old) × (failed ≡ false) × (heard ≡ host)
-IsRefusedReply answers of before old new failed told host heard Write =
-    (failed ≡ true) × Breaks answers of before old new told host heard
-IsRefusedReply answers of before old new failed told host heard Questions = ⊥
+abbrev pub IsRefusedReply : {S Speaker : Type 0} → Answers S → Said → S → Option (List ℕ) → Option (List ℕ) → Bool
+    → (Speaker → OwnNote → Speaker) → Speaker → Speaker → DialogueFault → Type 0
+IsRefusedReply answers of before old new failed told speaker heard NoMemory = (new ≡ old) × (failed ≡ false) × (heard ≡ speaker)
+IsRefusedReply answers of before old new failed told speaker heard Write =
+    (failed ≡ true) × Breaks answers of before old new told speaker heard
+IsRefusedReply answers of before old new failed told speaker heard Questions = ⊥

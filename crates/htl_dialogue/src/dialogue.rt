@@ -1,54 +1,10 @@
-//! A dialogue: what its host is told, how it went, and why it ends before its lines do.
+//! A dialogue: how it went, and why it ends before its lines do.
 
-use htl_command::{Job, ParseFault};
 use htl_device::ReadFault;
 use htl_event::NoMemory;
-use htl_main::{Absence, Added, Refused, Remarks, RunFault};
+use htl_main::RunFault;
 use std::alloc::{AllocError, AllocFailed};
 use thiserror::Error;
-
-/// Who hears what goes on beside the replies. What a host shows isn't part of the replies.
-pub trait Host {
-    ghost use Rattle.std.specs.Prelude.{◌≡◌, Bool, map, string_bytes};
-    ghost use Rattle.htl_dialogue.specs.Notes.{Note, answered, awaits, declines, reads};
-    ghost use Rattle.htl_dialogue.specs.Notes.{refuses};
-
-    // The host once it was told a note.
-    ghost told: { Self → Note → Self };
-
-    // Whether it wants to know what is told of questions that were answered.
-    ghost wants_absence: { Self → Bool };
-
-    /// A line is awaited.
-    fn awaits(&mut self)
-        ensures told { self.new ≡ told self.old awaits }
-        ensures same { wants_absence self.new ≡ wants_absence self.old };
-
-    /// A line was wrong.
-    fn refuses(&mut self, fault: &ParseFault)
-        ensures told { self.new ≡ told self.old (refuses fault.now) }
-        ensures same { wants_absence self.new ≡ wants_absence self.old };
-
-    /// Files were read: this is what they added, or why they were refused.
-    fn reads(&mut self, files: &[String], ended: Result<Added, Refused>)
-        ensures told { self.new ≡ told self.old (reads (map string_bytes files.now) ended) }
-        ensures same { wants_absence self.new ≡ wants_absence self.old };
-
-    /// A question isn't answered, for this reason.
-    fn declines(&mut self, fault: RunFault)
-        ensures told { self.new ≡ told self.old (declines fault) }
-        ensures same { wants_absence self.new ≡ wants_absence self.old };
-
-    /// Whether `answered` is wanted, which costs a look at all events for each question.
-    fn notes_absence(&self) -> bool
-        ensures { result ≡ wants_absence self.now };
-
-    /// A question was answered: why nothing can be found of what it is about, if nothing can, and
-    /// what is told of its answer.
-    fn answered(&mut self, job: &Job, absence: Option<Absence>, remarks: Remarks)
-        ensures told { self.new ≡ told self.old (answered job.now absence remarks) }
-        ensures same { wants_absence self.new ≡ wants_absence self.old };
-}
 
 /// How a dialogue went that came to its end.
 #[derive(Clone, Copy, Debug, PartialEq, Eq)]

@@ -3,9 +3,9 @@
 //! answers.
 //!
 //! Files, in reading order: `line.rt` and `reading.rt` (the lines of a source, as they come),
-//! `splitting.rt` (the arguments of a line), `saying.rt` (what a line says), `dialogue.rt` (what
-//! the host is told beside the replies, how a dialogue went, and why it ends early), `laws.rt` (the
-//! bound of a line).
+//! `splitting.rt` (the arguments of a line), `saying.rt` (what a line says), `note.rt` and
+//! `speaker.rt` (what is heard beside the replies, and by whom), `dialogue.rt` (how a dialogue went,
+//! and why it ends early), `laws.rt` (the bound of a line).
 //!
 //! In `proofs/`, `Conversing` and `Stopping` show how far a dialogue has come, line by line, and
 //! `Simulated` that what is said of one who answers is said of another whose states follow.
@@ -14,12 +14,16 @@
 mod dialogue;
 pub mod laws;
 mod line;
+mod note;
 mod reading;
 mod saying;
+mod speaker;
 mod splitting;
 
-pub use dialogue::{Conversed, DialogueFault, Host};
+pub use dialogue::{Conversed, DialogueFault};
 pub use line::{Line, MAX_LINE_LEN};
+pub use note::Note;
 pub use reading::{NextLine, ReadAhead, next_line};
 pub use saying::{Said, read_line};
+pub use speaker::Speaker;
 pub use splitting::{ArgumentFault, arguments};

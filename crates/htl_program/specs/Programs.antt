@@ -19,7 +19,7 @@ use Rattle.htl_inputs.specs.declared.fault.RunFault.{RunFault}
 use Rattle.htl_inputs.specs.declared.fault.RunFault.TheVariants as faults
 use Rattle.htl_convert.specs.Dumps.{IsDumpedFrom}
 use Rattle.htl_convert.specs.Encodings.{IsEncodedFrom}
-use Rattle.htl_dialogue.specs.Notes.{Note}
+use Rattle.htl_dialogue.specs.Notes.{OwnNote}
 use Rattle.htl_dialogue.specs.declared.dialogue.Conversed.{Conversed}
 use Rattle.htl_dialogue.specs.declared.dialogue.DialogueFault.{DialogueFault}
 use Rattle.htl_dialogue.specs.declared.dialogue.DialogueFault.TheVariants as dialogues
@@ -160,7 +160,7 @@ SaysDialogue quiet in_words command (Err (asks.Dialogue stopped)) old new =
 -- The speaker of a dialogue, before it and after. `told`, `noted` and `left` say how a note, the wish for notes, and the end of the replies
 -- change the speaker. Whether the speaker wants to know what has no event is said before, and whether wrong lines count after.
 pub record Spoken (S : Type 0) : Type 0 where
-  pub told : S → Note → S
+  pub told : S → OwnNote → S
   pub noted : S → Bool → S
   pub left : S → Bool → S
   pub wants_absence : Bool
@@ -168,7 +168,7 @@ pub record Spoken (S : Type 0) : Type 0 where
   pub before : S
   pub after : S
 
-abbrev pub spoken : {S : Type 0} → (S → Note → S) → (S → Bool → S) → (S → Bool → S) → (S → Bool) → (S → Bool) → S → S → Spoken S
+abbrev pub spoken : {S : Type 0} → (S → OwnNote → S) → (S → Bool → S) → (S → Bool → S) → (S → Bool) → (S → Bool) → S → S → Spoken S
 spoken told noted left wants_absence counts_wrong before after = record {
   told = told;
   noted = noted;

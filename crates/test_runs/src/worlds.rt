@@ -4,10 +4,10 @@ ghost use Rattle.std.specs.Prelude.{◌≡◌, None, Some, false, find, is_none,
 ghost use Rattle.std.specs.Prelude.{option_map, true};
 ghost use Rattle.std.specs.Str.{bytes_eq};
 
-use htl_ask::Speaker;
+use htl_ask::{Note, Speaker};
 use htl_command::{Command, Job, ParseFault};
-use htl_dialogue::{DialogueFault, Host};
-use htl_main::{Absence, Added, Coverage, CutInputs, Reading, Refused, Remarks, RunFault};
+use htl_dialogue::DialogueFault;
+use htl_main::{Coverage, CutInputs, Reading, RunFault};
 use htl_program::{Lack, Message, Person};
 use htl_world::{OpenFault, World};
 use std::alloc::Global;
@@ -169,38 +169,26 @@ pub struct Silent {
     pub wants_notes: bool,
 }
 
-impl Host for Silent {
+impl Speaker for Silent {
+    ghost use Rattle.std.specs.Prelude.{◌||◌, true};
+
     ghost told = { λ s note. s };
 
     ghost wants_absence = { λ s. s.wants_notes };
-
-    fn awaits(&mut self) {}
-
-    fn refuses(&mut self, _fault: &ParseFault) {}
-
-    fn reads(&mut self, _files: &[String], _ended: Result<Added, Refused>) {}
-
-    fn notes_absence(&self) -> bool {
-        self.wants_notes
-    }
-
-    fn declines(&mut self, _fault: RunFault) {}
-
-    fn answered(&mut self, _job: &Job, _absence: Option<Absence>, _remarks: Remarks) {}
-}
-
-impl Speaker for Silent {
-    ghost use Rattle.std.specs.Prelude.{◌||◌, true};
 
     ghost counts = { λ s. true };
 
     ghost noted = { λ s are_asked_for. record s { wants_notes = s.wants_notes || are_asked_for } };
 
+    fn hears(&mut self, _note: Note<&[String], &ParseFault, &Job>) {}
+
+    fn notes_absence(&self) -> bool {
+        self.wants_notes
+    }
+
     fn takes_notes(&mut self, are_asked_for: bool) {
         self.wants_notes |= are_asked_for;
     }
-
-    fn begins(&mut self, _files: &[String], _coverage: Coverage, _cut: Option<CutInputs>) {}
 
     fn counts_wrong(&self) -> bool {
         true

@@ -32,7 +32,7 @@ loop-line-preserved g c =
     let inv = c.loop-line.invariant in
     let alike : c.forgets.result ≡ is_state c.args.kept.now = c.forgets.ensures ∙ inv.form in
     let goes_on : is_end (saying c.in_ok-said.said) ≡ false = sym (c.ends.ensures) ∙ c.if-ends.false in
-    let same = c.awaits.ensures.same ∙ inv.wants in
+    let same = c.hears.ensures.same ∙ inv.wants in
     record {
       readable = search rules;
       inside = c.in_ok-next.ensures.inside c.if-next.false;
@@ -45,8 +45,8 @@ loop-line-preserved g c =
       so_far = λ text known. replied (inv.so_far text known)
           (record { found = c.in_ok-next.ensures.ok; says = rw alike at c.in_ok-said.ensures.said; keeps = rw alike at c.in_ok-said.ensures.fault }) goes_on
           (record {
-            waiting = c.awaits.new.self;
-            waited = c.awaits.ensures.told;
+            waiting = c.hears.new.self;
+            waited = c.hears.ensures.told;
             line = c.in_ok-line.line;
             replies = rw (inv.form, same, inv.asked.1.known) at c.in_ok-line.ensures.ok;
             wrong = c.then-conversed.ensures.wrong;
@@ -65,12 +65,12 @@ returns-then-next-clause-ok g c =
     let inv = c.loop-line.invariant in
     let alike : c.forgets.result ≡ is_state c.args.kept.now = c.forgets.ensures ∙ inv.form in
     let goes_on : is_end (saying c.in_ok-said.said) ≡ false = sym (c.ends.ensures) ∙ c.if-ends.false in
-    let same = c.awaits.ensures.same ∙ inv.wants in
+    let same = c.hears.ensures.same ∙ inv.wants in
     λ text known. replied_last (inv.so_far text known)
     (record { found = c.in_ok-next.ensures.ok; says = rw alike at c.in_ok-said.ensures.said; keeps = rw alike at c.in_ok-said.ensures.fault }) goes_on
     (record {
-      waiting = c.awaits.new.self;
-      waited = c.awaits.ensures.told;
+      waiting = c.hears.new.self;
+      waited = c.hears.ensures.told;
       line = c.in_ok-line.line;
       replies = rw (inv.form, same, inv.asked.1.known) at c.in_ok-line.ensures.ok;
       wrong = c.then-conversed.ensures.wrong;
@@ -83,7 +83,7 @@ returns-then-ends-clause-ok g c =
     let alike : c.forgets.result ≡ is_state c.args.kept.now = c.forgets.ensures ∙ inv.form in
     let ends : is_end (saying c.in_ok-said.said) ≡ true = sym (c.ends.ensures) ∙ c.if-ends.true in
     λ text known. ended {after = prepend_known c.next_line.new.held (g.Q.Source.state c.next_line.new.source).remaining}
-    (inv.so_far text known) c.awaits.ensures.told
+    (inv.so_far text known) c.hears.ensures.told
     (record { found = c.in_ok-next.ensures.ok; says = rw alike at c.in_ok-said.ensures.said; keeps = rw alike at c.in_ok-said.ensures.fault }) ends
 
 pub returns-in_err-held-clause-stops : goal.returns-in_err-held-clause-stops
@@ -102,7 +102,7 @@ returns-in_err-next-clause-stops g c =
     let so_far = inv.so_far text known in
     let in_time : failed ≡ true → AreRead text left so_far.lines = λ fails. all_read so_far left
     (rw (c.in_err-next.ensures.all fails, prepend_known-nil left) at c.in_err-next.ensures.begun) in
-    rw (p.1, p.2) (stopped so_far left c.awaits.new.self failed _ c.awaits.ensures.told (before_read c.in_err-next.field-0.0) in_time)
+    rw (p.1, p.2) (stopped so_far left c.hears.new.self failed _ c.hears.ensures.told (before_read c.in_err-next.field-0.0) in_time)
 
 pub returns-in_err-next-clause-questions : goal.returns-in_err-next-clause-questions
 returns-in_err-next-clause-questions g c =
@@ -120,7 +120,7 @@ returns-in_err-said-clause-stops g c =
     let failed = (g.Q.Source.state c.next_line.new.source).failed in
     let fine : failed ≡ false = search rules in
     λ text known. rw (p.1, p.2) (stopped (c.loop-line.invariant.so_far text known) (g.Q.Source.state c.next_line.new.source).remaining
-    c.awaits.new.self failed _ c.awaits.ensures.told tt (λ fails. absurd (let bad = sym fine ∙ fails in cc)))
+    c.hears.new.self failed _ c.hears.ensures.told tt (λ fails. absurd (let bad = sym fine ∙ fails in cc)))
 
 pub returns-in_err-line-clause-stops : goal.returns-in_err-line-clause-stops
 returns-in_err-line-clause-stops g c =
@@ -131,8 +131,8 @@ returns-in_err-line-clause-stops g c =
     let failed = (g.Q.Source.state c.next_line.new.source).failed in
     let fine : failed ≡ false = search rules in
     λ text known. rw (p.1, p.2) (unreplied (c.loop-line.invariant.so_far text known) (g.Q.Source.state c.next_line.new.source).remaining
-    (g.O.Sink.state c.reply.new.out).contents c.awaits.new.self c.reply.new.host failed (g.O.Sink.state c.reply.new.out).failed
-    c.in_err-line.field-0.0 c.awaits.ensures.told
+    (g.O.Sink.state c.reply.new.out).contents c.hears.new.self c.reply.new.speaker failed (g.O.Sink.state c.reply.new.out).failed
+    c.in_err-line.field-0.0 c.hears.ensures.told
     (record { found = c.in_ok-next.ensures.ok; says = rw alike at c.in_ok-said.ensures.said; keeps = rw alike at c.in_ok-said.ensures.fault }) goes_on
     (rw (inv.form, inv.asked.1.known) at c.in_err-line.ensures.err) fine)
 

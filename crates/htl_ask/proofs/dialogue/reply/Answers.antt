@@ -4,15 +4,16 @@ use Rattle.std.specs.Prelude.{Result}
 use Rattle.std.proofs.KnownBytes.{Appends-nil}
 use Rattle.std.proofs.lemmas.Result.{err_from_is_err_and}
 use Rattle.htl_dialogue.specs.Dialogues.{reading_reply}
-use Rattle.htl_dialogue.specs.Notes.{first_fault, reads, refuses}
+use Rattle.htl_dialogue.specs.Notes.{first_fault}
 use Rattle.htl_dialogue.specs.Replying.{fault_of}
+use Rattle.htl_dialogue.specs.declared.note.Note.TheVariants as hear
 use Rattle.htl_main.specs.declared.loading.adding.Added.{Added}
 use Rattle.htl_main.specs.declared.refused.Refused.{Refused}
 use Rattle.htl_ask.proofs.LinesAsked.{asks_nothing}
 use Rattle.htl_ask.proofs.dialogue.reply.Goals as goal
 use Rattle.htl_dialogue.specs.Sayings.{saying}
 
-fault_is_first : (files : List (List ℕ)) (ended : Result Added Refused) → fault_of ended ≡ first_fault (reads files ended ∷ [])
+fault_is_first : (files : List (List ℕ)) (ended : Result Added Refused) → fault_of ended ≡ first_fault (hear.Reads files ended ∷ [])
 fault_is_first files (Ok added) = refl
 fault_is_first files (Err refused) = refl
 
@@ -47,12 +48,12 @@ pub returns-in_ok-write-in-Wrong-clause-ok : goal.returns-in_ok-write-in-Wrong-c
 returns-in_ok-write-in-Wrong-clause-ok g c =
     rw (c.in-Wrong.is) (record {
       reply = 10 ∷ [];
-      early = refuses c.in-Wrong.fault ∷ [];
+      early = hear.Refuses c.in-Wrong.fault ∷ [];
       late = [];
       replied = (refl, refl, (c.in-Wrong.fault, refl, refl));
       told_late = refl;
       written = c.in_ok-write-in-Wrong.ensures.ok;
-      all = c.refuses.ensures.told;
+      all = c.hears.ensures.told;
       wrong = refl;
       first = refl;
     })
@@ -66,10 +67,10 @@ returns-in_err-write-in-Wrong-clause-err g c =
       record {
         after = c.args.kept.now;
         reply = 10 ∷ [];
-        early = refuses c.in-Wrong.fault ∷ [];
+        early = hear.Refuses c.in-Wrong.fault ∷ [];
         replied = (refl, refl, (c.in-Wrong.fault, refl, refl));
         written = failed.2;
-        all = c.refuses.ensures.told;
+        all = c.hears.ensures.told;
       },
     )
 
@@ -79,12 +80,12 @@ returns-in_ok-write-in-Reads-clause-ok g c =
     let files = map string_bytes c.in-Reads.names.items in
     rw (c.in-Reads.is) (record {
       reply = reading_reply ended;
-      early = reads files ended ∷ [];
+      early = hear.Reads files ended ∷ [];
       late = [];
       replied = (ended, rw (c.deref.ensures.value) at c.in_ok-ended-in-Reads.ensures.read, refl, refl);
       told_late = refl;
       written = rw (c.as_bytes.ensures.value, c.in_ok-text-in-Reads.ensures) at c.in_ok-write-in-Reads.ensures.ok;
-      all = rw (c.deref-in-Reads.ensures.value) at c.reads.ensures.told;
+      all = rw (c.deref-in-Reads.ensures.value) at c.hears-in-Reads.ensures.told;
       wrong = refl;
       first = c.fault_of.ensures ∙ fault_is_first files ended;
     })
@@ -100,10 +101,10 @@ returns-in_err-write-in-Reads-clause-err g c =
       record {
         after = c.read.new.kept;
         reply = reading_reply ended;
-        early = reads files ended ∷ [];
+        early = hear.Reads files ended ∷ [];
         replied = (ended, rw (c.deref.ensures.value) at c.in_ok-ended-in-Reads.ensures.read, refl, refl);
         written = failed.2;
-        all = rw (c.deref-in-Reads.ensures.value) at c.reads.ensures.told;
+        all = rw (c.deref-in-Reads.ensures.value) at c.hears-in-Reads.ensures.told;
       },
     )
 

@@ -1,9 +1,9 @@
--- A question gets its answer, of which the host is told after it, or isn't answered, for which the host is told why before the reply.
+-- A question gets its answer, of which the speaker is told after it, or isn't answered, for which the speaker is told why before the reply.
 use Rattle.std.proofs.Common.{◌≡◌, ◌∙◌, ◌++◌, ◌∷◌, [], Ok, Err, false, refl, subst, sym}
 use Rattle.std.specs.Prelude.{Result}
 use Rattle.std.proofs.lemmas.Result.{err_from_is_err_and}
 use Rattle.htl_inputs.specs.declared.fault.RunFault.{RunFault}
-use Rattle.htl_dialogue.specs.Notes.{declines}
+use Rattle.htl_dialogue.specs.declared.note.Note.TheVariants as hear
 use Rattle.htl_dialogue.proofs.Noting.{told_of_such}
 use Rattle.htl_main.specs.declared.printing.AnswerText.{AnswerText}
 use Rattle.htl_ask.specs.Loads.{HasAbsenceIn, HasOutcomeIn, is_memory}
@@ -23,7 +23,7 @@ returns-in_ok-write-in-Ok-clause-ok g c = λ world.
       late = noted.late;
       replied = (refl {a = kept}, Ok answer, has, refl, refl);
       told_late = told_of_such c.args.has_table (λ job (outcome : Result AnswerText RunFault). outcome ≡ Ok answer) (HasOutcomeIn complete kept)
-          (HasAbsenceIn kept) (g.H.Host.wants_absence c.args.host.now) c.args.job.now noted.late
+          (HasAbsenceIn kept) (g.S.Speaker.wants_absence c.args.speaker.now) c.args.job.now noted.late
           (λ outcome is. subst (HasOutcomeIn complete kept c.args.job.now) (sym is) has) (noted.is answer refl);
       written = rw (c.deref.ensures.value, c.in_ok-push-in-Ok.ensures.items) at c.in_ok-write-in-Ok.ensures.ok;
       all = noted.heard;
@@ -37,13 +37,13 @@ returns-in_ok-write-in-Err-clause-ok g c = λ world.
     let has = c.in-Err.ensures (not_memory c.in-Err.fault other) in
     record {
       reply = 10 ∷ [];
-      early = declines c.in-Err.fault ∷ [];
+      early = hear.Declines c.in-Err.fault ∷ [];
       late = [];
       replied = (refl {a = c.args.kept.now}, Err c.in-Err.fault, has, refl, refl);
-      told_late = late_refused c.args.files.now.dialogue.now.setting.complete (g.H.Host.wants_absence c.args.host.now) c.args.has_table
+      told_late = late_refused c.args.files.now.dialogue.now.setting.complete (g.S.Speaker.wants_absence c.args.speaker.now) c.args.has_table
           c.args.kept.now c.args.job.now c.in-Err.fault has;
       written = c.in_ok-write-in-Err.ensures.ok;
-      all = c.declines.ensures.told;
+      all = c.hears.ensures.told;
       wrong = refl;
       first = refl;
     }
@@ -58,9 +58,9 @@ returns-in_err-write-in-Err-clause-err g c = λ world.
       record {
         after = c.args.kept.now;
         reply = 10 ∷ [];
-        early = declines c.in-Err.fault ∷ [];
+        early = hear.Declines c.in-Err.fault ∷ [];
         replied = (refl {a = c.args.kept.now}, Err c.in-Err.fault, c.in-Err.ensures (not_memory c.in-Err.fault other), refl, refl);
         written = failed.2;
-        all = c.declines.ensures.told;
+        all = c.hears.ensures.told;
       },
     )

@@ -1,0 +1,24 @@
+//! What a speaker hears beside the replies.
+
+use htl_main::{Absence, Added, Coverage, CutInputs, Refused, Remarks, RunFault};
+
+/// A note beside the replies. It is lent what names things: the names of files (`N`), why a line is
+/// wrong (`F`), and the job of a question (`J`). What a speaker heard is said in contracts by notes
+/// that own them.
+#[derive(Clone, Copy)]
+pub enum Note<N, F, J> {
+    /// Questions can come. These files were read, or standard input where there is none. They have
+    /// this coverage of their trace, and those told here end within a segment.
+    Begins(N, Coverage, Option<CutInputs>),
+    /// A line is awaited.
+    Awaits,
+    /// A line is wrong, for this reason.
+    Refuses(F),
+    /// Files of these names were to be read: this is what they added, or why they are refused.
+    Reads(N, Result<Added, Refused>),
+    /// A question isn't answered, for this reason.
+    Declines(RunFault),
+    /// A question was answered: why nothing can be found of what it is about, if nothing can, and
+    /// what is told of its answer.
+    Answered(J, Option<Absence>, Remarks),
+}

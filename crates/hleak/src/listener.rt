@@ -1,12 +1,11 @@
 //! What is read on standard error beside the replies of a dialogue.
 
-ghost use Rattle.std.specs.Prelude.{◌≡◌, ◌&&◌, ◌||◌, false, not};
+ghost use Rattle.std.specs.Prelude.{◌≡◌, ◌||◌, false, not};
 ghost use Rattle.hleak.specs.Wrongs.{is_refusal};
 
 use crate::explaining::Task;
 use crate::lacking::Lacking;
 use crate::note::InputsNote;
-use crate::terminals::Terminals;
 use crate::voice::Voice;
 use htl_ask::{Note, Speaker};
 use htl_command::{Job, ParseFault};
@@ -17,7 +16,7 @@ use htl_program::Lack;
 #[derive(Drop)]
 pub struct Listener<'p> {
     voice: Voice<'p>,
-    /// Whether notes are wanted: a person at a terminal reads it, or they are asked for.
+    /// Whether notes are wanted.
     wants_notes: bool,
     /// Whether the lines are typed at a terminal.
     is_typed: bool,
@@ -28,17 +27,17 @@ pub struct Listener<'p> {
 }
 
 impl<'p> Listener<'p> {
-    /// A listener who has heard nothing.
-    pub fn new(voice: Voice<'p>, terminals: Terminals) -> Listener<'p>
-        ensures wants { result.wants_notes ≡ terminals.errors }
-        ensures typed { result.is_typed ≡ (terminals.errors && terminals.input) }
+    /// A listener who has heard nothing. Lines are typed at a terminal, or not.
+    pub fn new(voice: Voice<'p>, is_typed: bool) -> Listener<'p>
+        ensures wants { result.wants_notes ≡ false }
+        ensures typed { result.is_typed ≡ is_typed }
         ensures refused { result.has_refused ≡ false }
         ensures names { result.has_missed_names ≡ false }
     {
         Listener {
             voice,
-            wants_notes: terminals.errors,
-            is_typed: terminals.has_typist(),
+            wants_notes: false,
+            is_typed,
             has_refused: false,
             has_missed_names: false,
         }
@@ -138,12 +137,12 @@ impl Speaker for Listener<'_> {
       has_missed_names = s.has_missed_names || misses_names note;
     } };
 
-    ghost wants_absence = { λ s. s.wants_notes };
+    ghost wants_notes = { λ s. s.wants_notes };
 
     // A person may ask for help.
     ghost counts = { λ s. not s.is_typed || s.has_refused };
 
-    ghost noted = { λ s are_asked_for. record s { wants_notes = s.wants_notes || are_asked_for } };
+    ghost noted = { λ s are_wanted. record s { wants_notes = are_wanted } };
 
     fn hears(&mut self, note: Note<&[String], &ParseFault, &Job>) {
         match note {
@@ -156,12 +155,12 @@ impl Speaker for Listener<'_> {
         }
     }
 
-    fn notes_absence(&self) -> bool {
+    fn wants_notes(&self) -> bool {
         self.wants_notes
     }
 
-    fn takes_notes(&mut self, are_asked_for: bool) {
-        self.wants_notes |= are_asked_for;
+    fn takes_notes(&mut self, are_wanted: bool) {
+        self.wants_notes = are_wanted;
     }
 
     fn counts_wrong(&self) -> bool {

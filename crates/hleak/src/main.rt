@@ -79,7 +79,7 @@ fn main(rt: HostRuntime) -> ExitCode {
             arguments,
             &mut Inputs::new(rt.alloc()),
             &mut console,
-            &mut Listener::new(voice, terminals),
+            &mut Listener::new(voice, terminals.has_typist()),
         ),
         Err(fault) => refuse(&fault, &mut console),
     };

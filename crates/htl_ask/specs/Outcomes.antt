@@ -18,25 +18,25 @@ use Rattle.htl_ask.specs.declared.ask_fault.AskFault.{AskFault}
 use Rattle.htl_ask.specs.declared.ask_fault.AskFault.TheVariants as asks
 
 -- What a dialogue goes over: its questions, as they were and as they are left; the output, as it was and is; how a note changes the
--- speaker, whether they want to know what has no event, and who they were and are.
+-- speaker, whether they want notes on answers, and who they were and are.
 pub record Talk (S : Type 0) : Type 0 where
   pub questions : SourceState
   pub left : SourceState
   pub old : SinkState
   pub new : SinkState
   pub told : S → OwnNote → S
-  pub wants_absence : Bool
+  pub wants_notes : Bool
   pub before : S
   pub after : S
 
 abbrev pub talk : {S : Type 0} → SourceState → SourceState → SinkState → SinkState → (S → OwnNote → S) → Bool → S → S → Talk S
-talk questions left old new told wants_absence before after = record {
+talk questions left old new told wants_notes before after = record {
   questions = questions;
   left = left;
   old = old;
   new = new;
   told = told;
-  wants_absence = wants_absence;
+  wants_notes = wants_notes;
   before = before;
   after = after;
 }
@@ -58,11 +58,11 @@ abbrev pub EndsConversing : {S : Type 0} → Known → List SourceState → Dial
     → Result Conversed AskFault → Type 0
 EndsConversing world inputs of talk texts table (Ok conversed) =
     Began of talk texts table (λ read opening lines.
-    Converses (answers_over world of.setting of.folds table) talk.wants_absence (Some read) lines
+    Converses (answers_over world of.setting of.folds table) talk.wants_notes (Some read) lines
     (HasGot (map string_bytes of.files.items) talk opening) conversed)
 EndsConversing world inputs of talk texts table (Err (asks.Dialogue stopped)) =
     Began of talk texts table (λ read opening lines.
-    DialogueStops (answers_over world of.setting of.folds table) talk.wants_absence (Some read) lines talk.left.remaining talk.left.failed
+    DialogueStops (answers_over world of.setting of.folds table) talk.wants_notes (Some read) lines talk.left.remaining talk.left.failed
     (HasGot (map string_bytes of.files.items) talk opening) stopped)
 EndsConversing world inputs of talk texts table (Err (asks.Run refused)) =
     IsBeginsCause of.folds of.setting table texts inputs refused.fault ⊎ (refused.fault ≡ Memory)

@@ -39,7 +39,7 @@ pub fn converse<Rt: Threads + Sync, W: World, Q: Source, O: Sink, S: Speaker>(
     ensures conversed { IsConversed (change (W.state world.old) (W.state world.new))
         (map W.Input.state inputs.new.items) files.now.dialogue.now
         (talk (Q.state questions.old) (Q.state questions.new) (O.state out.old) (O.state out.new)
-        S.told (S.wants_absence speaker.old) speaker.old speaker.new) result }
+        S.told (S.wants_notes speaker.old) speaker.old speaker.new) result }
     ensures untouched { IfErr (before_dialogue result)
         (λ _. (questions.new ≡ questions.old) × (out.new ≡ out.old)
         × (speaker.new ≡ speaker.old)) }
@@ -76,7 +76,7 @@ fn ask_opened<Rt: Threads + Sync, W: World, Q: Source, O: Sink, S: Speaker>(
     ensures outcome { IfKnown (map W.Input.state inputs.old.items) (λ texts. EndsConversing
         (W.state world.old).known (map W.Input.state inputs.new.items) files.now.dialogue.now
         (talk (Q.state questions.old) (Q.state questions.new) (O.state out.old) (O.state out.new)
-        S.told (S.wants_absence speaker.old) speaker.old speaker.new)
+        S.told (S.wants_notes speaker.old) speaker.old speaker.new)
         texts (option_copied symbols.entry) result) }
     ensures devices { ReportsDevices (Q.state questions.old).remaining (Q.state questions.new)
         (O.state out.new).failed result }

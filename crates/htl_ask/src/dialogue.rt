@@ -54,14 +54,14 @@ pub(crate) fn converse_lines<Rt: Threads + Sync, W: World, Q: Source, O: Sink, S
     // Each line gets its reply, and the speaker the notes on it.
     ensures ok { (text : List ℕ) → (Q.state questions.old).remaining ≡ Some text → IfOk result
         (Converses (answers_from (W.state world.old).known
-        files.now.dialogue.now.setting (is_state kept.old) has_table) (S.wants_absence speaker.old)
+        files.now.dialogue.now.setting (is_state kept.old) has_table) (S.wants_notes speaker.old)
         kept.old text (Gets (O.state out.old).contents (O.state out.new).contents S.told speaker.old
         speaker.new)) }
     // After a fault, the lines before it have their replies; if a read failed, these are all that
     // were read.
     ensures stops { (text : List ℕ) → (Q.state questions.old).remaining ≡ Some text → IfErr result
         (DialogueStops (answers_from (W.state world.old).known
-        files.now.dialogue.now.setting (is_state kept.old) has_table) (S.wants_absence speaker.old)
+        files.now.dialogue.now.setting (is_state kept.old) has_table) (S.wants_notes speaker.old)
         kept.old text (Q.state questions.new).remaining (Q.state questions.new).failed
         (Gets (O.state out.old).contents (O.state out.new).contents S.told speaker.old speaker.new)) }
     ensures fine { OnOk result (((Q.state questions.new).failed ≡ false)
@@ -116,7 +116,7 @@ fn reply<Rt: Threads + Sync, W: World, O: Sink, S: Speaker>(
     requires out { (O.state out.old).failed ≡ false }
     requires asks { IsOfForm (is_state kept.old) said.now }
     ensures ok { IfOk result (Replies (answers_from (W.state world.old).known
-        files.now.dialogue.now.setting (is_state kept.old) has_table) (S.wants_absence speaker.old)
+        files.now.dialogue.now.setting (is_state kept.old) has_table) (S.wants_notes speaker.old)
         said.now kept.old kept.new (O.state out.old).contents (O.state out.new).contents S.told
         speaker.old speaker.new) }
     ensures fine { OnOk result ((O.state out.new).failed ≡ false) }
@@ -124,7 +124,7 @@ fn reply<Rt: Threads + Sync, W: World, O: Sink, S: Speaker>(
         files.now.dialogue.now.setting (is_state kept.old) has_table) said.now kept.old
         (O.state out.old).contents (O.state out.new).contents (O.state out.new).failed S.told
         speaker.old speaker.new) }
-    ensures same { S.wants_absence speaker.new ≡ S.wants_absence speaker.old }
+    ensures same { S.wants_notes speaker.new ≡ S.wants_notes speaker.old }
     ensures form { OnOk result (is_state kept.new ≡ is_state kept.old) }
     ensures asked { Asks (change (W.state world.old) (W.state world.new))
         (LineAsks (saying said.now)) }
@@ -167,7 +167,7 @@ fn reply_to<Rt: Threads + Sync, O: Sink, S: Speaker>(
     requires out { (O.state out.old).failed ≡ false }
     requires asks { is_state kept.now ≡ true → needs_events job.now ≡ false }
     ensures ok { (world : Known) → IfOk result (Replies (answers_from world
-        files.now.dialogue.now.setting (is_state kept.now) has_table) (S.wants_absence speaker.old)
+        files.now.dialogue.now.setting (is_state kept.now) has_table) (S.wants_notes speaker.old)
         (Said.Asks job.now) kept.now kept.now (O.state out.old).contents (O.state out.new).contents
         S.told speaker.old speaker.new) }
     ensures fine { OnOk result ((O.state out.new).failed ≡ false) }
@@ -175,7 +175,7 @@ fn reply_to<Rt: Threads + Sync, O: Sink, S: Speaker>(
         files.now.dialogue.now.setting (is_state kept.now) has_table) (Said.Asks job.now) kept.now
         (O.state out.old).contents (O.state out.new).contents (O.state out.new).failed S.told
         speaker.old speaker.new) }
-    ensures same { S.wants_absence speaker.new ≡ S.wants_absence speaker.old }
+    ensures same { S.wants_notes speaker.new ≡ S.wants_notes speaker.old }
 {
     match kept.answer(files.rt, alloc, files.dialogue.setting, job) {
         Ok(AnswerText { mut lines, remarks }) => {
@@ -228,11 +228,11 @@ fn fault_of(ended: Result<Added, Refused>) -> Option<RunFault>
 /// Tells a speaker who wants to know it why nothing can be found of what the job's question is
 /// about, and what is told of its answer.
 fn tell<S: Speaker>(kept: &Kept, has_table: bool, job: &Job, remarks: Remarks, speaker: &mut S)
-    ensures told { Tells has_table (HasAbsenceIn kept.now) remarks (S.wants_absence speaker.old)
+    ensures told { Tells has_table (HasAbsenceIn kept.now) remarks (S.wants_notes speaker.old)
         S.told speaker.old job.now speaker.new }
-    ensures same { S.wants_absence speaker.new ≡ S.wants_absence speaker.old }
+    ensures same { S.wants_notes speaker.new ≡ S.wants_notes speaker.old }
 {
-    if speaker.notes_absence() {
+    if speaker.wants_notes() {
         let absence = kept.absence(job);
         speaker.hears(Note::Answered(job, absence, told_of(has_table, remarks)));
     }

@@ -158,58 +158,50 @@ SaysDialogue quiet in_words command (Err (asks.Dialogue stopped)) old new =
     HearsUnless (is_stop_unsaid quiet stopped) old new (stop_said in_words stopped)
 
 -- The speaker of a dialogue, before it and after. `told`, `noted` and `left` say how a note, the wish for notes, and the end of the replies
--- change the speaker. Whether the speaker wants to know what has no event is said before, and whether wrong lines count after.
+-- change the speaker. Whether wrong lines count is said after.
 pub record Spoken (S : Type 0) : Type 0 where
   pub told : S → OwnNote → S
   pub noted : S → Bool → S
   pub left : S → Bool → S
-  pub wants_absence : Bool
   pub counts_wrong : Bool
   pub before : S
   pub after : S
 
-abbrev pub spoken : {S : Type 0} → (S → OwnNote → S) → (S → Bool → S) → (S → Bool → S) → (S → Bool) → (S → Bool) → S → S → Spoken S
-spoken told noted left wants_absence counts_wrong before after = record {
+abbrev pub spoken : {S : Type 0} → (S → OwnNote → S) → (S → Bool → S) → (S → Bool → S) → (S → Bool) → S → S → Spoken S
+spoken told noted left counts_wrong before after = record {
   told = told;
   noted = noted;
   left = left;
-  wants_absence = wants_absence before;
   counts_wrong = counts_wrong after;
   before = before;
   after = after;
 }
 
--- the speaker once it is known whether notes are asked for; where they are, they are wanted
-abbrev pub with_notes : {S : Type 0} → Bool → Spoken S → Spoken S
-with_notes notes speaker = record speaker {
-  before = speaker.noted speaker.before notes;
-  wants_absence = speaker.wants_absence || notes;
-}
+-- what these questions, this output and this speaker, who knows whether notes are wanted and is listening by now, were before the dialogue
+-- and are after it
+abbrev pub talk_of : {S : Type 0} → SourceState → SourceState → Spoken S → Bool → S → Told → Told → Talk S
+talk_of questions left speaker wanted listening old new =
+    talk questions left old.out new.out speaker.told wanted (speaker.noted speaker.before wanted) listening
 
--- what these questions, this output and this speaker, who is listening by now, were before the dialogue and are after it
-abbrev pub talk_of : {S : Type 0} → SourceState → SourceState → Spoken S → S → Told → Told → Talk S
-talk_of questions left speaker listening old new =
-    talk questions left old.out new.out speaker.told speaker.wants_absence speaker.before listening
-
--- The lines of standard input get their replies. The speaker is given as they were when the last reply had come. The lines are asked for
--- first, and once.
-pub record Converses {S : Type 0} (speaker : Spoken S) (reach : Reach) (old new : Told) (of : Dialogue) (ended : Result Conversed AskFault)
-    : Type 0 where
+-- The lines of standard input get their replies. The speaker knows whether notes are wanted, and is given as they were when the last reply
+-- had come. The lines are asked for first, and once.
+pub record Converses {S : Type 0} (speaker : Spoken S) (wanted : Bool) (reach : Reach) (old new : Told) (of : Dialogue)
+    (ended : Result Conversed AskFault) : Type 0 where
   pub listening : S
   pub questions : SourceState
   pub handed : reach.after.questions ≡ Some questions
   pub between : WorldState
   pub first : IsAsked reach.world.old between (for_questions ∷ [])
   pub is : IsConversed (change between reach.world.new) reach.after.files of
-      (talk_of (fresh reach.world.old.known.standard) questions speaker listening old new) ended
+      (talk_of (fresh reach.world.old.known.standard) questions speaker wanted listening old new) ended
   -- Before the files are read no line is, and nothing is written or told.
   pub untouched : IfErr (before_dialogue ended) (λ refused.
-      (questions ≡ fresh reach.world.old.known.standard) × (new.out ≡ old.out) × (listening ≡ speaker.before))
+      (questions ≡ fresh reach.world.old.known.standard) × (new.out ≡ old.out) × (listening ≡ speaker.noted speaker.before wanted))
   pub after : speaker.after ≡ speaker.left listening questions.ended
 
 abbrev pub DoesConverse : {S : Type 0} → Bool → Bool → Spoken S → Reach → Told → Told → Command → Dialogue → ℕ → Type 0
 DoesConverse watches in_words speaker reach old new command of status =
-    IsPerformed (Converses speaker reach old new of) (dialogue_status speaker.counts_wrong)
+    IsPerformed (Converses speaker in_words reach old new of) (dialogue_status speaker.counts_wrong)
     (SaysDialogue (is_quiet watches new) in_words command) command old.heard new.heard status
 
 -- What is done for a command, and the status with which the program ends. Whether a person sees the output is given first, then
@@ -236,10 +228,10 @@ abbrev pub SpeaksIn : {S : Type 0} → Command → Spoken S → Type 0
 SpeaksIn (wish.Ask of) speaker = ⊤
 SpeaksIn command speaker = speaker.after ≡ speaker.before
 
--- Words are for a person who watches, and for whoever asks for notes.
+-- Words and notes are for a person who watches, and for whoever asks for notes.
 abbrev pub DoesParsed : {S : Type 0} → Bool → Bool → Spoken S → Reach → Told → Told → Result CommandLine ParseFault → ℕ → Type 0
 DoesParsed sees watches speaker reach old new (Ok line) status =
-    Does sees watches (watches || line.notes) (with_notes line.notes speaker) reach old new line.command status
+    Does sees watches (watches || line.notes) speaker reach old new line.command status
     × SpeaksIn line.command speaker
 DoesParsed sees watches speaker reach old new (Err why) status =
     Refuses watches old new why status × IsUntouched reach × (speaker.after ≡ speaker.before)

@@ -28,7 +28,7 @@ pub fn program<Rt: Threads + Sync, W: World, O: Output, P: Person, S: Speaker>(
 ) -> u8
     requires { (O.state console.old.out).failed ≡ false }
     ensures { Obeys (P.sees_output console.old.person) (P.is_watching console.old.person)
-        (spoken S.told S.noted S.left S.wants_absence S.counts speaker.old speaker.new)
+        (spoken S.told S.noted S.left S.counts speaker.old speaker.new)
         (reach W.Input.state (W.state world.old) (W.state world.new) inputs.old inputs.new)
         (told O.state O.has_lost_reader P.heard console.old)
         (told O.state O.has_lost_reader P.heard console.new)
@@ -49,7 +49,6 @@ pub fn program<Rt: Threads + Sync, W: World, O: Output, P: Person, S: Speaker>(
         }
         Command::Ask(dialogue) => {
             let files = Files { rt, dialogue };
-            speaker.takes_notes(line.notes);
             do_converse(alloc, world, &files, &line, inputs, console, speaker)
         }
     }

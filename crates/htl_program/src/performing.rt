@@ -148,13 +148,14 @@ pub(crate) fn do_converse<Rt: Threads + Sync, W: World, O: Output, P: Person, S:
     requires { (O.state console.old.out).failed ≡ false }
     ensures { DoesConverse (P.is_watching console.old.person)
         (P.is_watching console.old.person || line.now.notes)
-        (spoken S.told S.noted S.left S.wants_absence S.counts speaker.old speaker.new)
+        (spoken S.told S.noted S.left S.counts speaker.old speaker.new)
         (reach W.Input.state (W.state world.old) (W.state world.new) inputs.old inputs.new)
         (told O.state O.has_lost_reader P.heard console.old)
         (told O.state O.has_lost_reader P.heard console.new)
         line.now.command files.now.dialogue.now result }
 {
     let audience = console.begin(line);
+    speaker.takes_notes(audience.wants_words);
     let mut questions = world.questions();
     let ended = converse(
         alloc,

@@ -170,24 +170,24 @@ pub struct Silent {
 }
 
 impl Speaker for Silent {
-    ghost use Rattle.std.specs.Prelude.{◌||◌, true};
+    ghost use Rattle.std.specs.Prelude.{true};
 
     ghost told = { λ s note. s };
 
-    ghost wants_absence = { λ s. s.wants_notes };
+    ghost wants_notes = { λ s. s.wants_notes };
 
     ghost counts = { λ s. true };
 
-    ghost noted = { λ s are_asked_for. record s { wants_notes = s.wants_notes || are_asked_for } };
+    ghost noted = { λ s are_wanted. record s { wants_notes = are_wanted } };
 
     fn hears(&mut self, _note: Note<&[String], &ParseFault, &Job>) {}
 
-    fn notes_absence(&self) -> bool {
+    fn wants_notes(&self) -> bool {
         self.wants_notes
     }
 
-    fn takes_notes(&mut self, are_asked_for: bool) {
-        self.wants_notes |= are_asked_for;
+    fn takes_notes(&mut self, are_wanted: bool) {
+        self.wants_notes = are_wanted;
     }
 
     fn counts_wrong(&self) -> bool {

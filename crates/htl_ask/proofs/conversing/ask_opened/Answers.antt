@@ -88,7 +88,7 @@ returns-in_err-conversed-clause-outcome g c =
       are.read,
       opening,
       are.opens,
-      λ lines asked. stops_begun other (g.S.Speaker.wants_absence c.args.speaker.now) (Some are.read) lines
+      λ lines asked. stops_begun other (g.S.Speaker.wants_notes c.args.speaker.now) (Some are.read) lines
           (g.O.Sink.state c.args.out.now).contents (g.O.Sink.state c.converse_lines.new.out).contents g.S.Speaker.told c.args.speaker.now
           c.hears.new.self c.converse_lines.new.speaker (map string_bytes c.args.files.now.dialogue.now.files.items) opening
           (rw c.deref.ensures.value at c.hears.ensures.told) left failed fault
@@ -96,7 +96,7 @@ returns-in_err-conversed-clause-outcome g c =
           (λ before known job outcome holds has. holds_outcome setting symbols before known job outcome holds has)
           (λ before known job absence holds has. holds_absence setting symbols before known job absence holds has)
           (λ before known names after ended holds reads. reading_more world setting symbols names before known after ended holds reads)
-          (g.S.Speaker.wants_absence c.args.speaker.now) begun.kept (Some are.read) lines left failed _ fault
+          (g.S.Speaker.wants_notes c.args.speaker.now) begun.kept (Some are.read) lines left failed _ fault
           (record { covered = c.in_ok-kept.ensures.coverage; are = are.kept })
           (rw c.hears.ensures.same at c.in_err-conversed.ensures.stops lines asked)),
     ))
@@ -117,7 +117,7 @@ returns-clause-outcome g c =
       are.read,
       opening,
       are.opens,
-      λ lines asked. converses_begun other (g.S.Speaker.wants_absence c.args.speaker.now) (Some are.read) lines
+      λ lines asked. converses_begun other (g.S.Speaker.wants_notes c.args.speaker.now) (Some are.read) lines
           (g.O.Sink.state c.args.out.now).contents (g.O.Sink.state c.converse_lines.new.out).contents g.S.Speaker.told c.args.speaker.now
           c.hears.new.self c.converse_lines.new.speaker (map string_bytes c.args.files.now.dialogue.now.files.items) opening
           (rw c.deref.ensures.value at c.hears.ensures.told) conversed
@@ -125,7 +125,7 @@ returns-clause-outcome g c =
           (λ before known job outcome holds has. holds_outcome setting symbols before known job outcome holds has)
           (λ before known job absence holds has. holds_absence setting symbols before known job absence holds has)
           (λ before known names after ended holds reads. reading_more world setting symbols names before known after ended holds reads)
-          (g.S.Speaker.wants_absence c.args.speaker.now) begun.kept (Some are.read) lines _ conversed
+          (g.S.Speaker.wants_notes c.args.speaker.now) begun.kept (Some are.read) lines _ conversed
           (record { covered = c.in_ok-kept.ensures.coverage; are = are.kept })
           (rw c.hears.ensures.same at c.in_ok-conversed.ensures.ok lines asked)),
     )

@@ -23,7 +23,7 @@ returns-in_ok-write-in-Ok-clause-ok g c = λ world.
       late = noted.late;
       replied = (refl {a = kept}, Ok answer, has, refl, refl);
       told_late = told_of_such c.args.has_table (λ job (outcome : Result AnswerText RunFault). outcome ≡ Ok answer) (HasOutcomeIn complete kept)
-          (HasAbsenceIn kept) (g.S.Speaker.wants_absence c.args.speaker.now) c.args.job.now noted.late
+          (HasAbsenceIn kept) (g.S.Speaker.wants_notes c.args.speaker.now) c.args.job.now noted.late
           (λ outcome is. subst (HasOutcomeIn complete kept c.args.job.now) (sym is) has) (noted.is answer refl);
       written = rw (c.deref.ensures.value, c.in_ok-push-in-Ok.ensures.items) at c.in_ok-write-in-Ok.ensures.ok;
       all = noted.heard;
@@ -40,7 +40,7 @@ returns-in_ok-write-in-Err-clause-ok g c = λ world.
       early = hear.Declines c.in-Err.fault ∷ [];
       late = [];
       replied = (refl {a = c.args.kept.now}, Err c.in-Err.fault, has, refl, refl);
-      told_late = late_refused c.args.files.now.dialogue.now.setting.complete (g.S.Speaker.wants_absence c.args.speaker.now) c.args.has_table
+      told_late = late_refused c.args.files.now.dialogue.now.setting.complete (g.S.Speaker.wants_notes c.args.speaker.now) c.args.has_table
           c.args.kept.now c.args.job.now c.in-Err.fault has;
       written = c.in_ok-write-in-Err.ensures.ok;
       all = c.hears.ensures.told;

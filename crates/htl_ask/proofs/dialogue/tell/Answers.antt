@@ -5,9 +5,9 @@ use Rattle.htl_dialogue.specs.declared.note.Note.TheVariants as hear
 use Rattle.htl_main.specs.declared.remarks.Remarks.{Remarks}
 use Rattle.htl_ask.proofs.dialogue.tell.Goals as goal
 
-pub returns-then-notes_absence-clause-told : goal.returns-then-notes_absence-clause-told
-returns-then-notes_absence-clause-told g c =
-    let wanted : g.S.Speaker.wants_absence c.args.speaker.now ≡ true = sym c.notes_absence.ensures ∙ c.if-notes_absence.true in
+pub returns-then-wants_notes-clause-told : goal.returns-then-wants_notes-clause-told
+returns-then-wants_notes-clause-told g c =
+    let wanted : g.S.Speaker.wants_notes c.args.speaker.now ≡ true = sym c.wants_notes.ensures ∙ c.if-wants_notes.true in
     let job = c.args.job.now in
     let absence = c.absence-absence.result in
     record {
@@ -22,7 +22,7 @@ returns-then-notes_absence-clause-told g c =
       heard = rw c.told_of.ensures at c.hears.ensures.told;
     }
 
-pub returns-else-notes_absence-clause-told : goal.returns-else-notes_absence-clause-told
-returns-else-notes_absence-clause-told g c =
-    let unwanted : g.S.Speaker.wants_absence c.args.speaker.now ≡ false = sym c.notes_absence.ensures ∙ c.if-notes_absence.false in
+pub returns-else-wants_notes-clause-told : goal.returns-else-wants_notes-clause-told
+returns-else-wants_notes-clause-told g c =
+    let unwanted : g.S.Speaker.wants_notes c.args.speaker.now ≡ false = sym c.wants_notes.ensures ∙ c.if-wants_notes.false in
     record { late = []; is = λ answer same. rw unwanted refl; heard = refl }

@@ -10,6 +10,7 @@ returns g c =
     let begun = c.begin-audience.ensures in
     let over = c.end-manner.ensures in
     let lines = c.questions-questions.ensures in
+    let wish = c.takes_notes.ensures in
     record {
       ended = c.converse-ended.result;
       is = record {
@@ -18,12 +19,12 @@ returns g c =
         handed = search rules;
         between = g.W.World.state c.questions-questions.new.self;
         first = lines.asked;
-        is = rw over.out (rw (lines.source, begun.out) at c.converse-ended.ensures.conversed);
+        is = rw over.out (rw (lines.source, begun.out, wish.wanted, wish.taken, begun.words) at c.converse-ended.ensures.conversed);
         untouched = IfErr-weaker (before_dialogue c.converse-ended.result) _ _
             (λ refused same. (
               ap g.W.Input.Source.state same.0 ∙ lines.source,
               ap g.O.Sink.state (over.out ∙ (same.1 ∙ begun.out)),
-              same.2,
+              same.2 ∙ (rw begun.words at wish.taken),
             ))
             c.converse-ended.ensures.untouched;
         after = search rules;

@@ -1,0 +1,5 @@
+pub mod Places
+pub mod Tallies
+pub mod TablesOf
+pub mod Determined
+pub mod Told

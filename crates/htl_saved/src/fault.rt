@@ -1,0 +1,49 @@
+//! Why no rows are made of an analyst.
+
+use htl_event::NoMemory;
+use std::alloc::{AllocError, AllocFailed};
+use thiserror::Error;
+
+/// Why no rows are made of an analyst.
+#[derive(Clone, Copy, Debug, PartialEq, Eq, Error)]
+pub enum SaveFault {
+    /// The analyst has more than 2^32 stacks: a row has no number for the places of all of them.
+    #[error("more than 2^32 stacks")]
+    Stacks,
+    /// An allocation was refused.
+    #[error("out of memory")]
+    NoMemory,
+}
+
+impl From<NoMemory> for SaveFault {
+    ghost use Rattle.std.specs.Prelude.{◌≡◌};
+    ghost use Rattle.htl_saved.specs.declared.fault.SaveFault.TheVariants as faults;
+
+    ghost from_gives = { λ _ fault. fault ≡ faults.NoMemory };
+
+    fn from(_refused: NoMemory) -> SaveFault {
+        SaveFault::NoMemory
+    }
+}
+
+impl From<AllocError> for SaveFault {
+    ghost use Rattle.std.specs.Prelude.{◌≡◌};
+    ghost use Rattle.htl_saved.specs.declared.fault.SaveFault.TheVariants as faults;
+
+    ghost from_gives = { λ _ fault. fault ≡ faults.NoMemory };
+
+    fn from(_refused: AllocError) -> SaveFault {
+        SaveFault::NoMemory
+    }
+}
+
+impl<T: Drop> From<AllocFailed<T>> for SaveFault {
+    ghost use Rattle.std.specs.Prelude.{◌≡◌};
+    ghost use Rattle.htl_saved.specs.declared.fault.SaveFault.TheVariants as faults;
+
+    ghost from_gives = { λ _ fault. fault ≡ faults.NoMemory };
+
+    fn from(_refused: AllocFailed<T>) -> SaveFault {
+        SaveFault::NoMemory
+    }
+}

@@ -1,0 +1,12 @@
+//! The laws of rows. Each function's contract is the law; none does anything when it runs.
+ghost use Rattle.htl_saved.specs.Laws.{AreDetermined, TellTheState};
+
+/// An analyst has one list of rows. With the laws of `htl_state` it has one spelling.
+pub fn rows_are_determined()
+    ensures { AreDetermined }
+{}
+
+/// Rows tell the state: analysts that have the same rows are the same.
+pub fn rows_tell_the_state()
+    ensures { TellTheState }
+{}

@@ -1,6 +1,8 @@
-//! Tests of the format of states: a worked state, and each fault. They stand here, over a proved
-//! crate, so that it isn't proved a second time with its tests.
+//! Tests of the format of states: a worked state, and each fault; and of the rows of an analyst. They
+//! stand here, over proved crates, so that these aren't proved a second time with their tests.
 #![tactic(auto)]
 
+#[cfg(test)]
+mod saved;
 #[cfg(test)]
 mod states;

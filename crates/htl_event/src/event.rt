@@ -35,6 +35,7 @@ pub type SharedEvent = Event<SharedStack>;
 
 impl<S> Event<S> {
     ghost use Rattle.std.specs.Prelude.{◌≡◌};
+    ghost use Rattle.htl_event.specs.Events.{with_stack};
     ghost use Rattle.htl_event.specs.Slots.{slot_of};
 
     /// What this event is counted under, and on which side. Snapshots and process exits are counted
@@ -62,6 +63,22 @@ impl<S> Event<S> {
             Kind::Deref => Some((tagged, Sign::Minus)),
         }
     }
+
+    /// The same event with this stack in place of its own.
+    pub fn with_stack<T>(&self, stack: T) -> Event<T>
+        ensures { result ≡ with_stack stack self.now }
+    {
+        Event {
+            sequence: self.sequence,
+            kind: self.kind,
+            process: self.process,
+            thread: self.thread,
+            handle: self.handle,
+            object: self.object,
+            tag: self.tag,
+            stack,
+        }
+    }
 }
 
 impl Event {
@@ -72,16 +89,7 @@ impl Event {
     pub fn copy(&self) -> Event
         ensures { result ≡ self.now }
     {
-        Event {
-            sequence: self.sequence,
-            kind: self.kind,
-            process: self.process,
-            thread: self.thread,
-            handle: self.handle,
-            object: self.object,
-            tag: self.tag,
-            stack: self.stack.copy(),
-        }
+        self.with_stack(self.stack.copy())
     }
 
     /// For proofs: what the types of the fields say of their numbers. It does nothing when it runs.
@@ -107,16 +115,7 @@ impl SharedEvent {
     pub fn copy(&self) -> Result<SharedEvent, AllocError>
         ensures { IfOk result (λ copy. copy ≡ self.now) }
     {
-        Ok(Event {
-            sequence: self.sequence,
-            kind: self.kind,
-            process: self.process,
-            thread: self.thread,
-            handle: self.handle,
-            object: self.object,
-            tag: self.tag,
-            stack: self.stack.copy()?,
-        })
+        Ok(self.with_stack(self.stack.copy()?))
     }
 }
 

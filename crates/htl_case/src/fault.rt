@@ -1,7 +1,6 @@
 //! Why a list of segments isn't a case, and why a list of steps isn't played.
 
 use htl_event::NoMemory;
-use std::alloc::{AllocError, AllocFailed};
 use thiserror::Error;
 
 /// Why a list of segments isn't a case: the first rule that it breaks. Each rule is tried over all
@@ -48,68 +47,26 @@ pub enum PlayFault {
     NoMemory,
 }
 
-impl From<NoMemory> for CaseFault {
+impl<R: Into<NoMemory>> From<R> for CaseFault {
     ghost use Rattle.std.specs.Prelude.{◌≡◌};
     ghost use Rattle.htl_case.specs.declared.fault.CaseFault.TheVariants as faults;
 
     ghost from_gives = { λ _ fault. fault ≡ faults.NoMemory };
 
-    fn from(_refused: NoMemory) -> CaseFault {
+    fn from(refused: R) -> CaseFault {
+        let NoMemory = refused.into();
         CaseFault::NoMemory
     }
 }
 
-impl From<AllocError> for CaseFault {
-    ghost use Rattle.std.specs.Prelude.{◌≡◌};
-    ghost use Rattle.htl_case.specs.declared.fault.CaseFault.TheVariants as faults;
-
-    ghost from_gives = { λ _ fault. fault ≡ faults.NoMemory };
-
-    fn from(_refused: AllocError) -> CaseFault {
-        CaseFault::NoMemory
-    }
-}
-
-impl<T: Drop> From<AllocFailed<T>> for CaseFault {
-    ghost use Rattle.std.specs.Prelude.{◌≡◌};
-    ghost use Rattle.htl_case.specs.declared.fault.CaseFault.TheVariants as faults;
-
-    ghost from_gives = { λ _ fault. fault ≡ faults.NoMemory };
-
-    fn from(_refused: AllocFailed<T>) -> CaseFault {
-        CaseFault::NoMemory
-    }
-}
-
-impl From<NoMemory> for PlayFault {
+impl<R: Into<NoMemory>> From<R> for PlayFault {
     ghost use Rattle.std.specs.Prelude.{◌≡◌};
     ghost use Rattle.htl_case.specs.declared.fault.PlayFault.TheVariants as faults;
 
     ghost from_gives = { λ _ fault. fault ≡ faults.NoMemory };
 
-    fn from(_refused: NoMemory) -> PlayFault {
-        PlayFault::NoMemory
-    }
-}
-
-impl From<AllocError> for PlayFault {
-    ghost use Rattle.std.specs.Prelude.{◌≡◌};
-    ghost use Rattle.htl_case.specs.declared.fault.PlayFault.TheVariants as faults;
-
-    ghost from_gives = { λ _ fault. fault ≡ faults.NoMemory };
-
-    fn from(_refused: AllocError) -> PlayFault {
-        PlayFault::NoMemory
-    }
-}
-
-impl<T: Drop> From<AllocFailed<T>> for PlayFault {
-    ghost use Rattle.std.specs.Prelude.{◌≡◌};
-    ghost use Rattle.htl_case.specs.declared.fault.PlayFault.TheVariants as faults;
-
-    ghost from_gives = { λ _ fault. fault ≡ faults.NoMemory };
-
-    fn from(_refused: AllocFailed<T>) -> PlayFault {
+    fn from(refused: R) -> PlayFault {
+        let NoMemory = refused.into();
         PlayFault::NoMemory
     }
 }

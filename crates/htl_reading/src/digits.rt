@@ -6,7 +6,8 @@ ghost use Rattle.htl_segment.specs.Hexadecimal.{digits_of, is_foreign};
 ghost use Rattle.htl_reading.specs.Digits.{ReadsDigits};
 
 use htl_device::{MAX_READS, MIN_READ_LEN, Source};
-use std::alloc::{AllocError, Global};
+use htl_event::NoMemory;
+use std::alloc::Global;
 
 /// Why a text in hexadecimal is not read to its end.
 #[derive(Clone, Copy, Debug, PartialEq, Eq)]
@@ -19,13 +20,14 @@ pub enum DigitsFault {
     NoMemory,
 }
 
-impl From<AllocError> for DigitsFault {
+impl<R: Into<NoMemory>> From<R> for DigitsFault {
     ghost use Rattle.std.specs.Prelude.{◌≡◌};
-    ghost use Rattle.htl_reading.specs.declared.digits.DigitsFault.TheVariants.{NoMemory};
+    ghost use Rattle.htl_reading.specs.declared.digits.DigitsFault.TheVariants as faults;
 
-    ghost from_gives = { λ _ fault. fault ≡ NoMemory };
+    ghost from_gives = { λ _ fault. fault ≡ faults.NoMemory };
 
-    fn from(_refused: AllocError) -> DigitsFault {
+    fn from(refused: R) -> DigitsFault {
+        let NoMemory = refused.into();
         DigitsFault::NoMemory
     }
 }

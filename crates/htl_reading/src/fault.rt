@@ -2,7 +2,6 @@
 
 use htl_event::NoMemory;
 use htl_segment::Fault;
-use std::alloc::{AllocError, AllocFailed};
 
 /// Why the reading of a source ended before its end.
 #[derive(Clone, Copy, Debug, PartialEq, Eq)]
@@ -30,32 +29,13 @@ impl SourceFault {
     }
 }
 
-impl From<NoMemory> for SourceFault {
+impl<R: Into<NoMemory>> From<R> for SourceFault {
     ghost use Rattle.htl_reading.specs.Blocks.{IsNoMemory};
 
     ghost from_gives = { λ _. IsNoMemory };
 
-    fn from(_refused: NoMemory) -> SourceFault {
-        SourceFault::NoMemory
-    }
-}
-
-impl From<AllocError> for SourceFault {
-    ghost use Rattle.htl_reading.specs.Blocks.{IsNoMemory};
-
-    ghost from_gives = { λ _. IsNoMemory };
-
-    fn from(_refused: AllocError) -> SourceFault {
-        SourceFault::NoMemory
-    }
-}
-
-impl<T: Drop> From<AllocFailed<T>> for SourceFault {
-    ghost use Rattle.htl_reading.specs.Blocks.{IsNoMemory};
-
-    ghost from_gives = { λ _. IsNoMemory };
-
-    fn from(_refused: AllocFailed<T>) -> SourceFault {
+    fn from(refused: R) -> SourceFault {
+        let NoMemory = refused.into();
         SourceFault::NoMemory
     }
 }

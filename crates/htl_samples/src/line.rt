@@ -80,16 +80,8 @@ pub fn shared_events(alloc: Global, lines: &str) -> Result<Vec<SharedEvent>, Sam
 }
 
 fn share(alloc: Global, cache: &mut StackCache, event: &Event) -> Result<SharedEvent, NoMemory> {
-    Ok(SharedEvent {
-        sequence: event.sequence,
-        kind: event.kind,
-        process: event.process,
-        thread: event.thread,
-        handle: event.handle,
-        object: event.object,
-        tag: event.tag,
-        stack: cache.of_addresses(alloc, event.stack.frames())?,
-    })
+    let stack = cache.of_addresses(alloc, event.stack.frames())?;
+    Ok(event.with_stack(stack))
 }
 
 fn kind_of(word: &str) -> Result<Kind, SampleFault> {

@@ -3,7 +3,7 @@ ghost use Rattle.std.specs.Prelude.{◌≡◌, ℕ, All, None, Some, IfOk, OnOk,
 ghost use Rattle.std.specs.Arc.{arc_value};
 ghost use Rattle.htl_event.specs.Ranges.{InRange};
 ghost use Rattle.htl_segment.specs.Content.{content};
-ghost use Rattle.htl_segment.specs.Building.{event_fault, events_fault, build_fault, Builds};
+ghost use Rattle.htl_segment.specs.Building.{event_fault, events_fault, build_fault};
 
 use crate::fault::Fault;
 use crate::header::{MAX_EVENTS, MAX_NUMBER};
@@ -36,7 +36,7 @@ impl Segment {
         ensures { Builds (content V1 trace_id processors processor number events.items)
             events result }
     {
-        build_as(
+        Segment::build_as(
             alloc,
             Version::V1,
             trace_id,
@@ -60,7 +60,7 @@ impl Segment {
         ensures { Builds (content V2 trace_id processors processor number events.items)
             events result }
     {
-        build_as(
+        Segment::build_as(
             alloc,
             Version::V2,
             trace_id,
@@ -70,28 +70,29 @@ impl Segment {
             events,
         )
     }
-}
 
-fn build_as(
-    alloc: Global,
-    version: Version,
-    trace_id: u64,
-    processors: u16,
-    processor: u16,
-    number: u32,
-    events: Vec<Event>,
-) -> Result<Segment, (Fault, Vec<Event>)>
-    ensures { Builds (content version trace_id processors processor number events.items)
-        events result }
-{
-    match check_parts(version, processors, processor, number, &events) {
-        Ok(()) => match share(alloc, &events) {
-            Ok(shared) => Ok(Segment::new(
-                version, trace_id, processors, processor, number, shared,
-            )),
-            Err(NoMemory) => Err((Fault::NoMemory, events)),
-        },
-        Err(fault) => Err((fault, events)),
+    /// A segment of this version, of these parts, or their first fault: as `build` and `build2`.
+    pub fn build_as(
+        alloc: Global,
+        version: Version,
+        trace_id: u64,
+        processors: u16,
+        processor: u16,
+        number: u32,
+        events: Vec<Event>,
+    ) -> Result<Segment, (Fault, Vec<Event>)>
+        ensures { Builds (content version trace_id processors processor number events.items)
+            events result }
+    {
+        match check_parts(version, processors, processor, number, &events) {
+            Ok(()) => match share(alloc, &events) {
+                Ok(shared) => Ok(Segment::new(
+                    version, trace_id, processors, processor, number, shared,
+                )),
+                Err(NoMemory) => Err((Fault::NoMemory, events)),
+            },
+            Err(fault) => Err((fault, events)),
+        }
     }
 }
 
@@ -102,16 +103,8 @@ fn share(alloc: Global, events: &[Event]) -> Result<Arc<Vec<SharedEvent>>, NoMem
     let mut cache = StackCache::new(alloc);
     let mut shared = Vec::with_capacity(alloc, events.len())?;
     for event in events {
-        shared.push(Event {
-            sequence: event.sequence,
-            kind: event.kind,
-            process: event.process,
-            thread: event.thread,
-            handle: event.handle,
-            object: event.object,
-            tag: event.tag,
-            stack: cache.of_addresses(alloc, event.stack.frames())?,
-        })?;
+        let stack = cache.of_addresses(alloc, event.stack.frames())?;
+        shared.push(event.with_stack(stack))?;
     }
     Ok(Arc::new(alloc, shared)?)
 }

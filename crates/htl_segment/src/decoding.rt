@@ -7,7 +7,6 @@ ghost use Rattle.htl_segment.specs.Faults.{first_fault};
 use crate::fault::Fault;
 use crate::segment::Segment;
 use crate::segment_bytes::SegmentBytes;
-use crate::stack_cache::StackCache;
 use std::alloc::Global;
 
 /// The segment that `bytes` begin with, and its length in bytes.
@@ -28,25 +27,7 @@ pub fn decode(alloc: Global, bytes: &[u8]) -> Result<(Segment, usize), Fault>
         (fault ≡ Fault.NoMemory)
         (λ first. fault ≡ first)) }
 {
-    decode_with(alloc, &mut StackCache::new(alloc), bytes)
-}
-
-/// As `decode`, but equal stacks come from the cache.
-pub fn decode_with(
-    alloc: Global,
-    cache: &mut StackCache,
-    bytes: &[u8],
-) -> Result<(Segment, usize), Fault>
-    ensures found { IfOk result (λ x. BeginsWith bytes.now x.1 x.0) }
-    ensures only { (s : Content) (n : ℕ) → BeginsWith bytes.now n s
-        → MatchResult result (λ x. x ≡ (s, n)) (λ fault. fault ≡ Fault.NoMemory) }
-    ensures fault { MatchResult result
-        (λ _. first_fault bytes.now ≡ None)
-        (λ fault. MatchOption (first_fault bytes.now)
-        (fault ≡ Fault.NoMemory)
-        (λ first. fault ≡ first)) }
-{
     let found = SegmentBytes::check(bytes)?;
-    let segment = found.to_segment_with(alloc, cache)?;
+    let segment = found.to_segment(alloc)?;
     Ok((segment, found.byte_len()))
 }

@@ -3,7 +3,6 @@ ghost use Rattle.std.specs.Prelude.{◌≡◌};
 ghost use Rattle.htl_segment.specs.declared.fault.Fault.TheVariants as faults;
 
 use htl_event::NoMemory;
-use std::alloc::{AllocError, AllocFailed};
 use thiserror::Error;
 
 /// Why bytes are no segment: the first rule of the format that they break.
@@ -76,26 +75,11 @@ impl Fault {
     }
 }
 
-impl From<NoMemory> for Fault {
+impl<R: Into<NoMemory>> From<R> for Fault {
     ghost from_gives = { λ _ fault. fault ≡ faults.NoMemory };
 
-    fn from(_refused: NoMemory) -> Fault {
-        Fault::NoMemory
-    }
-}
-
-impl From<AllocError> for Fault {
-    ghost from_gives = { λ _ fault. fault ≡ faults.NoMemory };
-
-    fn from(_refused: AllocError) -> Fault {
-        Fault::NoMemory
-    }
-}
-
-impl<T: Drop> From<AllocFailed<T>> for Fault {
-    ghost from_gives = { λ _ fault. fault ≡ faults.NoMemory };
-
-    fn from(_refused: AllocFailed<T>) -> Fault {
+    fn from(refused: R) -> Fault {
+        let NoMemory = refused.into();
         Fault::NoMemory
     }
 }

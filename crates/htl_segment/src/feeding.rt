@@ -11,7 +11,6 @@ ghost use Rattle.htl_segment.specs.Bundles.{IsRest, IsPieceRefused};
 ghost use Rattle.htl_segment.specs.Feeding.{SplitsMore, Extends, HasRoom, IsTakenIn};
 
 use crate::bundle::split;
-use crate::decoding::decode_with;
 use crate::fault::Fault;
 use crate::header::{HEADER_LEN, len_at};
 use crate::keeper::Segments;
@@ -123,8 +122,14 @@ fn complete_records(
     }
     let (taken, left) = piece.split_at(len - rest.len());
     put_behind(rest, taken);
-    match decode_with(alloc, &mut kept.cache, rest) {
-        Ok((first, len)) => keep_after(alloc, kept, first, len, rest, left),
+    match SegmentBytes::check(rest) {
+        Ok(found) => match found.to_segment_with(alloc, &mut kept.cache) {
+            Ok(first) => {
+                let len = found.byte_len();
+                keep_after(alloc, kept, first, len, rest, left)
+            }
+            Err(NoMemory) => Err((0, Fault::NoMemory)),
+        },
         Err(fault) => Err((0, fault)),
     }
 }

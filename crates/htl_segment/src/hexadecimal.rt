@@ -3,10 +3,11 @@ ghost use Rattle.std.specs.Prelude.{◌≡◌, ◌%◌, length, position, Ok, Er
 ghost use Rattle.std.specs.List.{AllPass};
 ghost use Rattle.hex.specs.Hex.{decode_of, is_hex_digit};
 ghost use Rattle.htl_segment.specs.Hexadecimal.{is_foreign, digits_of, hex_fault};
-ghost use Rattle.htl_segment.specs.declared.hexadecimal.HexFault.TheVariants.{NoMemory};
+ghost use Rattle.htl_segment.specs.declared.hexadecimal.HexFault.TheVariants as faults;
 
 use hex::FromHexError;
-use std::alloc::{AllocError, AllocFailed, Global};
+use htl_event::NoMemory;
+use std::alloc::Global;
 use thiserror::Error;
 
 /// Why a text is not valid hexadecimal. The `Display` text is the fault's code.
@@ -23,18 +24,11 @@ pub enum HexFault {
     NoMemory,
 }
 
-impl From<AllocError> for HexFault {
-    ghost from_gives = { λ _ fault. fault ≡ NoMemory };
+impl<R: Into<NoMemory>> From<R> for HexFault {
+    ghost from_gives = { λ _ fault. fault ≡ faults.NoMemory };
 
-    fn from(_refused: AllocError) -> HexFault {
-        HexFault::NoMemory
-    }
-}
-
-impl<T: Drop> From<AllocFailed<T>> for HexFault {
-    ghost from_gives = { λ _ fault. fault ≡ NoMemory };
-
-    fn from(_refused: AllocFailed<T>) -> HexFault {
+    fn from(refused: R) -> HexFault {
+        let NoMemory = refused.into();
         HexFault::NoMemory
     }
 }

@@ -68,16 +68,7 @@ impl<'a> Record<'a> {
     pub fn event(&self) -> Event
         ensures { result ≡ event_of self.now }
     {
-        let mut event = Event {
-            sequence: self.sequence,
-            kind: self.kind,
-            process: self.process,
-            thread: self.thread,
-            handle: self.handle,
-            object: self.object,
-            tag: self.tag,
-            stack: Stack::new(),
-        };
+        let mut event = self.event_with(Stack::new());
         // A stack is large, so it is filled where it lies.
         push_frames(&mut event.stack, self.frames);
         event
@@ -86,6 +77,7 @@ impl<'a> Record<'a> {
 
 impl Record<'_> {
     ghost use Rattle.std.specs.Prelude.{◌≡◌, IfOk};
+    ghost use Rattle.htl_event.specs.Events.{with_stack};
     ghost use Rattle.htl_event.specs.Interests.{as_needed, wants};
     ghost use Rattle.htl_segment.specs.Records.{event_of};
 
@@ -125,7 +117,15 @@ impl Record<'_> {
     ) -> Result<SharedEvent, NoMemory>
         ensures { IfOk result (λ event. event ≡ event_of self.now) }
     {
-        Ok(Event {
+        let stack = cache.of_bytes(alloc, fingerprint, self.frames)?;
+        Ok(self.event_with(stack))
+    }
+
+    /// The event that this record describes, with this stack in place of its own.
+    fn event_with<S>(&self, stack: S) -> Event<S>
+        ensures { result ≡ with_stack stack (event_of self.now) }
+    {
+        Event {
             sequence: self.sequence,
             kind: self.kind,
             process: self.process,
@@ -133,8 +133,8 @@ impl Record<'_> {
             handle: self.handle,
             object: self.object,
             tag: self.tag,
-            stack: cache.of_bytes(alloc, fingerprint, self.frames)?,
-        })
+            stack,
+        }
     }
 }
 

@@ -5,7 +5,7 @@ use Rattle.std.specs.List.{flat_map}
 use Rattle.std.proofs.lemmas.Bool.{false≢true}
 use Rattle.std.proofs.lemmas.List.{append_assoc, append-nil}
 use Rattle.std.proofs.lemmas.List.Elements.{All-head, All-tail}
-use Rattle.htl_event.specs.Events.{Event}
+use Rattle.htl_event.specs.Events.{Event, with_stack}
 use Rattle.htl_segment.specs.Content.{Content, Fits}
 use Rattle.htl_segment.proofs.BuildingLaws.{parts_pass}
 use Rattle.htl_segment.specs.declared.fault.Fault.{Fault}
@@ -15,7 +15,7 @@ use Rattle.htl_text.specs.declared.item.Item.TheVariants as item
 use Rattle.htl_text.specs.declared.fault.FormFault.{FormFault}
 use Rattle.htl_text.specs.declared.fault.LineFault.{LineFault}
 use Rattle.htl_text.specs.declared.fault.LineFault.TheVariants.{Form, Order, Segment}
-use Rattle.htl_text.specs.Items.{Draft, with_stack, without_stack, event_items, draft_items, draft_of, segments_items}
+use Rattle.htl_text.specs.Items.{Draft, without_stack, event_items, draft_items, draft_of, segments_items}
 use Rattle.htl_text.specs.Lines.{words_of, is_skipped, item_in}
 use Rattle.htl_text.specs.Encoded.{draft, draft_fault, Write, kept, Written, written_items, WrittenFits, IsBad, LinesEncode, LinesFault, IsLineFault}
 use Rattle.htl_text.specs.Encoded.{IsSegmentFault, ends_before, begins_segment, is_misplaced, is_none_yet}

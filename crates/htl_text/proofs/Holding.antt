@@ -6,7 +6,7 @@ use Rattle.std.proofs.lemmas.Bool.{ltb-true, ltb-false}
 use Rattle.std.proofs.lemmas.Bool.Decides.{nat_tests}
 use Rattle.std.proofs.lemmas.Grind.{flat_map-append}
 use Rattle.std.proofs.lemmas.List.{map-append, length-take-le, take_all, take-append-le, append-nil}
-use Rattle.htl_event.specs.Events.{Event}
+use Rattle.htl_event.specs.Events.{Event, with_stack}
 use Rattle.htl_segment.specs.Bundles.{bundle}
 use Rattle.htl_segment.specs.Content.{Content}
 use Rattle.htl_segment.specs.Encoding.{encoding}
@@ -19,7 +19,7 @@ use Rattle.htl_text.specs.declared.item.Item.TheVariants as item
 use Rattle.htl_text.specs.declared.fault.FormFault.{FormFault}
 use Rattle.htl_text.specs.declared.fault.LineFault.{LineFault}
 use Rattle.htl_text.specs.declared.fault.LineFault.TheVariants.{Form, Order, Segment}
-use Rattle.htl_text.specs.Items.{Draft, LoneEvent, with_stack}
+use Rattle.htl_text.specs.Items.{Draft, LoneEvent}
 use Rattle.htl_text.specs.Lines.{words_of, is_skipped, item_in}
 use Rattle.htl_text.specs.Encoded.{draft, draft_fault, content_of}
 use Rattle.htl_text.specs.Steps.{DraftLines, Progress, draft_lines, progress, nothing_read, begun, with_event, with_frame_of, settled}

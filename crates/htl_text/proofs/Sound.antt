@@ -4,7 +4,7 @@ use Rattle.std.specs.Prelude.{Option, Some, None, Result, Ok, Err, All, IfOk, ma
 use Rattle.std.specs.List.{AllByRecursion}
 use Rattle.std.proofs.lemmas.List.{append_assoc, append-nil}
 use Rattle.std.proofs.lemmas.List.Elements.{All-cons, All-push}
-use Rattle.htl_event.specs.Events.{Event}
+use Rattle.htl_event.specs.Events.{Event, with_stack}
 use Rattle.htl_event.specs.Ranges.{InRange}
 use Rattle.htl_segment.specs.Building.{build_fault}
 use Rattle.htl_segment.specs.Content.{Content, Fits}
@@ -20,7 +20,7 @@ use Rattle.htl_text.specs.declared.item.Item.TheVariants as item
 use Rattle.htl_text.specs.declared.fault.FormFault.{FormFault}
 use Rattle.htl_text.specs.declared.fault.LineFault.{LineFault}
 use Rattle.htl_text.specs.declared.fault.LineFault.TheVariants.{Form, Order}
-use Rattle.htl_text.specs.Items.{Draft, LoneEvent, with_stack, draft_items, draft_of, segments_items}
+use Rattle.htl_text.specs.Items.{Draft, LoneEvent, draft_items, draft_of, segments_items}
 use Rattle.htl_text.specs.Lines.{words_of, is_skipped, item_in}
 use Rattle.htl_text.specs.Encoded.{draft, draft_fault, content_of, Write, kept, Written, written_items, WrittenFits, IsBad, LinesEncode, LinesFault}
 use Rattle.htl_text.specs.Encoded.{IsLineFault, IsSegmentFault, ends_before}

@@ -5,12 +5,12 @@ use Rattle.std.specs.List.{flat_map}
 use Rattle.std.proofs.lemmas.Grind.{flat_map-append}
 use Rattle.std.proofs.lemmas.List.{map-append, append_assoc, append-nil}
 use Rattle.std.proofs.lemmas.List.Elements.{filter-append}
-use Rattle.htl_event.specs.Events.{Event}
+use Rattle.htl_event.specs.Events.{Event, with_stack}
 use Rattle.htl_segment.specs.Content.{Content}
 use Rattle.htl_text.specs.declared.item.Head.{Head}
 use Rattle.htl_text.specs.declared.item.Item.{Item}
 use Rattle.htl_text.specs.declared.item.Item.TheVariants as item
-use Rattle.htl_text.specs.Items.{LoneEvent, with_stack, without_stack, event_items, draft_items, draft_of, segments_items}
+use Rattle.htl_text.specs.Items.{LoneEvent, without_stack, event_items, draft_items, draft_of, segments_items}
 use Rattle.htl_text.specs.Lines.{words_of, is_skipped, item_in}
 use Rattle.htl_text.specs.Encoded.{draft, kept, Write}
 use Rattle.htl_text.proofs.Holding.{framed}

@@ -1,6 +1,6 @@
 -- What the lines of a text say (this project's own), one item each.
 use Rattle.std.specs.Prelude.{List, ◌∷◌, map, flat_map}
-use Rattle.htl_event.specs.Events.{Event}
+use Rattle.htl_event.specs.Events.{Event, with_stack}
 use Rattle.htl_event.specs.declared.event.Event.{Event as EventWith}
 use Rattle.htl_segment.specs.Content.{Content}
 use Rattle.htl_segment.specs.Versions.{version_number}
@@ -11,19 +11,6 @@ use Rattle.htl_text.specs.declared.item.Item.TheVariants as item
 -- an event without its stack
 abbrev pub LoneEvent : Type 0
 LoneEvent = EventWith (Unit {0})
-
--- the event with this stack in place of its own
-abbrev pub with_stack : {S T : Type 0} → T → EventWith S → EventWith T
-with_stack stack e = record {
-  sequence = e.sequence;
-  kind = e.kind;
-  process = e.process;
-  thread = e.thread;
-  handle = e.handle;
-  object = e.object;
-  tag = e.tag;
-  stack = stack;
-}
 
 abbrev pub without_stack : Event → LoneEvent
 without_stack e = with_stack tt e

@@ -2,14 +2,14 @@
 use Rattle.std.specs.Prelude.{◌≡◌, ℕ, ◌+◌, List, [], ◌∷◌, ◌++◌, Option, Some, None, Result, Ok, Err, length}
 use Rattle.std.specs.Option.{is_some}
 use Rattle.std.specs.Prelude.{true, if◌then◌else◌, nat_le, nat_lt, option_to_list, unwrap_or}
-use Rattle.htl_event.specs.Events.{Event}
+use Rattle.htl_event.specs.Events.{Event, with_stack}
 use Rattle.htl_segment.specs.Content.{Content}
 use Rattle.htl_segment.specs.Encoding.{encoding}
 use Rattle.htl_segment.specs.Reading.{version_of}
 use Rattle.htl_segment.specs.declared.version.Version.{Version}
 use Rattle.htl_segment.specs.declared.fault.Fault.{Fault}
 use Rattle.htl_segment.specs.declared.fault.Fault.TheVariants as faults
-use Rattle.htl_text.specs.Items.{Draft, LoneEvent, with_stack}
+use Rattle.htl_text.specs.Items.{Draft, LoneEvent}
 use Rattle.htl_text.specs.Lines.{lines_of_text, words_of, is_skipped, item_in}
 use Rattle.htl_text.specs.Encoded.{begins, content_of, draft_fault, IsSegmentOf, kept}
 use Rattle.htl_text.specs.declared.item.Head.{Head}

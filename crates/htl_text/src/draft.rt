@@ -1,9 +1,8 @@
 //! Drafts: segments whose lines are being read.
-ghost use Rattle.std.specs.Prelude.{◌≡◌, [], None, Some, MatchOption, MatchResult};
+ghost use Rattle.std.specs.Prelude.{◌≡◌, None, Some, MatchOption, MatchResult};
 ghost use Rattle.htl_segment.specs.Building.{build_fault};
 ghost use Rattle.htl_segment.specs.Content.{Fits};
 ghost use Rattle.htl_text.specs.Encoded.{content_of, draft, draft_fault, IsSegmentOf};
-ghost use Rattle.htl_text.specs.Items.{with_stack};
 ghost use Rattle.htl_text.specs.Steps.{overfull_fault, refused_of};
 
 use crate::fault::{LineFault, TextFault};
@@ -58,7 +57,7 @@ impl Draft {
         ensures { OnOk result (self.new ≡ with_event event self.old) }
     {
         self.settle()?;
-        self.event = Some(with_no_frames(event));
+        self.event = Some(event.with_stack(Stack::new()));
         Ok(())
     }
 
@@ -119,22 +118,6 @@ impl Draft {
     }
 }
 
-fn with_no_frames(event: Event<()>) -> Event
-    ensures { result ≡ with_stack [] event }
-{
-    let tag = event.tag;
-    Event {
-        sequence: event.sequence,
-        kind: event.kind,
-        process: event.process,
-        thread: event.thread,
-        handle: event.handle,
-        object: event.object,
-        tag,
-        stack: Stack::new(),
-    }
-}
-
 /// The segment of a header and its events, or its first fault.
 fn build(alloc: Global, head: Head, events: Vec<Event>) -> Result<Segment, Fault>
     ensures { MatchResult result
@@ -165,26 +148,15 @@ fn build_as(
         (fault ≡ Fault.NoMemory)
         (λ first. fault ≡ first)) }
 {
-    let trace_id = head.trace_id;
-    let number = head.number;
-    let built = match version {
-        Version::V1 => Segment::build(
-            alloc,
-            trace_id,
-            head.processors,
-            head.processor,
-            number,
-            events,
-        ),
-        Version::V2 => Segment::build2(
-            alloc,
-            trace_id,
-            head.processors,
-            head.processor,
-            number,
-            events,
-        ),
-    };
+    let built = Segment::build_as(
+        alloc,
+        version,
+        head.trace_id,
+        head.processors,
+        head.processor,
+        head.number,
+        events,
+    );
     match built {
         Ok(segment) => Ok(segment),
         Err((fault, _)) => Err(fault),

@@ -1,11 +1,10 @@
 //! Why a text encodes no segments.
 ghost use Rattle.std.specs.Prelude.{◌≡◌};
-ghost use Rattle.htl_text.specs.declared.fault.TextFault.TheVariants.{NoMemory as no_memory};
+ghost use Rattle.htl_text.specs.declared.fault.TextFault.TheVariants as faults;
 
 use crate::field::Field;
 use htl_event::NoMemory;
 use htl_segment::Fault;
-use std::alloc::{AllocError, AllocFailed};
 use thiserror::Error;
 
 /// Why a line has none of the forms. The `Display` text is the fault's code.
@@ -45,26 +44,11 @@ pub enum TextFault {
     NoMemory,
 }
 
-impl From<NoMemory> for TextFault {
-    ghost from_gives = { λ _ fault. fault ≡ no_memory };
+impl<R: Into<NoMemory>> From<R> for TextFault {
+    ghost from_gives = { λ _ fault. fault ≡ faults.NoMemory };
 
-    fn from(_refused: NoMemory) -> TextFault {
-        TextFault::NoMemory
-    }
-}
-
-impl From<AllocError> for TextFault {
-    ghost from_gives = { λ _ fault. fault ≡ no_memory };
-
-    fn from(_refused: AllocError) -> TextFault {
-        TextFault::NoMemory
-    }
-}
-
-impl<T: Drop> From<AllocFailed<T>> for TextFault {
-    ghost from_gives = { λ _ fault. fault ≡ no_memory };
-
-    fn from(_refused: AllocFailed<T>) -> TextFault {
+    fn from(refused: R) -> TextFault {
+        let NoMemory = refused.into();
         TextFault::NoMemory
     }
 }

@@ -11,7 +11,7 @@ ghost use Rattle.htl_text.specs.Lines.{ended, said_by, segment_form, values_in, 
 use crate::fault::FormFault;
 use crate::field::Field;
 use crate::item::{Head, Item};
-use crate::values::{address, frame_value, handle, number, tag};
+use crate::values::{frame_value, number, value};
 use crate::words::{first_word, is_word};
 use htl_event::{Event, Kind};
 
@@ -61,7 +61,7 @@ fn segment(words: &[u8]) -> Result<Item, FormFault>
     ensures { result ≡ item_by (Some (segment_form, words_of words.now)) }
 {
     let (version, words) = number(words, Field::Version, 0xffff)?;
-    let (trace_id, words) = address(words, Field::Trace)?;
+    let (trace_id, words) = value(words, Field::Trace)?;
     place(version as u16, trace_id, words)
 }
 
@@ -101,7 +101,7 @@ fn handle_event(kind: Kind, words: &[u8]) -> Result<Item, FormFault>
     ensures { result ≡ said_by (event_form kind).says
         (values_in (Handle ∷ Sequence ∷ Process ∷ Thread ∷ []) (words_of words.now) no_values) }
 {
-    let (handle, words) = handle(words)?;
+    let (handle, words) = value(words, Field::Handle)?;
     event(kind, handle, 0, NO_TAG, words)
 }
 
@@ -110,8 +110,8 @@ fn object_event(kind: Kind, words: &[u8]) -> Result<Item, FormFault>
     ensures { result ≡ said_by (event_form kind).says
         (values_in (Object ∷ Tag ∷ Sequence ∷ Process ∷ Thread ∷ []) (words_of words.now) no_values) }
 {
-    let (object, words) = address(words, Field::Object)?;
-    let (tag, words) = tag(words)?;
+    let (object, words) = value(words, Field::Object)?;
+    let (tag, words) = value(words, Field::Tag)?;
     event(kind, 0, object, tag, words)
 }
 

@@ -2,9 +2,7 @@
 ghost use Rattle.std.specs.Prelude.{◌≡◌, ◌≤◌, IfOk, IfSome, MatchOption, MatchResult, None, Some};
 ghost use Rattle.htl_numbers.specs.Numbers.{decimal_number};
 ghost use Rattle.htl_text.specs.declared.fault.FormFault.{FormFault};
-ghost use Rattle.htl_text.specs.declared.field.Field.TheVariants.{Handle, Tag};
-ghost use Rattle.htl_text.specs.Fields.{address_value, first_text, first_value, frame_value};
-ghost use Rattle.htl_text.specs.Fields.{handle_value, marked_value, tag_value};
+ghost use Rattle.htl_text.specs.Fields.{first_text, first_value, frame_value, marked_value};
 ghost use Rattle.htl_text.specs.Lines.{words_of};
 
 use crate::dumping::all_visible;
@@ -26,20 +24,6 @@ fn marked_value(text: &[u8], most: u64) -> Option<u64>
     }
 }
 
-/// The number of an object or a trace.
-fn address_value(text: &[u8]) -> Option<u64>
-    ensures { result ≡ address_value text.now }
-{
-    hexadecimal(text, u64::MAX)
-}
-
-fn handle_value(text: &[u8]) -> Option<u32>
-    ensures { result ≡ handle_value text.now }
-{
-    let handle = hexadecimal(text, u64::from(u32::MAX))?;
-    Some(handle as u32)
-}
-
 /// The address of a frame.
 pub(crate) fn frame_value(text: &[u8]) -> Option<u64>
     ensures { result ≡ frame_value text.now }
@@ -47,19 +31,58 @@ pub(crate) fn frame_value(text: &[u8]) -> Option<u64>
     marked_value(text, u64::MAX)
 }
 
+/// What a field's text can say.
+pub(crate) trait FieldValue {
+    ghost use Rattle.std.specs.Prelude.{◌≡◌, ℕ, List, Option};
+
+    /// The value of a text, which is a list of bytes.
+    ghost value_of: { List ℕ → Option Self };
+
+    /// The value of a field's text, if it says one that fits.
+    fn of_text(text: &[u8]) -> Option<Self>
+        ensures { result ≡ Self.value_of text.now };
+}
+
+/// An object or a trace.
+impl FieldValue for u64 {
+    ghost use Rattle.htl_text.specs.Fields.{address_value};
+
+    ghost value_of = { address_value };
+
+    fn of_text(text: &[u8]) -> Option<u64> {
+        hexadecimal(text, u64::MAX)
+    }
+}
+
+/// A handle.
+impl FieldValue for u32 {
+    ghost use Rattle.htl_text.specs.Fields.{handle_value};
+
+    ghost value_of = { handle_value };
+
+    fn of_text(text: &[u8]) -> Option<u32> {
+        let handle = hexadecimal(text, u64::from(u32::MAX))?;
+        Some(handle as u32)
+    }
+}
+
 /// A tag's bytes, in the order in which they are shown.
-#[tactic(auto, unfolding(crate::specs::Fields::tag_value))]
-fn tag_value(text: &[u8]) -> Option<[u8; 4]>
-    ensures { result ≡ tag_value text.now }
-{
-    if let Ok(tag) = <[u8; 4]>::try_from(text) {
-        return if all_visible(text) { Some(tag) } else { None };
+impl FieldValue for [u8; 4] {
+    ghost use Rattle.htl_text.specs.Fields.{tag_value};
+
+    ghost value_of = { tag_value };
+
+    #[tactic(auto, unfolding(crate::specs::Fields::tag_value))]
+    fn of_text(text: &[u8]) -> Option<[u8; 4]> {
+        if let Ok(tag) = <[u8; 4]>::try_from(text) {
+            return if all_visible(text) { Some(tag) } else { None };
+        }
+        if text.len() == 10 {
+            let in_order = marked_value(text, u64::from(u32::MAX))?;
+            return Some((in_order as u32).to_be_bytes());
+        }
+        None
     }
-    if text.len() == 10 {
-        let in_order = marked_value(text, u64::from(u32::MAX))?;
-        return Some((in_order as u32).to_be_bytes());
-    }
-    None
 }
 
 /// The value that the first word gives a field, after its name and `=`, and the words that follow it.
@@ -95,45 +118,20 @@ pub(crate) fn number<'a>(
     Ok((decimal(text, most).ok_or(missing)?, words))
 }
 
-/// The value that the first word gives a field that is an object or a trace, and the words that follow;
-/// or the field, if it has no such value.
+/// The value that the first word gives a field, and the words that follow; or the field, if it has no
+/// such value.
 #[tactic(auto, unfolding(crate::specs::Fields::first_value))]
-pub(crate) fn address<'a>(words: &'a [u8], field: Field) -> Result<(u64, &'a [u8]), FormFault>
+pub(crate) fn value<'a, V: FieldValue>(
+    words: &'a [u8],
+    field: Field,
+) -> Result<(V, &'a [u8]), FormFault>
     ensures { MatchResult result
-        (λ found. first_value field address_value (words_of words.entry.now)
+        (λ found. first_value field V.value_of (words_of words.entry.now)
         ≡ Some (found.0, words_of found.1.now))
-        (λ fault. (first_value field address_value (words_of words.entry.now) ≡ None)
+        (λ fault. (first_value field V.value_of (words_of words.entry.now) ≡ None)
         × (fault ≡ FormFault.Field field)) }
 {
     let missing = FormFault::Field(field);
     let (text, words) = first_text(words, field).ok_or(missing)?;
-    Ok((address_value(text).ok_or(missing)?, words))
-}
-
-/// The handle that the first word has, and the words that follow.
-#[tactic(auto, unfolding(crate::specs::Fields::first_value))]
-pub(crate) fn handle(words: &[u8]) -> Result<(u32, &[u8]), FormFault>
-    ensures { MatchResult result
-        (λ found. first_value Handle handle_value (words_of words.entry.now)
-        ≡ Some (found.0, words_of found.1.now))
-        (λ fault. (first_value Handle handle_value (words_of words.entry.now) ≡ None)
-        × (fault ≡ FormFault.Field Handle)) }
-{
-    let missing = FormFault::Field(Field::Handle);
-    let (text, words) = first_text(words, Field::Handle).ok_or(missing)?;
-    Ok((handle_value(text).ok_or(missing)?, words))
-}
-
-/// The tag that the first word has, and the words that follow.
-#[tactic(auto, unfolding(crate::specs::Fields::first_value))]
-pub(crate) fn tag(words: &[u8]) -> Result<([u8; 4], &[u8]), FormFault>
-    ensures { MatchResult result
-        (λ found. first_value Tag tag_value (words_of words.entry.now)
-        ≡ Some (found.0, words_of found.1.now))
-        (λ fault. (first_value Tag tag_value (words_of words.entry.now) ≡ None)
-        × (fault ≡ FormFault.Field Tag)) }
-{
-    let missing = FormFault::Field(Field::Tag);
-    let (text, words) = first_text(words, Field::Tag).ok_or(missing)?;
-    Ok((tag_value(text).ok_or(missing)?, words))
+    Ok((V::of_text(text).ok_or(missing)?, words))
 }

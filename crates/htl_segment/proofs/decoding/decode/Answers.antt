@@ -1,7 +1,7 @@
 -- What the first bytes encode is what was checked.
 use Rattle.std.proofs.Common.{refl, sym, ◌∙◌}
 use Rattle.htl_segment.proofs.SegmentLaws.{begins, same_front}
-use Rattle.htl_segment.proofs.decoding.decode_with.Goals as goal
+use Rattle.htl_segment.proofs.decoding.decode.Goals as goal
 
 pub returns-in_err-found-clause-only : goal.returns-in_err-found-clause-only
 returns-in_err-found-clause-only c = λ s n front.

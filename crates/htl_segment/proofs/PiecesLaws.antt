@@ -1,7 +1,6 @@
 -- Bundles put together from pieces are split as the pieces are, and a refusal of a piece tells of all bytes.
 use Rattle.std.proofs.Common.{◌≡◌, ℕ, ◌+◌, ◌-◌, ◌<◌, ◌≤◌, Bool, true, false, List, [], ◌∷◌, ◌++◌, length, get_or, take, drop, Option}
 use Rattle.std.proofs.Common.{Some, None, Result, Ok, Err, cond, eqb, Bor, refl, sym, ap, ◌∙◌, append_assoc, arith, inl, inr, ◌⊎◌}
-use Rattle.std.specs.Prelude.{MatchOption}
 use Rattle.std.proofs.lemmas.List.{append-nil, length-append, length-take, take_all, take-append-drop, take_more, drop_at, drop-drop}
 use Rattle.std.proofs.lemmas.Bool.{eqb-false}
 use Rattle.std.proofs.lemmas.Grind.{flat_map-append}
@@ -170,17 +169,6 @@ late_refused b fault some is late =
       late,
     ))
 
--- what `decode` answers of a whole segment, whatever follows it
-pub whole_refused : (w left : List ℕ) (fault : Fault) (first : Option Fault) → 32 ≤ length w → header_fault w ≡ None
-    → length_in w ≡ length w
-    → first_fault w ≡ first → MatchOption first (fault ≡ faults.NoMemory) (λ other. fault ≡ other) → IsPieceRefused (w ++ left) 0 fault
-whole_refused w left fault None long none len is told =
-    rw told (first_refused (w ++ left) (first_fault-append w left long (omega arith) ∙ is))
-whole_refused w left fault (Some other) long none len is told =
-    let same : first_fault w ≡ Some fault = is ∙ ap Some (sym told) in
-    late_refused (w ++ left) fault (omega (arith, length-append w left)) (first_fault-append w left long (omega arith)
-    ∙ same) (whole_fault w fault long none (omega arith) same)
-
 -- bytes that state their own length, and begin with a segment, are its encoding
 pub whole_encoded : (w : List ℕ) (n : ℕ) (s : Content) → length_in w ≡ length w → BeginsWith w n s → w ≡ encoding s
 whole_encoded w n s len front =
@@ -231,6 +219,35 @@ cut_has_room old more c long low room =
 -- a header that more bytes follow states the same length
 pub length_in-append : (old more : List ℕ) → 32 ≤ length old → length_in (old ++ more) ≡ length_in old
 length_in-append old more long = number-append 28 4 old more (omega arith)
+
+-- bytes of the length that their own header states
+pub record IsComplete (whole : List ℕ) : Type 0 where
+  pub long : 32 ≤ length whole
+  pub no_fault : header_fault whole ≡ None
+  pub stated : length_in whole ≡ length whole
+
+-- a rest that has a header, and then the bytes that this states
+pub completed : (rest taken whole : List ℕ) → whole ≡ rest ++ taken → 32 ≤ length rest → header_fault rest ≡ None
+    → length rest + length taken ≡ length_in rest → IsComplete whole
+completed rest taken whole is long none len =
+    let size : length whole ≡ length rest + length taken = ap length is ∙ length-append rest taken in
+    let told : length_in whole ≡ length_in rest = ap length_in is ∙ length_in-append rest taken long in
+    record {
+      long = omega (arith, size, long);
+      no_fault = ap header_fault is ∙ header_fault-append rest taken long ∙ none;
+      stated = told ∙ sym len ∙ sym size;
+    }
+
+-- what is answered of them, whatever follows: memory was refused, or they have a fault
+pub complete_refused : (w left : List ℕ) → IsComplete w → first_fault w ≡ None → IsPieceRefused (w ++ left) 0 faults.NoMemory
+complete_refused w left complete none =
+    first_refused (w ++ left) (first_fault-append w left complete.long (omega (arith, complete.stated)) ∙ none)
+
+pub faulty_refused : (w left : List ℕ) (fault : Fault) → IsComplete w → first_fault w ≡ Some fault → IsPieceRefused (w ++ left) 0 fault
+faulty_refused w left fault complete is =
+    late_refused (w ++ left) fault (omega (arith, length-append w left, complete.long))
+    (first_fault-append w left complete.long (omega (arith, complete.stated)) ∙ is)
+    (whole_fault w fault complete.long complete.no_fault (omega (arith, complete.stated)) is)
 
 pub rest_cut : (b : List ℕ) → IsRest b → 32 ≤ length b → (header_fault b ≡ None) × (length b < length_in b)
 rest_cut b rest long =

@@ -4,6 +4,7 @@ ghost use Rattle.std.specs.List.{flat_map};
 ghost use Rattle.htl_segment.specs.Numbers.{bytes_of};
 ghost use Rattle.htl_segment.specs.Encoding.{event_bytes, records, header_bytes, Encodes};
 
+use crate::fields::{push_u16, push_u32, push_u64};
 use crate::header::HEADER_LEN;
 use crate::kinds::code_of;
 use crate::record::RECORD_LEN;
@@ -89,25 +90,4 @@ pub fn push_frames(out: &mut Vec<u8>, frames: &[u64]) -> Result<(), AllocError>
         push_u64(out, *frame)?;
     }
     Ok(())
-}
-
-#[tactic(auto, unfolding(crate::specs::Numbers::bytes_of))]
-fn push_u16(out: &mut Vec<u8>, number: u16) -> Result<(), AllocError>
-    ensures { OnOk result (out.new.items ≡ out.old.items ++ bytes_of 2 number) }
-{
-    out.extend_from_slice(&number.to_le_bytes())
-}
-
-#[tactic(auto, unfolding(crate::specs::Numbers::bytes_of))]
-fn push_u32(out: &mut Vec<u8>, number: u32) -> Result<(), AllocError>
-    ensures { OnOk result (out.new.items ≡ out.old.items ++ bytes_of 4 number) }
-{
-    out.extend_from_slice(&number.to_le_bytes())
-}
-
-#[tactic(auto, unfolding(crate::specs::Numbers::bytes_of))]
-fn push_u64(out: &mut Vec<u8>, number: u64) -> Result<(), AllocError>
-    ensures { OnOk result (out.new.items ≡ out.old.items ++ bytes_of 8 number) }
-{
-    out.extend_from_slice(&number.to_le_bytes())
 }

@@ -6,10 +6,10 @@ ghost use Rattle.htl_state.specs.Format.{slot_bytes};
 ghost use Rattle.htl_state.specs.Reading.{count_of, slot_of};
 
 use crate::fault::Fault;
-use crate::fields::{behind, push_u32, push_u64, u32_at, u64_at};
-use crate::row::Row;
+use crate::row::{Row, behind};
 use crate::rows::{CountRow, Setting};
 use htl_event::{Count, NoMemory, Slot};
+use htl_segment::{push_u32, push_u64, u32_at, u64_at};
 use std::alloc::{AllocError, Global};
 use std::cmp::Ordering;
 

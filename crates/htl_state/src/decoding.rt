@@ -8,11 +8,10 @@ ghost use Rattle.htl_state.specs.WellFormed.{Spells};
 
 use crate::checksum::checksum;
 use crate::fault::{Fault, Refused, StateError};
-use crate::fields::{behind, u16_at, u32_at, u64_at};
-use crate::row::read_list;
+use crate::row::{behind, read_list};
 use crate::rows::{CountRow, LatestRow, PartRows, Setting, StateRows};
 use htl_event::SharedStack;
-use htl_segment::Segment;
+use htl_segment::{Segment, u16_at, u32_at, u64_at};
 use std::alloc::Global;
 
 /// The length of the header in bytes.

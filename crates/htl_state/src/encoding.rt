@@ -5,10 +5,10 @@ ghost use Rattle.htl_state.specs.Format.{front_bytes, part_bytes, header_bytes, 
 ghost use Rattle.htl_state.specs.Format.{spelling};
 
 use crate::checksum::checksum;
-use crate::fields::{push_u16, push_u32, push_u64};
 use crate::row::write_list;
 use crate::rows::{PartRows, StateRows};
 use htl_event::NoMemory;
+use htl_segment::{push_u16, push_u32, push_u64};
 use std::alloc::{AllocError, Global};
 
 /// The bytes of a state. Rows are written as they are: `decode` refuses those that are none of a state.

@@ -2,7 +2,6 @@
 ghost use Rattle.htl_state.specs.declared.fault.Fault.TheVariants as faults;
 
 use htl_event::NoMemory;
-use std::alloc::{AllocError, AllocFailed};
 use thiserror::Error;
 
 /// Why bytes are no state: the first rule of the format that they break, in the order in which the
@@ -90,38 +89,13 @@ impl Refused {
     }
 }
 
-impl From<NoMemory> for Refused {
+impl<R: Into<NoMemory>> From<R> for Refused {
     ghost use Rattle.std.specs.Prelude.{◌≡◌};
 
     ghost from_gives = { λ _ refused. refused.fault ≡ faults.NoMemory };
 
-    fn from(_refused: NoMemory) -> Refused {
-        Refused {
-            fault: Fault::NoMemory,
-            left: 0,
-        }
-    }
-}
-
-impl From<AllocError> for Refused {
-    ghost use Rattle.std.specs.Prelude.{◌≡◌};
-
-    ghost from_gives = { λ _ refused. refused.fault ≡ faults.NoMemory };
-
-    fn from(_refused: AllocError) -> Refused {
-        Refused {
-            fault: Fault::NoMemory,
-            left: 0,
-        }
-    }
-}
-
-impl<T: Drop> From<AllocFailed<T>> for Refused {
-    ghost use Rattle.std.specs.Prelude.{◌≡◌};
-
-    ghost from_gives = { λ _ refused. refused.fault ≡ faults.NoMemory };
-
-    fn from(_refused: AllocFailed<T>) -> Refused {
+    fn from(refused: R) -> Refused {
+        let NoMemory = refused.into();
         Refused {
             fault: Fault::NoMemory,
             left: 0,

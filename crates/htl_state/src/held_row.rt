@@ -3,8 +3,7 @@ ghost use Rattle.std.specs.Prelude.{◌≡◌, Some, None, MatchOption};
 ghost use Rattle.htl_state.specs.Reading.{is_of, segment_of};
 
 use crate::fault::Fault;
-use crate::fields::behind;
-use crate::row::Row;
+use crate::row::{Row, behind};
 use crate::rows::Setting;
 use htl_event::NoMemory;
 use htl_segment::{Fault as SegmentFault, Segment, decode, encode};

@@ -2,14 +2,13 @@
 ghost use Rattle.std.specs.Prelude.{◌≡◌, ◌≤◌, ◌==◌, ◌||◌, nat_le, length, drop, Some};
 ghost use Rattle.htl_event.specs.Slots.{base_of};
 ghost use Rattle.htl_segment.specs.Numbers.{number};
-ghost use Rattle.htl_segment.specs.Content.{kind_code};
 ghost use Rattle.htl_state.specs.Reading.{kind_of, latest_of};
 
 use crate::fault::Fault;
-use crate::fields::{behind, push_u32, push_u64, u32_at, u64_at};
-use crate::row::Row;
+use crate::row::{Row, behind};
 use crate::rows::{LatestRow, Setting};
 use htl_event::{Kind, NoMemory, base};
+use htl_segment::{code_of, push_u32, push_u64, u32_at, u64_at};
 use std::alloc::Global;
 
 /// The length of a latest event in bytes.
@@ -54,7 +53,7 @@ impl Row for LatestRow {
     #[tactic(auto, unfolding(crate::specs::Format::latest_bytes))]
     fn write(&self, _alloc: Global, out: &mut Vec<u8>) -> Result<(), NoMemory> {
         push_u64(out, self.sequence)?;
-        push_u32(out, code_of(self.kind))?;
+        push_u32(out, u32::from(code_of(self.kind)))?;
         push_u32(out, self.process)?;
         push_u32(out, self.thread)?;
         push_u32(out, self.handle)?;
@@ -97,20 +96,5 @@ fn kind_of(code: u32) -> Option<Kind>
         1 => Some(Kind::Opened),
         2 => Some(Kind::Closed),
         _ => None,
-    }
-}
-
-/// The code that a kind has in a record of a segment.
-fn code_of(kind: Kind) -> u32
-    ensures { result ≡ kind_code kind }
-{
-    match kind {
-        Kind::Opened => 1,
-        Kind::Closed => 2,
-        Kind::BadRef => 3,
-        Kind::Snapshot => 4,
-        Kind::Ref => 5,
-        Kind::Deref => 6,
-        Kind::Exited => 7,
     }
 }

@@ -4,10 +4,10 @@
 //! gives these rows. Of other bytes it reports the first rule that they break. What rows mean is for
 //! who makes them of an analyst, and an analyst of them. No command uses this yet.
 //!
-//! Files, in reading order: `rows.rt` (a state as rows), `fields.rt` and `checksum.rt` (numbers in
-//! bytes, and the sum of bytes), `fault.rt`, `row.rt` (lists of any kind of row), `stack_row.rt`,
-//! `count_row.rt`, `latest_row.rt`, `moment_row.rt` and `held_row.rt` (the kinds), `encoding.rt`,
-//! `decoding.rt`, `laws.rt`.
+//! Files, in reading order: `rows.rt` (a state as rows), `checksum.rt` (the sum of bytes),
+//! `fault.rt`, `row.rt` (lists of any kind of row), `stack_row.rt`, `count_row.rt`, `latest_row.rt`,
+//! `moment_row.rt` and `held_row.rt` (the kinds), `encoding.rt`, `decoding.rt`, `laws.rt`. Numbers
+//! and kinds are in bytes as in segments, so `htl_segment` reads and writes them.
 //!
 //! `specs/Lib` names the definitions in the order in which they are read.
 #![tactic(auto)]
@@ -17,7 +17,6 @@ mod count_row;
 mod decoding;
 mod encoding;
 mod fault;
-mod fields;
 mod held_row;
 mod latest_row;
 pub mod laws;

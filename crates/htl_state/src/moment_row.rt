@@ -1,10 +1,10 @@
 //! Marks and exits: their rows, each a process and a sequence.
 
 use crate::fault::Fault;
-use crate::fields::{push_u32, push_u64, u32_at, u64_at};
 use crate::row::Row;
 use crate::rows::Setting;
 use htl_event::NoMemory;
+use htl_segment::{push_u32, push_u64, u32_at, u64_at};
 use std::alloc::Global;
 
 /// The length of a mark or an exit in bytes.

@@ -1,14 +1,14 @@
 //! Rows of lists: how a list of any kind of row is read and written.
-ghost use Rattle.std.specs.Prelude.{◌≡◌, ◌++◌, [], OnOk, Ok, MatchResult};
+ghost use Rattle.std.specs.Prelude.{◌≡◌, ◌≤◌, ◌++◌, [], drop, length, OnOk, Ok, MatchResult};
 ghost use Rattle.std.specs.Option.{option_copied};
 ghost use Rattle.htl_state.specs.Format.{list_bytes};
 ghost use Rattle.std.specs.List.{flat_map};
 ghost use Rattle.htl_state.specs.Reading.{IsRefusal, follows, next_in, rows_in, list_in};
 
 use crate::fault::{Fault, Refused};
-use crate::fields::{behind, push_u64, u64_at};
 use crate::rows::Setting;
 use htl_event::NoMemory;
+use htl_segment::{push_u64, u64_at};
 use std::alloc::Global;
 
 /// A row of a list, which comes after the row before it.
@@ -143,4 +143,12 @@ fn write_rows<R: Row>(alloc: Global, out: &mut Vec<u8>, rows: &[R]) -> Result<()
         row.write(alloc, out)?;
     }
     Ok(())
+}
+
+/// The bytes from a place on.
+pub(crate) fn behind(bytes: &[u8], place: usize) -> &[u8]
+    requires { place ≤ length bytes.now }
+    ensures { result.now ≡ drop place bytes.now }
+{
+    &bytes[place..]
 }

@@ -4,10 +4,10 @@ ghost use Rattle.std.specs.List.{flat_map};
 ghost use Rattle.htl_segment.specs.Numbers.{numbers, bytes_of};
 
 use crate::fault::Fault;
-use crate::fields::{push_u64, u64_at};
 use crate::row::Row;
 use crate::rows::Setting;
 use htl_event::{MAX_FRAMES, NoMemory, SharedStack};
+use htl_segment::{push_u64, u64_at};
 use std::alloc::{AllocError, Global};
 use std::cmp::Ordering;
 

@@ -1,7 +1,7 @@
 -- Parts without a fault fit.
 use Rattle.std.proofs.Common.{arith}
 use Rattle.htl_segment.proofs.BuildingLaws.{parts_fit}
-use Rattle.htl_segment.proofs.building.Segment.build_as.Goals as goal
+use Rattle.htl_segment.proofs.segment.Segment.build_as.Goals as goal
 
 pub new-requires : goal.new-requires
 new-requires c =

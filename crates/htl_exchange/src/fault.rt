@@ -2,6 +2,7 @@
 
 use crate::desk::Desk;
 use crate::exchange::Exchange;
+use htl_event::NoMemory;
 
 /// Why no exchange is started.
 #[derive(Clone, Copy, Debug, PartialEq, Eq)]
@@ -10,6 +11,17 @@ pub enum StartFault {
     Desks,
     /// Memory was refused.
     NoMemory,
+}
+
+impl From<NoMemory> for StartFault {
+    ghost use Rattle.std.specs.Prelude.{◌≡◌};
+    ghost use Rattle.htl_exchange.specs.declared.fault.StartFault.TheVariants as faults;
+
+    ghost from_gives = { λ _ fault. fault ≡ faults.NoMemory };
+
+    fn from(_refused: NoMemory) -> StartFault {
+        StartFault::NoMemory
+    }
 }
 
 /// Why an exchange isn't closed.

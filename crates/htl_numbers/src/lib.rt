@@ -86,7 +86,9 @@ const VALUES: [u8; 256] = [
     36, 36, 36, 36, 36, 36, 36, 36, 36, 36, 36, 36, 36, 36,
 ];
 
-fn digit_value(byte: u8) -> u64
+/// The value of the byte as a digit or a letter of either case: that of a hexadecimal digit is below
+/// 16, and that of a byte that is neither is 36.
+pub fn digit_value(byte: u8) -> u64
     ensures { result ≡ digit_value byte }
 {
     u64::from(VALUES[byte as usize])

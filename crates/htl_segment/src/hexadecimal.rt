@@ -1,12 +1,12 @@
 //! Bytes read from hexadecimal digits.
-ghost use Rattle.std.specs.Prelude.{◌≡◌, ◌%◌, length, position, Ok, Err, Some, None, MatchResult};
+ghost use Rattle.std.specs.Prelude.{◌≡◌, ◌<◌, ◌%◌, ℕ, true, length, position, Ok, Err, Some, None, MatchResult};
 ghost use Rattle.std.specs.List.{AllPass};
-ghost use Rattle.hex.specs.Hex.{decode_of, is_hex_digit};
+ghost use Rattle.hex.specs.Hex.{decode_of, hex_digit_value, is_hex_digit, pair_value};
 ghost use Rattle.htl_segment.specs.Hexadecimal.{is_foreign, digits_of, hex_fault};
 ghost use Rattle.htl_segment.specs.declared.hexadecimal.HexFault.TheVariants as faults;
 
-use hex::FromHexError;
 use htl_event::NoMemory;
+use htl_numbers::digit_value;
 use std::alloc::Global;
 use thiserror::Error;
 
@@ -50,13 +50,14 @@ pub fn from_hex(alloc: Global, text: &[u8]) -> Result<Vec<u8>, HexFault>
         return Err(HexFault::Odd);
     }
     let digits = gather_digits(alloc, text, count)?;
-    decode_digits(alloc, digits)
+    decode_digits(alloc, &digits)
 }
 
-fn is_digit(byte: u8) -> bool
+/// Whether the byte is a hexadecimal digit, of either case.
+pub fn is_digit(byte: u8) -> bool
     ensures { result ≡ is_hex_digit byte }
 {
-    byte.is_ascii_hexdigit()
+    digit_value(byte) < 16
 }
 
 fn first_foreign(text: &[u8]) -> Option<usize>
@@ -89,18 +90,36 @@ fn gather_digits(alloc: Global, text: &[u8], count: usize) -> Result<Vec<u8>, He
     Ok(digits)
 }
 
-fn decode_digits(alloc: Global, digits: Vec<u8>) -> Result<Vec<u8>, HexFault>
-    requires even { length digits.items % 2 ≡ 0 }
-    requires digits { AllPass is_hex_digit digits.items }
+fn decode_digits(alloc: Global, digits: &[u8]) -> Result<Vec<u8>, HexFault>
+    requires even { length digits.now % 2 ≡ 0 }
+    requires digits { AllPass is_hex_digit digits.now }
     ensures { MatchResult result
-        (λ bytes. decode_of digits.items ≡ Ok bytes.items)
+        (λ bytes. decode_of digits.now ≡ Ok bytes.items)
         (λ fault. fault ≡ HexFault.NoMemory) }
 {
-    match hex::decode(alloc, digits) {
-        Ok(bytes) => Ok(bytes),
-        Err(error) => match error {
-            FromHexError::OutOfMemory => Err(HexFault::NoMemory),
-            _ => unreachable!(),
-        },
+    let count = digits.len() / 2;
+    let mut bytes = vec![in alloc; 0u8; count]?;
+    for place in 0..count {
+        bytes[place] = byte_of(digits[2 * place], digits[2 * place + 1]);
     }
+    Ok(bytes)
+}
+
+/// The byte that two digits write.
+fn byte_of(high: u8, low: u8) -> u8
+    requires high { is_hex_digit high ≡ true }
+    requires low { is_hex_digit low ≡ true }
+    ensures { (place : ℕ) → pair_value high low place ≡ Ok result }
+{
+    16 * value_of(high) + value_of(low)
+}
+
+/// The value of a digit: its last four bits, and 9 more for a letter. A sum, which is made of many
+/// digits at once, where a table or a choice would take one after the other.
+fn value_of(digit: u8) -> u8
+    requires { is_hex_digit digit ≡ true }
+    ensures value { hex_digit_value digit ≡ Some result }
+    ensures small { result < 16 }
+{
+    digit % 16 + 9 * (digit / 64)
 }

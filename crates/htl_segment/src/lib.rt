@@ -53,7 +53,7 @@ pub use encoding::encode;
 pub use fault::Fault;
 pub use fields::{push_u16, push_u32, push_u64, u16_at, u32_at, u64_at};
 pub use header::whole_len;
-pub use hexadecimal::{HexFault, from_hex};
+pub use hexadecimal::{HexFault, from_hex, is_digit};
 pub use keeper::{JoiningKeeper, Keeper, Segments};
 pub use kinds::code_of;
 pub use outline::Outline;

@@ -7,6 +7,7 @@ ghost use Rattle.htl_reading.specs.Digits.{ReadsDigits};
 
 use htl_device::{MAX_READS, MIN_READ_LEN, Source};
 use htl_event::NoMemory;
+use htl_segment::is_digit;
 use std::alloc::Global;
 
 /// Why a text in hexadecimal is not read to its end.
@@ -83,14 +84,14 @@ fn read_within<R: Source>(
 pub fn digit_count(bytes: &[u8]) -> usize
     ensures { result ≡ length (digits_of bytes.now) }
 {
-    bytes.iter().filter(|byte| byte.is_ascii_hexdigit()).count()
+    bytes.iter().filter(|byte| is_digit(**byte)).count()
 }
 
 /// The place of the first byte that is neither a digit nor a blank.
 fn first_foreign(piece: &[u8]) -> Option<usize>
     ensures { result ≡ position is_foreign piece.now }
 {
-    piece.iter().position(|byte| !(byte.is_ascii_hexdigit()
+    piece.iter().position(|byte| !(is_digit(*byte)
         || *byte == b' '
         || *byte == b'\r'
         || *byte == b'\n'))

@@ -69,12 +69,13 @@ impl<A: Allocator> KeyHints<A> {
     }
 
     /// Looks up the events of the block that begins at this index: first their cells, then the places
-    /// in these, and then the keys there. So the memory of many is fetched at once.
+    /// in these, and then the keys there. So the memory of many is fetched at once. A list may have
+    /// fewer events than a block.
     fn look(&mut self, keys: &[SortKey], events: &[SharedEvent], index: usize) {
         for (offset, event) in events.iter().skip(index).take(BLOCK).enumerate() {
             self.block[offset] = self.first_cell(event.process, base(event.handle));
         }
-        for offset in 0..BLOCK {
+        for offset in 0..events.len().saturating_sub(index).min(BLOCK) {
             self.block[offset] = self.hints.place(self.block[offset]);
         }
         for (offset, event) in events.iter().skip(index).take(BLOCK).enumerate() {

@@ -13,6 +13,10 @@ pub record Numbers : Type 0 where
 abbrev pub no_numbers : Numbers
 no_numbers = record { front = 0; loose = [] }
 
+-- all numbers below a front, and no loose one
+abbrev pub all_below : ℕ → Numbers
+all_below front = record { front = front; loose = [] }
+
 -- the taken numbers of processor p, none where there is no such processor
 abbrev pub numbers_at : List Numbers → ℕ → Numbers
 numbers_at taken p = slice_index_or taken p no_numbers

@@ -22,7 +22,7 @@ impl<A: Allocator> NumberSet<A> {
     ghost use Rattle.std.specs.Prelude.{MatchResult, Contains, slice_index, if◌then◌else◌};
     ghost use Rattle.htl_taken.specs.Rising.{gap_of};
     ghost use Rattle.htl_taken.specs.Numbers.{IsUnion, size_of, reach_of};
-    ghost use Rattle.htl_taken.specs.Numbers.{with_loose, settled, no_numbers};
+    ghost use Rattle.htl_taken.specs.Numbers.{with_loose, settled, no_numbers, all_below};
     ghost use Rattle.htl_taken.specs.NumberSets.{Has};
     ghost use Rattle.htl_taken.specs.NumberSets.{numbers_of};
 
@@ -32,6 +32,16 @@ impl<A: Allocator> NumberSet<A> {
     {
         NumberSet {
             front: 0,
+            loose: Vec::new(alloc),
+        }
+    }
+
+    /// All numbers below the front, and no loose one.
+    pub fn below(alloc: A, front: u32) -> NumberSet<A>
+        ensures { numbers_of result ≡ all_below front }
+    {
+        NumberSet {
+            front,
             loose: Vec::new(alloc),
         }
     }

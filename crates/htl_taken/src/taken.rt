@@ -197,8 +197,8 @@ impl<A: Allocator> Taken<A> {
 }
 
 impl<A: Allocator + Clone> Taken<A> {
-    ghost use Rattle.std.specs.Prelude.{◌≡◌, ◌||◌, ℕ, false, length, replicate, IfOk};
-    ghost use Rattle.htl_taken.specs.Numbers.{numbers_at, no_numbers, has_key, IsUnion};
+    ghost use Rattle.std.specs.Prelude.{◌≡◌, ◌<◌, ◌^◌, ◌||◌, ℕ, false, length, map, replicate, IfOk};
+    ghost use Rattle.htl_taken.specs.Numbers.{numbers_at, no_numbers, all_below, has_key, IsUnion};
 
     /// An empty set, for this many processors.
     pub fn new(alloc: A, processors: u16) -> Result<Taken<A>, NoMemory>
@@ -207,6 +207,19 @@ impl<A: Allocator + Clone> Taken<A> {
         let mut sets = Vec::with_capacity(alloc.clone()?, usize::from(processors))?;
         for _ in 0..processors {
             sets.push(NumberSet::new(alloc.clone()?))?;
+        }
+        Ok(Taken { sets })
+    }
+
+    /// The set in which each processor has taken all numbers below its front, and no loose one: a
+    /// processor for each front, in order.
+    pub fn of_fronts(alloc: A, fronts: &[u32]) -> Result<Taken<A>, NoMemory>
+        requires { length fronts.now < 2 ^ 16 }
+        ensures { IfOk result (λ t. t ≡ map all_below fronts.now) }
+    {
+        let mut sets = Vec::with_capacity(alloc.clone()?, fronts.len())?;
+        for front in fronts {
+            sets.push(NumberSet::below(alloc.clone()?, *front))?;
         }
         Ok(Taken { sets })
     }

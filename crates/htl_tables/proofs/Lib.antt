@@ -2,6 +2,7 @@ pub mod KeyOrder
 pub mod KeyRuns
 pub mod Noting
 pub mod Tables
+pub mod InOrder
 pub mod ProcessRows
 pub mod ProcessTables
 pub mod SortKeyOrder
@@ -13,6 +14,7 @@ pub mod EventsOfKeys
 pub mod FirstKeys
 pub mod ChosenKeys
 pub mod Sequences
+pub mod Positive
 pub mod Moments
 pub mod NotingLaws
 pub mod SortedRows

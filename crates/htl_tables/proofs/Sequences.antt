@@ -16,7 +16,7 @@ use Rattle.htl_lemmas.proofs.Tests.{both_left, both_right, less, equal, lower}
 use Rattle.htl_sorted.proofs.Finds.{find_put_same, find_put_other, each_put, each_found}
 use Rattle.htl_sorted.proofs.Rows.{placed_row, set_row, insert_row, row_found}
 use Rattle.htl_tables.specs.Greatest.{sequences, sequence_at, HasLowerProcess, HasSequence}
-use Rattle.htl_tables.specs.Moments.{IsTable}
+use Rattle.htl_tables.specs.Tables.{IsSequenceTable}
 
 -- ---- a sequence put at a process
 
@@ -32,8 +32,8 @@ module _ (rows new : List (ℕ × ℕ)) (process sequence : ℕ) (made : sequenc
       (find_put_other nat_cmp nat_cmp_total nat_cmp-IsAntisymmetric other process sequence (sequences rows) ne)
 
   -- a table into which a sequence above 0 was put is a table
-  pub IsTable-put : IsTable rows → 0 < sequence → IsTable new
-  IsTable-put table above = record {
+  pub IsSequenceTable-put : IsSequenceTable rows → 0 < sequence → IsSequenceTable new
+  IsSequenceTable-put table above = record {
     sorted = rw made (is_sorted-put nat_cmp nat_cmp_total process sequence (sequences rows) table.sorted);
     positive = rw made (each_put nat_cmp (λ n. 0 < n) process sequence (sequences rows) above table.positive);
   }
@@ -62,7 +62,7 @@ pub inserted_made : (rows : List (ℕ × ℕ)) (process sequence i : ℕ) → Is
 inserted_made rows process sequence i gap = insert_row (λ r. r.0) (λ r. r.1) nat_cmp rows process i gap (process, sequence) refl
 
 -- a sequence that a table has is above 0
-is_positive : (rows : List (ℕ × ℕ)) → IsTable rows → (process v : ℕ) → find nat_cmp process (sequences rows) ≡ Some v → 0 < v
+is_positive : (rows : List (ℕ × ℕ)) → IsSequenceTable rows → (process v : ℕ) → find nat_cmp process (sequences rows) ≡ Some v → 0 < v
 is_positive rows table process v found = each_found nat_cmp (λ n. 0 < n) process v (sequences rows) table.positive found
 
 -- ---- joined tables
@@ -89,10 +89,10 @@ joined_above (Some x) (Some y) v pa pb e =
     omega (arith, above, is)
 
 -- rows with the greater of two tables' sequences at each process are a table
-pub IsTable-joined : (rows left right : List (ℕ × ℕ)) → IsSorted nat_cmp (sequences rows) → IsTable left → IsTable right
+pub IsSequenceTable-joined : (rows left right : List (ℕ × ℕ)) → IsSorted nat_cmp (sequences rows) → IsSequenceTable left → IsSequenceTable right
     → ((process : ℕ) → find nat_cmp process (sequences rows)
-    ≡ joined_at max (find nat_cmp process (sequences left)) (find nat_cmp process (sequences right))) → IsTable rows
-IsTable-joined rows left right sorted tl tr values = record {
+    ≡ joined_at max (find nat_cmp process (sequences left)) (find nat_cmp process (sequences right))) → IsSequenceTable rows
+IsSequenceTable-joined rows left right sorted tl tr values = record {
   sorted = sorted;
   positive = each_row (λ n. 0 < n) rows (λ i row lt is.
       joined_above (find nat_cmp row.0 (sequences left)) (find nat_cmp row.0 (sequences right)) row.1 (is_positive left tl row.0)
@@ -116,7 +116,7 @@ rows_rising : (rows : List (ℕ × ℕ)) → IsSorted nat_cmp (sequences rows) �
 rows_rising [] sorted = tt
 rows_rising (row ∷ rows) sorted = (below_rising row rows (both_left _ _ sorted), rows_rising rows (both_right _ _ sorted))
 
-row_there : (rows : List (ℕ × ℕ)) → IsTable rows → (row : ℕ × ℕ) → Contains rows row → HasSequence rows row
+row_there : (rows : List (ℕ × ℕ)) → IsSequenceTable rows → (row : ℕ × ℕ) → Contains rows row → HasSequence rows row
 row_there rows table row (i, lt, is) =
     let found = row_found (λ (r : ℕ × ℕ). r.0) (λ (r : ℕ × ℕ). r.1) nat_cmp_total rows table.sorted i row lt (sym is) in
     record { positive = is_positive rows table row.0 row.1 found; is = ap (λ (o : Option ℕ). unwrap_or o 0) found }
@@ -138,7 +138,7 @@ some_from None v above e = absurd (omega (arith, above, e))
 some_from (Some x) v above e = ap (λ (w : ℕ). Some w) e
 
 -- the rows of a table list each process's sequence, by process
-pub rows_listed : (rows : List (ℕ × ℕ)) → IsTable rows → Lists HasLowerProcess (HasSequence rows) rows
+pub rows_listed : (rows : List (ℕ × ℕ)) → IsSequenceTable rows → Lists HasLowerProcess (HasSequence rows) rows
 rows_listed rows table = record {
   rising = rows_rising rows table.sorted;
   members = λ row. (

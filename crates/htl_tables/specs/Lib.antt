@@ -2,6 +2,7 @@
 pub mod Keys
 pub mod Latest
 pub mod Greatest
+pub mod Tables
 pub mod Laws
 -- cited by private contracts alone
 pub mod OfProcess

@@ -1,9 +1,12 @@
 //! The greatest sequence of one kind of event for each process: snapshot marks and last exits.
 
 ghost use Rattle.std.specs.Prelude.{◌≡◌, ◌↔◌, ◌<◌, ◌⊎◌, ℕ, IsTrue, IfOk, OnOk, Contains, flat_map};
+ghost use Rattle.std.specs.Prelude.{nat_lt};
+ghost use Rattle.std.specs.List.{list_all};
 ghost use Rattle.htl_tables.specs.Moments.{IsMoment};
 
 use crate::by_process::ByProcess;
+use crate::order::are_in_order;
 use htl_event::{EventList, Kind, NoMemory, SharedEvent};
 use htl_sorted::{merge, search};
 use std::alloc::Allocator;
@@ -61,20 +64,22 @@ pub struct Greatest<K, A: Allocator> {
 
 impl<K, A: Allocator> Model for Greatest<K, A> {
     ghost use Rattle.std.specs.Prelude.{ℕ, List};
-    ghost use Rattle.htl_tables.specs.Moments.{IsTable};
+    ghost use Rattle.htl_tables.specs.Tables.{IsSequenceTable};
 
     ghost Value = { List (ℕ × ℕ) };
 
     ghost view = { λ t. t.rows.items };
 
-    ghost invariant = { λ t. IsTable t.rows.items };
+    ghost invariant = { λ t. IsSequenceTable t.rows.items };
 }
 
 impl<K: EventKind, A: Allocator> Greatest<K, A> {
-    ghost use Rattle.std.specs.Prelude.{◌≡◌, ◌≢◌, ◌↔◌, ◌<◌, ℕ, [], max, OnOk, OnErr, IsTrue};
+    ghost use Rattle.std.specs.Prelude.{◌≡◌, ◌≢◌, ◌↔◌, ◌<◌, ℕ, [], max};
+    ghost use Rattle.std.specs.Prelude.{IfOk, IfErr, OnOk, OnErr, IsTrue};
     ghost use Rattle.htl_event.specs.Members.{Lists};
     ghost use Rattle.htl_event.specs.Handles.{IsOf};
     ghost use Rattle.htl_tables.specs.Greatest.{sequence_at, HasLowerProcess, HasSequence};
+    ghost use Rattle.htl_tables.specs.Tables.{IsSequenceTable};
 
     /// An empty table. It takes no memory.
     pub fn new(alloc: A) -> Greatest<K, A>
@@ -83,6 +88,23 @@ impl<K: EventKind, A: Allocator> Greatest<K, A> {
         Greatest {
             rows: Vec::new(alloc),
             kind: PhantomData,
+        }
+    }
+
+    /// The table of these rows, each a process and its sequence. Rows that aren't in order by process,
+    /// of which two have one process, or one has the sequence 0, are no table's and come back. It
+    /// takes no memory.
+    pub fn of_rows(rows: Vec<(u32, u64), A>) -> Result<Greatest<K, A>, Vec<(u32, u64), A>>
+        ensures ok { IfOk result (λ t. IsSequenceTable rows.items × (t ≡ rows.items)) }
+        ensures err { IfErr result (λ back. (IsSequenceTable rows.items → ⊥) × (back ≡ rows)) }
+    {
+        if are_in_order::<ByProcess>(&rows) && are_positive(&rows) {
+            Ok(Greatest {
+                rows,
+                kind: PhantomData,
+            })
+        } else {
+            Err(rows)
         }
     }
 
@@ -192,6 +214,13 @@ impl<K: EventKind, A: Allocator + Clone> Greatest<K, A> {
         }
         Ok(greatest)
     }
+}
+
+/// Whether each sequence is above 0.
+fn are_positive(rows: &[(u32, u64)]) -> bool
+    ensures { result ≡ list_all (λ row. nat_lt 0 row.1) rows.now }
+{
+    rows.iter().all(|row| row.1 > 0)
 }
 
 /// Whether a table of this kind has a row for the event's process once the event was noted. No

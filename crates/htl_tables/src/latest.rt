@@ -4,6 +4,7 @@ use crate::by_handle::ByHandle;
 use crate::candidates::candidates_in;
 use crate::joining::Joining;
 use crate::of_process::of_process;
+use crate::order::are_in_order;
 use crate::placing::{append_copies, missing};
 use crate::sort_key::{SortKey, drop_first, events_of, handles_in};
 use htl_event::{EventList, NoMemory, SharedEvent, base};
@@ -42,6 +43,7 @@ impl<A: Allocator> Latest<A> {
     ghost use Rattle.htl_event.specs.Members.{Lists};
     ghost use Rattle.htl_tables.specs.Keys.{ByKey};
     ghost use Rattle.htl_tables.specs.Latest.{event_at, with_event, HasEvent, HasEventOf};
+    ghost use Rattle.htl_tables.specs.Tables.{IsEventTable};
 
     /// An empty table. It takes no memory.
     pub fn new(alloc: A) -> Latest<A>
@@ -49,6 +51,19 @@ impl<A: Allocator> Latest<A> {
     {
         Latest {
             rows: Vec::new(alloc),
+        }
+    }
+
+    /// The table of these rows. Rows that aren't in order by process and base handle, or of which two
+    /// have one process and base handle, are no table's and come back. It takes no memory.
+    pub fn of_rows(rows: Vec<SharedEvent, A>) -> Result<Latest<A>, Vec<SharedEvent, A>>
+        ensures ok { IfOk result (λ t. IsEventTable rows.items × (t ≡ rows.items)) }
+        ensures err { IfErr result (λ back. (IsEventTable rows.items → ⊥) × (back ≡ rows)) }
+    {
+        if are_in_order::<ByHandle>(&rows) {
+            Ok(Latest { rows })
+        } else {
+            Err(rows)
         }
     }
 

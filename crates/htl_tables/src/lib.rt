@@ -3,13 +3,13 @@
 //!
 //! Files, in reading order: `latest.rt` and `greatest.rt` (the tables), `joining.rt` and
 //! `placing.rt` (a join that was prepared, and how its rows are placed), `by_handle.rt` and
-//! `by_process.rt` (the two kinds of row), `of_process.rt` (the rows of one process),
-//! `candidates.rt`, `hints.rt` and `sort_key.rt` (the events of a list that may be the latest of
-//! their handles), `laws.rt` (what follows from the contracts).
+//! `by_process.rt` (the two kinds of row), `order.rt` (whether rows are in order), `of_process.rt`
+//! (the rows of one process), `candidates.rt`, `hints.rt` and `sort_key.rt` (the events of a list
+//! that may be the latest of their handles), `laws.rt` (what follows from the contracts).
 //!
-//! `specs/` defines what a table has at a key (`Latest`, `Greatest`), the order of its rows (`Keys`)
-//! and what noting one more event keeps (`Laws`). htl_event's `Handles` defines the latest event, the
-//! mark and the last exit of a set of events.
+//! `specs/` defines what a table has at a key (`Latest`, `Greatest`), the order of its rows (`Keys`),
+//! which rows are a table's (`Tables`) and what noting one more event keeps (`Laws`). htl_event's
+//! `Handles` defines the latest event, the mark and the last exit of a set of events.
 #![tactic(auto)]
 
 mod by_handle;
@@ -21,6 +21,7 @@ mod joining;
 mod latest;
 pub mod laws;
 mod of_process;
+mod order;
 mod placing;
 mod sort_key;
 

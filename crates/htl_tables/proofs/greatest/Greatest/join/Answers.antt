@@ -4,7 +4,7 @@ use Rattle.std.specs.Option.{unwrap_or}
 use Rattle.std.specs.Ordering.{nat_cmp}
 use Rattle.std.specs.FinMap.Entries.{find}
 use Rattle.htl_tables.specs.Greatest.{sequences}
-use Rattle.htl_tables.proofs.Sequences.{joined-max, IsTable-joined}
+use Rattle.htl_tables.proofs.Sequences.{joined-max, IsSequenceTable-joined}
 use Rattle.htl_tables.proofs.greatest.Greatest.join.Goals as goal
 
 pub merge-requires-clause-left : goal.merge-requires-clause-left
@@ -16,7 +16,7 @@ merge-requires-clause-right g c = rw c.deref-2.ensures.value c.other.invariant.s
 pub invariant_of-result : goal.invariant_of-result
 invariant_of-result g c =
     let values = rw (c.deref.ensures.value, c.deref-2.ensures.value) at c.in_ok-merge.ensures.values in
-    IsTable-joined c.in_ok-merge.field-0.items c.self.inside.rows.items c.other.inside.rows.items c.in_ok-merge.ensures.sorted
+    IsSequenceTable-joined c.in_ok-merge.field-0.items c.self.inside.rows.items c.other.inside.rows.items c.in_ok-merge.ensures.sorted
     c.self.invariant c.other.invariant values
 
 pub returns : goal.returns

@@ -1,6 +1,6 @@
 -- A row that is raised or put in keeps the rows in order and changes no other process.
 use Rattle.std.proofs.Common.{ℕ, max, sym, ap, ◌∙◌, arith, set, insert}
-use Rattle.htl_tables.proofs.Sequences.{put_here, put_others, IsTable-put, at_place, at_gap, raised_made, inserted_made}
+use Rattle.htl_tables.proofs.Sequences.{put_here, put_others, IsSequenceTable-put, at_place, at_gap, raised_made, inserted_made}
 use Rattle.htl_tables.proofs.greatest.Greatest.raise.Goals as goal
 
 pub search-requires : goal.search-requires
@@ -12,7 +12,7 @@ invariant_of-self g c =
     let row = c.index_mut-row.result.now in
     let place = rw c.deref.ensures.value at c.in-Ok.ensures.found in
     let made = raised_made rows c.args.process c.max-row.result c.in-Ok.place row place c.index_mut-row.ensures.value in
-    IsTable-put rows (set rows c.in-Ok.place (row.0, c.max-row.result)) c.args.process c.max-row.result made c.self.invariant
+    IsSequenceTable-put rows (set rows c.in-Ok.place (row.0, c.max-row.result)) c.args.process c.max-row.result made c.self.invariant
     (omega (arith, c.max-row.ensures, c.requires))
 
 pub returns-in-Ok-clause-raised : goal.returns-in-Ok-clause-raised
@@ -39,7 +39,7 @@ invariant_of-self-in-Continue-1 g c =
     let gap = rw c.deref.ensures.value at c.in-Err.ensures.absent in
     let made = inserted_made rows c.args.process c.args.sequence c.in-Err.gap gap in
     rw c.in_ok-insert-in-Err.ensures.items
-    (IsTable-put rows (insert rows c.in-Err.gap (c.args.process, c.args.sequence)) c.args.process c.args.sequence made
+    (IsSequenceTable-put rows (insert rows c.in-Err.gap (c.args.process, c.args.sequence)) c.args.process c.args.sequence made
     c.self.invariant c.requires)
 
 pub returns-in_ok-insert-in-Err-clause-raised : goal.returns-in_ok-insert-in-Err-clause-raised

@@ -25,3 +25,4 @@ pub mod RowsRemoved
 pub mod GroupsRemoved
 pub mod Between
 pub mod SlotSums
+pub mod RowsOfTally

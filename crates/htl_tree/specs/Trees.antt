@@ -1,5 +1,5 @@
 -- A tree as its tally: the counts that aren't zero, by stack and then by slot.
-use Rattle.std.specs.Prelude.{◌≡◌, ℕ, ◌+◌, ◌≤◌, List, [], ◌∷◌, Bool, true, ◌&&◌}
+use Rattle.std.specs.Prelude.{◌≡◌, ℕ, ◌+◌, ◌<◌, ◌≤◌, ◌^◌, List, [], ◌∷◌, Bool, true, ◌&&◌}
 use Rattle.std.specs.Prelude.{if◌then◌else◌, nat_eq, unwrap_or, length}
 use Rattle.std.specs.List.{sum_by, starts_with, AllByRecursion}
 use Rattle.std.specs.Ordering.{on, then_cmp}
@@ -12,7 +12,7 @@ use Rattle.htl_event.specs.declared.slot.Sign.{Sign}
 use Rattle.htl_event.specs.declared.slot.Sign.TheVariants.{Plus, Minus}
 use Rattle.htl_event.specs.declared.slot.Count.{Count}
 use Rattle.htl_event.specs.Slots.{same_slot}
-use Rattle.htl_event.specs.Members.{Lists}
+use Rattle.htl_event.specs.Members.{IsRising, Lists}
 use Rattle.htl_event.specs.Stacks.{outer, stack_cmp}
 use Rattle.htl_event.specs.Tallies.{zero_count, plus_count, total_of, IsPositive, tally, ByStack}
 use Rattle.htl_sorted.specs.Entries.{IsSorted, Each}
@@ -100,3 +100,15 @@ ListsSums tree slots sums =
 -- the slots that are counted at some stack, in slot order
 abbrev pub ListsSlots : Tree → List Slot → Type 0
 ListsSlots tree slots = Lists BySlot (λ slot. (stack : List ℕ) × IsPositive (count_at tree slot stack)) slots
+
+-- ---- a tree of its rows
+
+-- a row as the tree's value has it
+abbrev pub by_stack : (Slot × List ℕ) × Count → (List ℕ × Slot) × Count
+by_stack row = ((row.0.1, row.0.0), row.1)
+
+-- Rows of which there is a tree: they strictly rise by stack and then by slot, none is zero, and their sum is a number of 64 bits.
+pub record IsTally (rows : List ((Slot × List ℕ) × Count)) : Type 0 where
+  pub rising : IsRising ByStackAndSlot rows
+  pub positive : AllByRecursion (λ row. IsPositive row.1) rows
+  pub fits : sum_by (λ row. total_of row.1) rows < 2 ^ 64

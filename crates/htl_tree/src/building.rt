@@ -43,6 +43,24 @@ pub fn add_rows_to_root<A: Allocator + Clone>(
     add_groups(root, alloc, &groups)
 }
 
+/// Adds what the rows count to the tree, those of one stack that are neighbours by one descent. Where
+/// memory is refused, the tree stays the same.
+pub fn add_sorted_rows<A: Allocator + Clone>(
+    root: &mut Option<Node<A>>,
+    alloc: &A,
+    rows: &[Row<'_>],
+) -> Result<(), NoMemory>
+    requires normal { IsNormalRoot root.old }
+    requires rows { AreShort rows.now }
+    requires fits { total_count (tree_of root.old) + total_count (entries_of rows.now) < 2 ^ 64 }
+    ensures { MatchResult result
+        (λ _. IsNormalRoot root.new × WithRows (tree_of root.new) (tree_of root.old) rows.now)
+        (λ _. IsNormalRoot root.new × (tree_of root.new ≡ tree_of root.old)) }
+{
+    let groups = groups_of(alloc.clone()?, rows)?;
+    add_groups(root, alloc, &groups)
+}
+
 /// Puts groups in stack order. Groups of one stack are in the order of their first slots.
 fn by_stack(a: &[Row<'_>], b: &[Row<'_>]) -> Ordering {
     match (a.first(), b.first()) {

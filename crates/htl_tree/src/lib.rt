@@ -38,7 +38,9 @@ mod slot_sums;
 mod slots;
 mod sorting;
 mod sums;
+mod tally;
 mod tree;
 
 pub use slots::Slots;
+pub use tally::TallyFault;
 pub use tree::StackTree;

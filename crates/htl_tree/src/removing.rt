@@ -149,7 +149,7 @@ fn drop_zeros<A: Allocator>(counts: &mut Vec<(Slot, Count), A>)
 }
 
 /// Whether the count is more than zero, on either side.
-fn counts_something(count: Count) -> bool
+pub fn counts_something(count: Count) -> bool
     ensures { result ≡ is_some_count count }
 {
     count.plus > 0 || count.minus > 0

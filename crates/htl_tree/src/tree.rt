@@ -10,6 +10,7 @@ use crate::root::{
 };
 use crate::slot_sums::{add_up, sort_by_slot};
 use crate::slots::Slots;
+use crate::tally::{TallyFault, root_of_tally, total_of_tally};
 use htl_event::{Count, EventList, NoMemory, SharedStack, Sign, Slot, Stack};
 use std::alloc::{Allocator, Global};
 use std::marker::Model;
@@ -35,11 +36,11 @@ impl<A: Allocator> Model for StackTree<A> {
 
 impl<A: Allocator> StackTree<A> {
     ghost use Rattle.std.specs.Prelude.{◌≡◌, ℕ, List, ◌++◌, ◌+◌, ◌<◌, ◌≤◌, ◌^◌, []};
-    ghost use Rattle.std.specs.Prelude.{◌↔◌, length, IsTrue, IfOk, OnOk, OnErr};
+    ghost use Rattle.std.specs.Prelude.{◌↔◌, length, map, IsTrue, Err, IfOk, OnOk, OnErr};
     ghost use Rattle.htl_tree.specs.Trees.{count_at, count_under, total_count};
     ghost use Rattle.htl_tree.specs.Trees.{with_one, IsTree, IsSameTally};
     ghost use Rattle.htl_tree.specs.Trees.{IsSumTally, HasTally, ListsRows, ListsRowsOf};
-    ghost use Rattle.htl_tree.specs.Trees.{ListsSums, ListsSlots};
+    ghost use Rattle.htl_tree.specs.Trees.{ListsSums, ListsSlots, by_stack, IsTally};
     ghost use Rattle.std.specs.List.{flat_map};
     ghost use Rattle.htl_event.specs.Events.{Event};
     ghost use Rattle.htl_event.specs.Tallies.{plus_count, tally, under};
@@ -67,6 +68,22 @@ impl<A: Allocator> StackTree<A> {
         let mut tree = StackTree::new(alloc);
         tree.count(lists)?;
         Ok(tree)
+    }
+
+    /// The tree that lists these rows, as `rows_of` does for all slots. Each stack is put into it by
+    /// one descent.
+    pub fn of_rows(alloc: A, rows: &[((Slot, SharedStack), Count)]) -> Result<Self, TallyFault>
+    where
+        A: Clone,
+        ensures tree { IfOk result (λ tree.
+            IsTally rows.now × (tree ≡ map by_stack rows.now)) }
+        ensures no_tally { (result ≡ Err TallyFault.NoTally) ↔ (IsTally rows.now → ⊥) }
+    {
+        let Some(total) = total_of_tally(rows) else {
+            return Err(TallyFault::NoTally);
+        };
+        let root = root_of_tally(&alloc, rows)?;
+        Ok(StackTree { alloc, total, root })
     }
 
     /// Counts the events of all lists too, whatever their order. Where memory is refused, what was

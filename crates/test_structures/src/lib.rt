@@ -23,4 +23,6 @@ mod tables;
 #[cfg(test)]
 mod taken;
 #[cfg(test)]
+mod tally;
+#[cfg(test)]
 mod trees;

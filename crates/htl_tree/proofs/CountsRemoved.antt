@@ -131,7 +131,7 @@ module _ {K X : Type 0} (R : K → K → Ordering) (passes : K × X → Bool) wh
 
 -- ---- counts without zeros
 
-some_positive : (c : Count) → is_some_count c ≡ true → IsPositive c
+pub some_positive : (c : Count) → is_some_count c ≡ true → IsPositive c
 some_positive c h = of c.plus c.minus h
   where
     of : (p m : ℕ) → (nat_lt 0 p || nat_lt 0 m) ≡ true → 0 < p + m

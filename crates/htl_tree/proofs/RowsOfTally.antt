@@ -1,8 +1,7 @@
--- Rows that rise, with none zero and a sum of 64 bits, are those of one tree once each is turned around.
-use Rattle.std.proofs.Common.{◌≡◌, ℕ, zero, suc, ◌+◌, ◌<◌, ◌≤◌, ◌^◌, ◌↔◌, List, [], ◌∷◌, ◌++◌}
-use Rattle.std.proofs.Common.{map, length, get_or, Option, Some, None, rules, T, true, false, Bool, ◌&&◌, refl, sym, ◌∙◌, ap, subst, arith}
-use Rattle.std.specs.List.{sum_by, list_all, flat_map, AllByRecursion, AllAdjacentBelow, IsAllAdjacentAnswer}
-use Rattle.std.specs.Borrow.{Bor}
+-- Rows that rise, with none zero and a sum of 64 bits, are those of one tree once each is turned around; and so are all rows of a tree.
+use Rattle.std.proofs.Common.{◌≡◌, ℕ, zero, suc, ◌+◌, ◌<◌, ◌^◌, ◌↔◌, List, [], ◌∷◌}
+use Rattle.std.proofs.Common.{map, length, get_or, Option, Some, None, rules, T, true, false, Bool, refl, sym, ◌∙◌, ap, subst, arith}
+use Rattle.std.specs.List.{sum_by, list_all, AllByRecursion, AllAdjacentBelow, IsAllAdjacentAnswer}
 use Rattle.std.specs.Prelude.{IsTrue, IfSome}
 use Rattle.std.specs.Ordering.{is_lt, on}
 use Rattle.std.specs.Cmp.{IsTotalOrder, on_total}
@@ -15,15 +14,21 @@ use Rattle.htl_lemmas.proofs.Tests.{both, less}
 use Rattle.htl_event.specs.declared.slot.Slot.{Slot}
 use Rattle.htl_event.specs.declared.slot.Count.{Count}
 use Rattle.htl_event.specs.Members.{IsRising}
-use Rattle.htl_event.specs.Tallies.{plus_count, total_of, IsPositive}
+use Rattle.htl_event.proofs.Members.{each_member, Lists-same}
+use Rattle.htl_event.proofs.Orders.{strict_from_total}
+use Rattle.htl_event.specs.Tallies.{total_of, IsPositive}
 use Rattle.htl_sorted.specs.Entries.{IsSorted, Each}
 use Rattle.htl_tree.specs.declared.node.Node.{Node}
 use Rattle.htl_tree.specs.declared.row.Row.{Row}
-use Rattle.htl_tree.specs.Trees.{Tree, key_cmp, count_at, total_count, by_stack, ByStackAndSlot, IsTally}
-use Rattle.htl_tree.specs.Nodes.{tree_of, IsNormalRoot}
+use Rattle.htl_tree.specs.Trees.{Tree, key_cmp, total_count, by_stack, ByStackAndSlot, IsTree, IsTally, ListsRowsOf}
+use Rattle.htl_tree.specs.HasSlot.{has_slot}
+use Rattle.htl_tree.specs.declared.slots.Slots.TheVariants.{All}
+use Rattle.htl_tree.specs.Nodes.{tree_of, picked, IsNormalRoot}
 use Rattle.htl_tree.specs.Rows.{entries_of, sum_at, WithRows}
 use Rattle.htl_tree.specs.Removed.{is_some_count}
 use Rattle.htl_tree.proofs.CopiesAndSums.{zero_left}
+use Rattle.htl_tree.proofs.CountsRemoved.{some_positive}
+use Rattle.htl_tree.proofs.Between.{lists_rows_of}
 use Rattle.htl_tree.proofs.Roots.{root_is_tree}
 use Rattle.htl_tree.proofs.SumsFromTally.{sum_at_tree}
 use Rattle.htl_tree.proofs.TreesAsLists.{key_total, canonical_trees}
@@ -79,17 +84,16 @@ rises_if rows false h = (
 
 -- ---- counts that aren't zero
 
-some_positive : (c : Count) → is_some_count c ≡ true → IsPositive c
-some_positive c h = grind arith
-
 positive_some : (c : Count) → IsPositive c → is_some_count c ≡ true
 positive_some c h = grind arith
 
+-- where all rows pass the test, none is zero
 pub all_positive : (rows : List Counted) → list_all (λ (row : Counted). is_some_count row.1) rows ≡ true
     → AllByRecursion (λ (row : Counted). IsPositive row.1) rows
 all_positive [] h = tt
 all_positive (row ∷ rows) h = (some_positive row.1 (search (rules, h)), all_positive rows (search (rules, h)))
 
+-- where none is zero, all rows pass the test
 pub positive_all : (rows : List Counted) → AllByRecursion (λ (row : Counted). IsPositive row.1) rows
     → list_all (λ (row : Counted). is_some_count row.1) rows ≡ true
 positive_all [] h = refl
@@ -97,6 +101,7 @@ positive_all (row ∷ rows) h = rw (positive_some row.1 h.0) (positive_all rows 
 
 -- ---- rows turned around
 
+-- turned around, rows have the same sum
 pub total_turned : (rows : List Counted) → total_count (map by_stack rows) ≡ sum_by (λ (row : Counted). total_of row.1) rows
 total_turned [] = refl
 total_turned (row ∷ rows) =
@@ -108,10 +113,12 @@ below_turned : (row : Counted) (rows : List Counted) → AllByRecursion (λ (nex
 below_turned row [] h = tt
 below_turned row (next ∷ rows) h = both _ _ (subst (λ o. T (is_lt o)) (sym h.0) tt) (below_turned row rows h.1)
 
+-- rows that rise are sorted by their keys
 pub sorted_turned : (rows : List Counted) → IsRising (λ (a b : Counted). ByStackAndSlot a b) rows → IsSorted key_cmp (map by_stack rows)
 sorted_turned [] h = tt
 sorted_turned (row ∷ rows) h = both _ _ (below_turned row rows h.0) (sorted_turned rows h.1)
 
+-- turned around, no row is zero
 pub positive_turned : (rows : List Counted) → AllByRecursion (λ (row : Counted). IsPositive row.1) rows
     → Each IsPositive (map by_stack rows)
 positive_turned [] h = tt
@@ -139,3 +146,30 @@ tree_of_tally root counts rows tally are normal with_rows =
     canonical_trees (tree_of root) (map by_stack counts) t.ordered t.positive sorted (positive_turned counts tally.positive)
     (λ slot stack. with_rows slot stack ∙ sym (zero_left (sum_at (entries_of rows) slot stack))
     ∙ ap (λ (u : Tree). sum_at u slot stack) are ∙ sum_at_tree (map by_stack counts) sorted slot stack)
+
+-- ---- the rows of a tree
+
+all_picked : (t : Tree) → map by_stack (picked (has_slot All) t) ≡ t
+all_picked [] = refl
+all_picked (row ∷ t) = ap (λ (u : Tree). row ∷ u) (all_picked t)
+
+-- the rows that a tree lists of all slots are the tree, once each is turned around
+all_turned : (t : Tree) → IsTree t → (rows : List Counted) → ListsRowsOf t All rows → map by_stack rows ≡ t
+all_turned t h rows lists =
+    ap (map by_stack) (Lists-same ByStackAndSlot
+    (strict_from_total (on_total (λ (row : Counted). (row.0.1, row.0.0)) key_total)) _ _ rows (picked (has_slot All) t)
+    (λ row. ((λ x. x), (λ x. x))) lists (lists_rows_of t h All)) ∙ all_picked t
+
+-- the rows that a tree lists of all slots are a tally, and that of the tree
+pub rows_are_tally : (t : Tree) → IsTree t → total_count t < 2 ^ 64 → (rows : List Counted) → ListsRowsOf t All rows
+    → IsTally rows × (map by_stack rows ≡ t)
+rows_are_tally t h small rows lists =
+    let is = all_turned t h rows lists in
+    let sum = ap total_count is in (
+      record {
+        rising = lists.rising;
+        positive = each_member (λ (row : Counted). IsPositive row.1) rows (λ row there. ((lists.members row).0 there).1);
+        fits = omega (arith, sum, total_turned rows, small);
+      },
+      is,
+    )

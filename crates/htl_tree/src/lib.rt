@@ -12,8 +12,9 @@
 //! find and one descent for each stack: `counting.rt`, `hints.rt`, `row.rt`, `sorting.rt` (rows of
 //! one fingerprint brought together), `building.rt`, `filling.rt`, `removing.rt` (where memory is
 //! refused). Then `sums.rt` (copy and plus), `compare.rt` (equality), `prefix.rt` (the prefix
-//! tally), `listing.rt` and `slot_sums.rt` (lists of counts, and their sums by slot), `laws.rt`
-//! (the canonical form, and what a slot's rows and their sum are).
+//! tally), `listing.rt` and `slot_sums.rt` (lists of counts, and their sums by slot), `tally.rt` (the
+//! tree of a list of counts), `laws.rt` (the canonical form, what a slot's rows and their sum are, and
+//! that all rows make their tree).
 //!
 //! `specs/Trees` and `specs/HasSlot` have the words of public contracts, the other files of `specs/`
 //! those of private ones.

@@ -1,8 +1,8 @@
 -- Rows that are a tally have room in a tree, and are all that it lists.
-use Rattle.std.proofs.Common.{map, sym, ap, ◌∙◌, subst, arith}
+use Rattle.std.proofs.Common.{sym, ap, ◌∙◌, subst, arith}
 use Rattle.htl_event.specs.Tallies.{IsPositive}
 use Rattle.htl_sorted.specs.Entries.{Each}
-use Rattle.htl_tree.specs.Trees.{Tree, by_stack, total_count}
+use Rattle.htl_tree.specs.Trees.{Tree, total_count}
 use Rattle.htl_tree.specs.Rows.{entries_of, AreShort}
 use Rattle.htl_tree.proofs.RowsOfTally.{total_turned, positive_turned, tree_of_tally}
 use Rattle.htl_tree.proofs.tally.root_of_tally.Goals as goal

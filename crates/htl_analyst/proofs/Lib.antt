@@ -20,3 +20,4 @@ pub mod Answered
 pub mod EventNumbers
 pub mod Firsts
 pub mod TakenAll
+pub mod Restores

@@ -1,14 +1,15 @@
 -- Laws of states that are right about the segments of one trace. Where two events may share a sequence, a state
 -- that is right need not be determined, so some laws ask that the sequences differ (`IsTrace`).
-use Rattle.std.specs.Prelude.{◌≡◌, ◌↔◌, ◌⊎◌, ◌≤◌, ℕ, Contains}
+use Rattle.std.specs.Prelude.{◌≡◌, ◌↔◌, ◌⊎◌, ◌≤◌, ℕ, List, Contains}
 use Rattle.htl_event.specs.Events.{Event}
 use Rattle.htl_segment.specs.Rising.{SequencesRise}
 use Rattle.htl_segment.specs.Traces.{Trace, IsTrace, events_of}
 use Rattle.htl_analyst.specs.States.{State}
 use Rattle.htl_analyst.specs.Keys.{keys, HasTaken}
-use Rattle.htl_analyst.specs.Right.{IsCollection, IsRight, IsStanding, KeysAreIn, IsBelow}
+use Rattle.htl_analyst.specs.Right.{IsCollection, IsState, IsRight, IsStanding, KeysAreIn, IsBelow}
 use Rattle.htl_analyst.specs.Same.{IsSame}
 use Rattle.htl_analyst.specs.Steps.{IsMerge}
+use Rattle.htl_analyst.specs.Restored.{Fold, of_folds, CanRestore, AreFoldsOf, AreNew, held_segments, with_segments}
 use Rattle.htl_analyst.specs.Moments.{IsLeastKept}
 use Rattle.htl_analyst.specs.TakenEvents.{taken_events}
 
@@ -59,3 +60,14 @@ NothingComesLater = (T : Trace) (a b : State) (n : ℕ) → IsRight a T → Sequ
 -- every trace is a collection
 abbrev pub TracesAreCollections : Type 0
 TracesAreCollections = (T : Trace) → IsTrace T → IsCollection T
+
+-- The state of these folds, of which there may be one, is the given one once its held segments are taken, as they are listed.
+-- Each of them is taken as a new one.
+pub record IsMadeAgain (a : State) (folds : List Fold) : Type 0 where
+  pub restores : CanRestore folds
+  pub new : AreNew (of_folds a.trace_id folds) (held_segments a)
+  pub same : with_segments (of_folds a.trace_id folds) (held_segments a) ≡ a
+
+-- a state is made again of its folds and its held segments
+abbrev pub AreMadeAgain : Type 0
+AreMadeAgain = (a : State) (folds : List Fold) → IsState a → AreFoldsOf a folds → IsMadeAgain a folds

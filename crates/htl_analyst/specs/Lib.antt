@@ -5,6 +5,7 @@ pub mod Right
 pub mod Same
 pub mod Refusals
 pub mod Steps
+pub mod Restored
 pub mod Moments
 pub mod Calls
 pub mod Compactions

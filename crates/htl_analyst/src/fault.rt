@@ -2,6 +2,7 @@
 ghost use Rattle.std.specs.Prelude.{◌≡◌};
 ghost use Rattle.htl_analyst.specs.declared.fault.AnalystFault.TheVariants as analysts;
 ghost use Rattle.htl_analyst.specs.declared.fault.MergeFault.TheVariants as merges;
+ghost use Rattle.htl_analyst.specs.declared.fault.RestoreFault.TheVariants as restores;
 
 use htl_event::NoMemory;
 use std::alloc::AllocError;
@@ -39,6 +40,20 @@ pub enum MergeFault {
     NoMemory,
 }
 
+/// Why no analyst was made of folds. The number of processors is tried first, and then each
+/// processor in turn.
+#[derive(Clone, Copy, Debug, PartialEq, Eq)]
+pub enum RestoreFault {
+    /// The number of processors is 0 or above 256.
+    Processors,
+    /// The tree of this processor counts more than 4,096 times its front.
+    Counts(u16),
+    /// More than 4,096 times its front events were folded of this processor, though its tree counts
+    /// no more than that.
+    Events(u16),
+    NoMemory,
+}
+
 /// Whether a segment was taken now or had been before.
 #[derive(Clone, Copy, Debug, PartialEq, Eq)]
 pub enum Took {
@@ -67,5 +82,21 @@ impl From<NoMemory> for MergeFault {
 
     fn from(_refused: NoMemory) -> MergeFault {
         MergeFault::NoMemory
+    }
+}
+
+impl From<NoMemory> for RestoreFault {
+    ghost from_gives = { λ _ fault. fault ≡ restores.NoMemory };
+
+    fn from(_refused: NoMemory) -> RestoreFault {
+        RestoreFault::NoMemory
+    }
+}
+
+impl From<AllocError> for RestoreFault {
+    ghost from_gives = { λ _ fault. fault ≡ restores.NoMemory };
+
+    fn from(_refused: AllocError) -> RestoreFault {
+        RestoreFault::NoMemory
     }
 }

@@ -12,12 +12,12 @@ use std::mem;
 /// the greatest sequence, and the number of events.
 #[derive(Drop)]
 pub(crate) struct Folded<A: Allocator> {
-    tree: StackTree<A>,
-    latest: Latest<A>,
-    marks: Marks<A>,
-    exits: Exits<A>,
-    last_sequence: u64,
-    events: u64,
+    pub(crate) tree: StackTree<A>,
+    pub(crate) latest: Latest<A>,
+    pub(crate) marks: Marks<A>,
+    pub(crate) exits: Exits<A>,
+    pub(crate) last_sequence: u64,
+    pub(crate) events: u64,
 }
 
 impl<A: Allocator> Model for Folded<A> {

@@ -5,7 +5,7 @@ ghost use Rattle.std.specs.Prelude.{◌≡◌, ◌≤◌, ◌+◌};
 ghost use Rattle.htl_analyst.specs.Keys.{number_taken};
 ghost use Rattle.htl_analyst.specs.Laws.{IsDetermined, IsCommutative, IsAssociative, IsIdempotent};
 ghost use Rattle.htl_analyst.specs.Laws.{IsLeastMerge, AreEqualOnceCompacted, Agree, UnitesKeys};
-ghost use Rattle.htl_analyst.specs.Laws.{NothingComesLater, TracesAreCollections};
+ghost use Rattle.htl_analyst.specs.Laws.{NothingComesLater, TracesAreCollections, AreMadeAgain};
 
 use crate::analyst::Analyst;
 use htl_segment::Segment;
@@ -62,6 +62,12 @@ pub fn nothing_comes_later()
 /// traces.
 pub fn traces_are_collections()
     ensures { TracesAreCollections }
+{}
+
+/// An analyst is made again of what it has folded and what it holds: `Analyst::of_parts` refuses
+/// its folds for want of memory alone, and `take` takes each held segment after it as a new one.
+pub fn analysts_are_made_again()
+    ensures { AreMadeAgain }
 {}
 
 // A segment that is taken twice counts once at most.

@@ -10,17 +10,19 @@
 //!
 //! Files, in reading order: `analyst.rt` (the state and what it shows), `part.rt` and `folded.rt`
 //! (what is kept of one processor), `taking.rt`, `merging.rt` with `union.rt` (all that two have
-//! taken), and `compacting.rt` (the steps), `fault.rt` (what they answer), `answers.rt` and
-//! `summary.rt` (the answers over the parts of all processors), `laws.rt`.
+//! taken), and `compacting.rt` (the steps), `restoring.rt` (an analyst made again of its folds),
+//! `fault.rt` (what they answer), `answers.rt` and `summary.rt` (the answers over the parts of all
+//! processors), `laws.rt`.
 //!
 //! `specs/` is read in this order: `States`, `Keys` and `TakenEvents` (a state as a value),
 //! `Right` (when it is right about a trace), `Steps` and `Refusals` (what calls make of it, and
 //! why they are refused), `TakenAll` (when it has taken the segments of a list and no others),
-//! `Moments` (up to which moment nothing is missing), `Same` and `Laws`. In `proofs/`, `Takes`,
-//! `Merges`, `Folds`, `Compacts` and `Workers` show that each step keeps a state right, `Counted`
-//! how many segments are taken after it, `TakenAll` which ones, `Determined` and `MergeLaws` the
-//! laws, `KeyEvents` and `Answered` that the events of the taken keys are those of the parts,
-//! `EventNumbers` that their number is, and `Falling` what is complete.
+//! `Moments` (up to which moment nothing is missing), `Restored` (the state of folds, and what a
+//! state is made again of), `Same` and `Laws`. In `proofs/`, `Takes`, `Merges`, `Folds`, `Compacts`
+//! and `Workers` show that each step keeps a state right, `Counted` how many segments are taken
+//! after it, `TakenAll` which ones, `Determined`, `MergeLaws` and `Restores` the laws, `KeyEvents`
+//! and `Answered` that the events of the taken keys are those of the parts, `EventNumbers` that
+//! their number is, and `Falling` what is complete.
 #![tactic(auto)]
 
 mod analyst;
@@ -31,13 +33,15 @@ mod folded;
 pub mod laws;
 mod merging;
 mod part;
+mod restoring;
 mod summary;
 mod taking;
 mod union;
 
 pub use analyst::Analyst;
-pub use fault::{AnalystFault, MergeFault, TakeFault, Took};
+pub use fault::{AnalystFault, MergeFault, RestoreFault, TakeFault, Took};
 pub use part::Part;
+pub use restoring::FoldedPart;
 
 /// The most processors that a trace has.
 pub const MAX_PROCESSORS: u16 = 256;

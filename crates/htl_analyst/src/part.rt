@@ -35,6 +35,13 @@ impl<A: Allocator> Part<A> {
         self.held.as_slice()
     }
 
+    /// The number of events that were folded: those of the segments below the front.
+    pub fn number_folded(&self) -> u64
+        ensures { result ≡ self.now.folded.events }
+    {
+        self.folded.events()
+    }
+
     /// The fold of the segments below the front.
     pub(crate) fn folded(&self) -> &Folded<A>
         ensures { result.now ≡ self.now.folded }

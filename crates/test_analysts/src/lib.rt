@@ -2,11 +2,12 @@
 //!
 //! Analysts that took the segments of a few lines answer what was worked out by hand: `handles` and
 //! `counting` have the questions, `merging` what analysts take over from one another, `moments` up
-//! to when nothing is missing, `summary` what leaks at all, and `refusals` what is refused. In
-//! `small_heaps` allocations are refused. In `compacting` several workers fold. In `histories` three
-//! analysts live through random lists of steps, and each answer is compared with that of `plain`, a
-//! program that scans a list of events. In `summaries` random traces lack segments, and their
-//! summaries are compared with those of `plain_summary`. `rows` has what they assert of each row,
+//! to when nothing is missing, `summary` what leaks at all, `refusals` what is refused, and
+//! `restoring` how an analyst is made again. In `small_heaps` allocations are refused. In
+//! `compacting` several workers fold. In `histories` three analysts live through random lists of
+//! steps, and each answer is compared with that of `plain`, a program that scans a list of events.
+//! In `summaries` random traces lack segments, and their summaries are compared with those of
+//! `plain_summary`. `rows` has what they assert of each row,
 //! `analysts` makes analysts of lines, and `heaps` has the heaps that refuse memory.
 #![tactic(auto)]
 
@@ -36,6 +37,8 @@ mod plain;
 mod plain_summary;
 #[cfg(test)]
 mod refusals;
+#[cfg(test)]
+mod restoring;
 #[cfg(test)]
 mod rows;
 #[cfg(test)]

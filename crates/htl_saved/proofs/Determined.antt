@@ -3,13 +3,12 @@ use Rattle.std.proofs.Common.{◌≡◌, ℕ, ◌<◌, List, length, get_or, sym
 use Rattle.htl_taken.specs.Numbers.{front_at}
 use Rattle.htl_analyst.specs.States.{part_at}
 use Rattle.htl_state.specs.Rows.{Part, state}
-use Rattle.std.specs.Prelude.{slice_index}
 use Rattle.htl_saved.specs.AnalystRows.{part_rows, no_rows}
 use Rattle.htl_saved.specs.Laws.{AreDetermined}
 use Rattle.htl_saved.proofs.TablesOf.{tables_are_one}
 
 pub are_determined : AreDetermined
-are_determined a folded r s x y =
+are_determined a r s x y =
     let stacks : r.stacks ≡ s.stacks = tables_are_one a.parts r.stacks s.stacks x.stacks y.stacks in
     let ids : r.trace_id ≡ s.trace_id = x.trace_id ∙ sym y.trace_id in
     let len : length r.parts ≡ length s.parts = x.processors ∙ sym y.processors in
@@ -22,5 +21,5 @@ are_determined a folded r s x y =
     same stacks p lt =
         let within : p < a.processors = omega (arith, x.processors, lt) in
         x.parts p within
-        ∙ ap (λ (t : List (List ℕ)). part_rows t (front_at a.taken p) (slice_index folded p) (part_at a.parts p)) stacks
+        ∙ ap (λ (t : List (List ℕ)). part_rows t (front_at a.taken p) (part_at a.parts p)) stacks
         ∙ sym (y.parts p within)

@@ -3,3 +3,9 @@ pub mod Tallies
 pub mod TablesOf
 pub mod Determined
 pub mod Told
+pub mod RowOrders
+pub mod NewSegments
+pub mod StatesTold
+pub mod BoundsTried
+pub mod ToldBack
+pub mod RowsWithStacks

@@ -1,6 +1,6 @@
 -- Rows tell the state: with the stacks of the table in the place of their numbers they are the tallies and the latest events.
 use Rattle.std.proofs.Common.{◌≡◌, ℕ, ◌<◌, List, [], ◌∷◌, length, map, get_or, refl, sym, ◌∙◌, ap, arith, ext_get_or}
-use Rattle.std.specs.Prelude.{Contains, slice_index}
+use Rattle.std.specs.Prelude.{Contains}
 use Rattle.std.specs.List.{AllByRecursion}
 use Rattle.std.proofs.lemmas.List.Elements.{Contains-get_or}
 use Rattle.htl_event.specs.Events.{Event}
@@ -17,32 +17,16 @@ use Rattle.htl_state.specs.declared.rows.LatestRow.{LatestRow}
 use Rattle.htl_state.specs.Rows.{Part, State}
 use Rattle.htl_saved.specs.Tables.{HasAll, count_row, latest_row}
 use Rattle.htl_saved.specs.AnalystRows.{AreRowsOf, part_rows, stacks_of}
-use Rattle.htl_saved.specs.Laws.{IsPlain, IsOf, TellTheState}
+use Rattle.htl_saved.specs.Restored.{counted, event_of}
+use Rattle.htl_saved.specs.Laws.{IsPlain, IsPlainState, TellTheState}
 use Rattle.htl_saved.proofs.Places.{at_place}
 use Rattle.htl_saved.proofs.Tallies.{Counted}
 use Rattle.htl_saved.proofs.TablesOf.{has_part, table_has_all}
 
 -- ---- one row
 
--- what a row counts, with the stack at its place of the table
-abbrev counted : List (List ℕ) → CountRow → Counted
-counted table row = ((get_or table row.stack [], row.slot), row.count)
-
--- the event of a row, with the stack at its place of the table
-abbrev event_of : List (List ℕ) → LatestRow → Event
-event_of table row = record {
-  sequence = row.sequence;
-  kind = row.kind;
-  process = row.process;
-  thread = row.thread;
-  handle = row.handle;
-  object = 0;
-  tag = 0 ∷ 0 ∷ 0 ∷ 0 ∷ [];
-  stack = get_or table row.stack [];
-}
-
 -- the rows of a tally tell it
-counts_back : (table : List (List ℕ)) (tree : Tree) → HasAll table (map (λ (row : Counted). row.0.0) tree)
+pub counts_back : (table : List (List ℕ)) (tree : Tree) → HasAll table (map (λ (row : Counted). row.0.0) tree)
     → map (counted table) (map (count_row table) tree) ≡ tree
 counts_back table [] all = refl
 counts_back table (row ∷ tree) all =
@@ -70,7 +54,7 @@ event_back table e here plain =
     ∙ ap (λ (o : ℕ). with_rest e o e.tag e.stack) (sym plain.object)
 
 -- the rows of plain events tell them
-events_back : (table : List (List ℕ)) (es : List Event) → HasAll table (map (λ (e : Event). e.stack) es) → AllByRecursion IsPlain es
+pub events_back : (table : List (List ℕ)) (es : List Event) → HasAll table (map (λ (e : Event). e.stack) es) → AllByRecursion IsPlain es
     → map (event_of table) (map (latest_row table) es) ≡ es
 events_back table [] all plain = refl
 events_back table (e ∷ es) all plain =
@@ -80,14 +64,14 @@ events_back table (e ∷ es) all plain =
 -- ---- one processor
 
 -- two parts with the same rows are the same
-same_parts : (table : List (List ℕ)) (k l : Kept) (f g m n : ℕ) → HasAll table (stacks_of k) → HasAll table (stacks_of l)
-    → AllByRecursion IsPlain k.folded.latest → AllByRecursion IsPlain l.folded.latest → m ≡ k.folded.events → n ≡ l.folded.events
-    → part_rows table f m k ≡ part_rows table g n l → IsSamePart k l
-same_parts table k l f g m n in_k in_l plain_k plain_l events_k events_l e = record {
+same_parts : (table : List (List ℕ)) (k l : Kept) (f g : ℕ) → HasAll table (stacks_of k) → HasAll table (stacks_of l)
+    → AllByRecursion IsPlain k.folded.latest → AllByRecursion IsPlain l.folded.latest
+    → part_rows table f k ≡ part_rows table g l → IsSamePart k l
+same_parts table k l f g in_k in_l plain_k plain_l e = record {
   held = ap (λ (r : Part). r.held) e;
   folded = record {
     last_sequence = ap (λ (r : Part). r.last_sequence) e;
-    events = sym events_k ∙ ap (λ (r : Part). r.events) e ∙ events_l;
+    events = ap (λ (r : Part). r.events) e;
     tree = λ slot stack. ap (λ (t : Tree). count_at t slot stack) trees;
     latest = λ process base. ap (λ (es : List Event). event_at es process base) latest;
     marks = λ process. ap (λ (r : Part). sequence_at r.marks process) e;
@@ -109,26 +93,24 @@ same_parts table k l f g m n in_k in_l plain_k plain_l events_k events_l e = rec
 
 -- ---- an analyst
 
-module _ (a b : Analyst) (folded others : List ℕ) (rows : State) (is_a : IsOf a folded) (is_b : IsOf b others)
-    (r : AreRowsOf a folded rows) (s : AreRowsOf b others rows) where
+module _ (a b : Analyst) (rows : State) (is_a : IsPlainState a) (is_b : IsPlainState b) (r : AreRowsOf a rows) (s : AreRowsOf b rows) where
   processors : a.processors ≡ b.processors
   processors = sym r.processors ∙ s.processors
 
   rows_of_both : (p : ℕ) → p < a.processors
-      → part_rows rows.stacks (front_at a.taken p) (slice_index folded p) (part_at a.parts p)
-      ≡ part_rows rows.stacks (front_at b.taken p) (slice_index others p) (part_at b.parts p)
+      → part_rows rows.stacks (front_at a.taken p) (part_at a.parts p)
+      ≡ part_rows rows.stacks (front_at b.taken p) (part_at b.parts p)
   rows_of_both p lt = sym (r.parts p lt) ∙ s.parts p (omega (arith, processors, lt))
 
   same_at : (p : ℕ) → p < a.processors → IsSamePart (part_at a.parts p) (part_at b.parts p)
   same_at p lt =
       let within : p < b.processors = omega (arith, processors, lt) in
       same_parts rows.stacks (part_at a.parts p) (part_at b.parts p) (front_at a.taken p) (front_at b.taken p)
-      (slice_index folded p) (slice_index others p)
       (has_part rows.stacks a.parts _ (table_has_all a.parts rows.stacks r.stacks)
       (Contains-get_or a.parts p no_part (omega (arith, is_a.state.parts, lt))))
       (has_part rows.stacks b.parts _ (table_has_all b.parts rows.stacks s.stacks)
       (Contains-get_or b.parts p no_part (omega (arith, is_b.state.parts, within))))
-      (is_a.plain p lt) (is_b.plain p within) (is_a.events p lt) (is_b.events p within) (rows_of_both p lt)
+      (is_a.plain p lt) (is_b.plain p within) (rows_of_both p lt)
 
   same_numbers : (p : ℕ) → p < length a.taken → numbers_at a.taken p ≡ numbers_at b.taken p
   same_numbers p lt =
@@ -152,4 +134,4 @@ module _ (a b : Analyst) (folded others : List ℕ) (rows : State) (is_a : IsOf 
   }
 
 pub tell_the_state : TellTheState
-tell_the_state a b folded others rows is_a is_b r s = same_states a b folded others rows is_a is_b r s
+tell_the_state a b rows is_a is_b r s = same_states a b rows is_a is_b r s

@@ -1,5 +1,5 @@
 -- Which rows an analyst has (this project's own): the state HLA1 stores, in which places of one table stand for stacks.
-use Rattle.std.specs.Prelude.{◌≡◌, ◌<◌, ℕ, List, [], ◌++◌, map, length, Contains, slice_index, slice_index_or}
+use Rattle.std.specs.Prelude.{◌≡◌, ◌<◌, ℕ, List, [], ◌++◌, map, length, Contains, slice_index_or}
 use Rattle.std.specs.List.{flat_map}
 use Rattle.htl_event.specs.Members.{Lists}
 use Rattle.htl_taken.specs.Numbers.{front_at}
@@ -20,10 +20,10 @@ IsTable parts table = Lists InStackOrder (Contains (flat_map stacks_of parts)) t
 
 -- ---- the rows of one processor
 
--- the rows of what is kept of a processor, with its front and the number of its folded events
-abbrev pub part_rows : List (List ℕ) → ℕ → ℕ → Kept → Part
-part_rows table front events k =
-    part front k.folded.last_sequence events (map (count_row table) k.folded.tree)
+-- the rows of what is kept of a processor, with its front
+abbrev pub part_rows : List (List ℕ) → ℕ → Kept → Part
+part_rows table front k =
+    part front k.folded.last_sequence k.folded.events (map (count_row table) k.folded.tree)
     (map (latest_row table) k.folded.latest) k.folded.marks k.folded.exits k.held
 
 -- ---- the rows of an analyst
@@ -34,17 +34,16 @@ no_rows = part 0 0 0 [] [] [] [] []
 abbrev pub rows_at : List Part → ℕ → Part
 rows_at parts p = slice_index_or parts p no_rows
 
--- The rows are those of the analyst, of whose processors so many events were folded: its trace, the table of all its
--- stacks, and the rows of each processor.
-pub record AreRowsOf (a : Analyst) (folded : List ℕ) (rows : State) : Type 0 where
+-- The rows are those of the analyst: its trace, the table of all its stacks, and the rows of each processor.
+pub record AreRowsOf (a : Analyst) (rows : State) : Type 0 where
   pub trace_id : rows.trace_id ≡ a.trace_id
   pub stacks : IsTable a.parts rows.stacks
   pub processors : length rows.parts ≡ a.processors
   pub parts : (p : ℕ) → p < a.processors
-      → rows_at rows.parts p ≡ part_rows rows.stacks (front_at a.taken p) (slice_index folded p) (kept_at a.parts p)
+      → rows_at rows.parts p ≡ part_rows rows.stacks (front_at a.taken p) (kept_at a.parts p)
 
 -- the bytes are the spelling of the analyst's rows
-pub record IsSaved (a : Analyst) (folded : List ℕ) (bytes : List ℕ) : Type 0 where
+pub record IsSaved (a : Analyst) (bytes : List ℕ) : Type 0 where
   pub rows : State
-  pub are : AreRowsOf a folded rows
+  pub are : AreRowsOf a rows
   pub spelled : bytes ≡ spelling rows

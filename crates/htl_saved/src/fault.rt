@@ -1,6 +1,8 @@
-//! Why no rows are made of an analyst.
+//! Why no rows are made of an analyst, and no analyst of bytes.
 
+use htl_analyst::RestoreFault;
 use htl_event::NoMemory;
+use htl_state::StateError;
 use std::alloc::{AllocError, AllocFailed};
 use thiserror::Error;
 
@@ -45,5 +47,36 @@ impl<T: Drop> From<AllocFailed<T>> for SaveFault {
 
     fn from(_refused: AllocFailed<T>) -> SaveFault {
         SaveFault::NoMemory
+    }
+}
+
+/// Why no analyst is made of bytes.
+#[derive(Clone, Copy, Debug, PartialEq, Eq)]
+pub enum LoadFault {
+    /// The bytes are no state.
+    Format(StateError),
+    /// The bytes are rows of no analyst's state, or an allocation was refused.
+    Bounds(RestoreFault),
+}
+
+impl From<StateError> for LoadFault {
+    ghost use Rattle.std.specs.Prelude.{◌≡◌};
+    ghost use Rattle.htl_saved.specs.declared.fault.LoadFault.TheVariants as loads;
+
+    ghost from_gives = { λ error fault. fault ≡ loads.Format error };
+
+    fn from(error: StateError) -> LoadFault {
+        LoadFault::Format(error)
+    }
+}
+
+impl From<RestoreFault> for LoadFault {
+    ghost use Rattle.std.specs.Prelude.{◌≡◌};
+    ghost use Rattle.htl_saved.specs.declared.fault.LoadFault.TheVariants as loads;
+
+    ghost from_gives = { λ refused fault. fault ≡ loads.Bounds refused };
+
+    fn from(refused: RestoreFault) -> LoadFault {
+        LoadFault::Bounds(refused)
     }
 }

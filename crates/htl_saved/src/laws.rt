@@ -1,5 +1,5 @@
 //! The laws of rows. Each function's contract is the law; none does anything when it runs.
-ghost use Rattle.htl_saved.specs.Laws.{AreDetermined, TellTheState};
+ghost use Rattle.htl_saved.specs.Laws.{AreDetermined, TellItself, TellTheState};
 
 /// An analyst has one list of rows. With the laws of `htl_state` it has one spelling.
 pub fn rows_are_determined()
@@ -9,4 +9,9 @@ pub fn rows_are_determined()
 /// Rows tell the state: analysts that have the same rows are the same.
 pub fn rows_tell_the_state()
     ensures { TellTheState }
+{}
+
+/// The state that rows of an analyst tell is the analyst's: `load` gives back what was saved.
+pub fn rows_tell_their_own_state()
+    ensures { TellItself }
 {}

@@ -1,6 +1,6 @@
 //! The rows of what an analyst keeps of each processor.
 
-ghost use Rattle.std.specs.Prelude.{◌≡◌, ◌<◌, ℕ, length, slice_index, IfOk};
+ghost use Rattle.std.specs.Prelude.{◌≡◌, ◌<◌, ℕ, length, IfOk};
 ghost use Rattle.std.specs.List.{flat_map};
 ghost use Rattle.htl_taken.specs.Numbers.{front_at};
 ghost use Rattle.htl_analyst.specs.States.{part_at};
@@ -21,56 +21,43 @@ pub(crate) fn all_parts<A: Allocator + Clone>(
     alloc: Global,
     table: &[SharedStack],
     analyst: &Analyst<A>,
-    folded: &[u64],
 ) -> Result<Vec<PartRows>, NoMemory>
     requires ordered { IsOrdered table.now }
     requires here { HasAll table.now (flat_map stacks_of analyst.now.parts) }
     ensures len { IfOk result (λ parts. length parts.items ≡ analyst.now.processors) }
     ensures each { IfOk result (λ parts. (p : ℕ) → p < analyst.now.processors
         → rows_at parts.items p ≡ part_rows table.now (front_at analyst.now.taken p)
-        (slice_index folded.now p) (part_at analyst.now.parts p)) }
+        (part_at analyst.now.parts p)) }
 {
     let kept = analyst.parts();
     let mut parts = Vec::new(alloc);
     for processor in 0..analyst.processors() {
         let part = &kept[usize::from(processor)];
-        let events = number_at(folded, processor);
-        parts.push(rows_of_part(alloc, table, analyst, processor, events, part)?)?;
+        parts.push(rows_of_part(alloc, table, analyst, processor, part)?)?;
     }
     Ok(parts)
 }
 
-/// The number of a processor, 0 where there is none.
-fn number_at(numbers: &[u64], processor: u16) -> u64
-    ensures { result ≡ slice_index numbers.now processor }
-{
-    match numbers.get(usize::from(processor)) {
-        Some(number) => *number,
-        None => 0,
-    }
-}
-
-/// The rows of one processor, of which so many events were folded, and the analyst keeps this part.
+/// The rows of one processor, of which the analyst keeps this part.
 fn rows_of_part<A: Allocator + Clone>(
     alloc: Global,
     table: &[SharedStack],
     analyst: &Analyst<A>,
     processor: u16,
-    events: u64,
     part: &Part<A>,
 ) -> Result<PartRows, NoMemory>
     requires ordered { IsOrdered table.now }
     requires here { HasAll table.now (stacks_of part.now) }
     requires kept { part.now ≡ part_at analyst.now.parts processor }
     ensures { IfOk result (λ rows. rows ≡ part_rows table.now
-        (front_at analyst.now.taken processor) events part.now) }
+        (front_at analyst.now.taken processor) part.now) }
 {
     let counts = count_rows(alloc, table, answers::Part::tree(part))?;
     let latest = latest_rows(alloc, table, answers::Part::latest(part).rows())?;
     Ok(PartRows {
         front: analyst.front(processor),
         last_sequence: analyst.last_folded(processor),
-        events,
+        events: part.number_folded(),
         counts,
         latest,
         marks: Vec::from_slice(alloc, answers::Part::marks(part).rows())?,

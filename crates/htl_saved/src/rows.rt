@@ -14,30 +14,25 @@ use std::alloc::{Allocator, Global};
 /// The most stacks that a table may have: a row names a place by 32 bits.
 const MAX_STACKS: u64 = 1 << 32;
 
-/// The rows of the analyst, of whose processors so many events were folded. Stacks and held segments
-/// stay shared with it.
-///
-/// An analyst doesn't tell how many events of each processor it has folded, so whoever has counted
-/// them says it: a number for each processor, 0 for those past the end.
+/// The rows of the analyst. Stacks and held segments stay shared with it.
 ///
 /// It takes a time of about n log n for n counts and latest events. `SaveFault::Stacks` comes before
 /// any row is made.
 pub fn rows_of<A: Allocator + Clone>(
     alloc: Global,
     analyst: &Analyst<A>,
-    folded: &[u64],
 ) -> Result<StateRows, SaveFault>
-    ensures rows { IfOk result (λ rows. AreRowsOf analyst.now folded.now rows) }
+    ensures rows { IfOk result (λ rows. AreRowsOf analyst.now rows) }
     ensures few { IfOk result (λ rows. length rows.stacks ≤ 2 ^ 32) }
     // The analyst has more stacks than rows can name.
     ensures many { result ≡ Err SaveFault.Stacks → (rows : State)
-        → AreRowsOf analyst.now folded.now rows → 2 ^ 32 < length rows.stacks }
+        → AreRowsOf analyst.now rows → 2 ^ 32 < length rows.stacks }
 {
     let stacks = table_of(alloc, analyst.parts())?;
     if stacks.len() as u64 > MAX_STACKS {
         return Err(SaveFault::Stacks);
     }
-    let parts = all_parts(alloc, &stacks, analyst, folded)?;
+    let parts = all_parts(alloc, &stacks, analyst)?;
     Ok(StateRows {
         trace_id: analyst.trace_id(),
         stacks,

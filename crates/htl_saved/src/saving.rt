@@ -10,19 +10,14 @@ use htl_analyst::Analyst;
 use htl_state::encode;
 use std::alloc::{Allocator, Global};
 
-/// The state of the analyst, of whose processors so many events were folded, as bytes in the format
-/// HLA1. The rows are dropped once they are written.
-pub fn save<A: Allocator + Clone>(
-    alloc: Global,
-    analyst: &Analyst<A>,
-    folded: &[u64],
-) -> Result<Vec<u8>, SaveFault>
-    ensures saved { IfOk result (λ bytes. IsSaved analyst.now folded.now bytes.items) }
+/// The state of the analyst as bytes in the format HLA1. The rows are dropped once they are written.
+pub fn save<A: Allocator + Clone>(alloc: Global, analyst: &Analyst<A>) -> Result<Vec<u8>, SaveFault>
+    ensures saved { IfOk result (λ bytes. IsSaved analyst.now bytes.items) }
     // The analyst has more stacks than rows can name.
     ensures many { result ≡ Err SaveFault.Stacks → (rows : State)
-        → AreRowsOf analyst.now folded.now rows → 2 ^ 32 < length rows.stacks }
+        → AreRowsOf analyst.now rows → 2 ^ 32 < length rows.stacks }
 {
-    let rows = rows_of(alloc, analyst, folded)?;
+    let rows = rows_of(alloc, analyst)?;
     let bytes = encode(alloc, &rows)?;
     Ok(bytes)
 }

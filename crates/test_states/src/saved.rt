@@ -1,10 +1,10 @@
 //! The rows of an analyst that took a few segments, as bytes and back.
 
-use htl_analyst::Analyst;
+use htl_analyst::{Analyst, RestoreFault};
 use htl_event::SharedStack;
 use htl_samples::TRACE;
-use htl_saved::{rows_of, save};
-use htl_state::{StateRows, decode};
+use htl_saved::{LoadFault, load, rows_of, save};
+use htl_state::{StateRows, decode, encode};
 use std::alloc::Global;
 use std::process::Abort;
 
@@ -27,10 +27,40 @@ fn analyst(rt: &impl Abort, alloc: Global) -> Analyst<Global> {
 #[test]
 fn saved_analyst_is_read_as_its_rows(rt: HostRuntime) {
     let analyst = analyst(&rt, rt.alloc());
-    let rows = rows_of(rt.alloc(), &analyst, &[4]).expect(&rt, "rows");
+    let rows = rows_of(rt.alloc(), &analyst).expect(&rt, "rows");
     has_rows(&rt, &rows);
-    let bytes = save(rt.alloc(), &analyst, &[4]).expect(&rt, "bytes");
+    let bytes = save(rt.alloc(), &analyst).expect(&rt, "bytes");
     has_rows(&rt, &decode(rt.alloc(), &bytes).expect(&rt, "a state"));
+}
+
+#[test]
+fn saved_analyst_is_loaded_again(rt: HostRuntime) {
+    let analyst = analyst(&rt, rt.alloc());
+    let bytes = save(rt.alloc(), &analyst).expect(&rt, "bytes");
+    let loaded = load(rt.alloc(), &bytes).expect(&rt, "an analyst");
+    assert!(rt; loaded.same(&analyst));
+}
+
+#[test]
+fn more_counts_and_events_than_segments_have_are_refused(rt: HostRuntime) {
+    let analyst = analyst(&rt, rt.alloc());
+    let mut rows = rows_of(rt.alloc(), &analyst).expect(&rt, "rows");
+    rows.parts[0].front = 0;
+    assert_eq!(rt;
+        fault_of(&rt, rt.alloc(), &rows),
+        Some(LoadFault::Bounds(RestoreFault::Counts(0)))
+    );
+    rows.parts[0].counts.clear();
+    assert_eq!(rt;
+        fault_of(&rt, rt.alloc(), &rows),
+        Some(LoadFault::Bounds(RestoreFault::Events(0)))
+    );
+}
+
+/// Why the rows aren't loaded.
+fn fault_of(rt: &impl Abort, alloc: Global, rows: &StateRows) -> Option<LoadFault> {
+    let bytes = encode(alloc, rows).expect(rt, "bytes");
+    load(alloc, &bytes).err()
 }
 
 /// Two stacks, two counts with them, a close and an open, a mark, and one held segment.

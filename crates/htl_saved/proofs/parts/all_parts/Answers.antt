@@ -1,6 +1,5 @@
 -- The part of each processor is the analyst's, whose stacks the table has, and one processor more has its rows.
 use Rattle.std.proofs.Common.{◌≡◌, ◌+◌, ◌<◌, ℕ, List, length, get_or, sym, ap, ◌∙◌, subst, arith}
-use Rattle.std.specs.Prelude.{slice_index}
 use Rattle.std.specs.List.{flat_map}
 use Rattle.std.proofs.lemmas.List.{get_or_read}
 use Rattle.std.proofs.lemmas.List.Elements.{Contains-get_or}
@@ -44,7 +43,7 @@ pub loop-processor-preserved : goal.loop-processor-preserved
 loop-processor-preserved g c =
     let p = c.loop-processor.processor in
     let a = c.args.analyst.now in
-    let wanted : ℕ → Part = λ q. part_rows c.args.table.now (front_at a.taken q) (slice_index c.args.folded.now q) (part_at a.parts q) in
+    let wanted : ℕ → Part = λ q. part_rows c.args.table.now (front_at a.taken q) (part_at a.parts q) in
     let lt : p < length a.parts =
     omega (arith, c.loop-processor-test.true, c.processors-processor-end.ensures.value, c.processors-processor-end.ensures.state.parts) in
     let kept : c.index-kept-from.result ≡ part_at a.parts p =
@@ -52,8 +51,7 @@ loop-processor-preserved g c =
     c.parts-kept.ensures.value c.from.ensures lt c.index-kept-from.is in
     let row : c.in_ok-rows_of_part.field-0 ≡ wanted p =
     c.in_ok-rows_of_part.ensures
-    ∙ ap (λ (n : ℕ). part_rows c.args.table.now (front_at a.taken p) n c.index-kept-from.result) c.number_at-events.ensures
-    ∙ ap (λ (k : Kept). part_rows c.args.table.now (front_at a.taken p) (slice_index c.args.folded.now p) k) kept in
+    ∙ ap (λ (k : Kept). part_rows c.args.table.now (front_at a.taken p) k) kept in
     let more = rows_more wanted c.loop-processor.parts.items p c.in_ok-rows_of_part.field-0
     c.loop-processor.invariant.0 c.loop-processor.invariant.1 row in
     subst (λ (l : List Part). (length l ≡ p + 1) × ((q : ℕ) → q < p + 1 → rows_at l q ≡ wanted q)) (sym c.in_ok-push.ensures.items) more

@@ -1,6 +1,5 @@
 -- The processors so far have their rows.
 use Rattle.std.proofs.Common.{◌≡◌, ◌<◌, ℕ, length}
-use Rattle.std.specs.Prelude.{slice_index}
 use Rattle.htl_taken.specs.Numbers.{front_at}
 use Rattle.htl_analyst.specs.States.{part_at}
 use Rattle.htl_saved.specs.AnalystRows.{part_rows, rows_at}
@@ -10,4 +9,4 @@ abbrev pub invariant-loop-processor : goal.invariant-loop-processor
 invariant-loop-processor g l =
     (length l.parts.items ≡ l.processor)
     × ((p : ℕ) → p < l.processor → rows_at l.parts.items p
-    ≡ part_rows l.table (front_at l.analyst.taken p) (slice_index l.folded p) (part_at l.analyst.parts p))
+    ≡ part_rows l.table (front_at l.analyst.taken p) (part_at l.analyst.parts p))

@@ -1,6 +1,5 @@
 -- The table has all stacks of the analyst, and there is one such table.
 use Rattle.std.proofs.Common.{◌≡◌, ◌<◌, ◌≤◌, ℕ, List, length, sym, ap, ◌∙◌, subst, arith}
-use Rattle.std.specs.Prelude.{slice_index}
 use Rattle.std.specs.List.{flat_map}
 use Rattle.htl_taken.specs.Numbers.{front_at}
 use Rattle.htl_analyst.specs.States.{Part as Kept, part_at}
@@ -51,6 +50,6 @@ returns-clause-rows g c =
       stacks = table_read parts c.parts.result.now table c.parts.ensures.value c.in_ok-stacks.ensures;
       processors = c.in_ok-parts.ensures.len;
       parts = λ p lt. c.in_ok-parts.ensures.each p lt
-          ∙ ap (λ (l : List (List ℕ)). part_rows l (front_at a.taken p) (slice_index c.args.folded.now p) (part_at a.parts p))
+          ∙ ap (λ (l : List (List ℕ)). part_rows l (front_at a.taken p) (part_at a.parts p))
           c.deref.ensures.value;
     }

@@ -44,11 +44,19 @@ fn measure_answer(watch: &mut Stopwatch<'_>, symbols: &Symbols, size: u32) -> Re
 
 fn measure_folded(watch: &mut Stopwatch<'_>, symbols: &Symbols, size: u32) -> Result<()> {
     let alloc = watch.alloc();
-    let rows = leaks(alloc, size)?;
+    let answer = Answer {
+        question: Question::Leaks {
+            process: 4,
+            since: None,
+            at_least: 1,
+        },
+        since: None,
+        rows: Rows::Leaks(leaks(alloc, size)?),
+    };
     watch.restart();
     watch.lap_list(
         "bytes of folded stacks",
-        folded(alloc, &rows, symbols, None),
+        folded(alloc, &answer, symbols, None, None),
     );
     Ok(())
 }

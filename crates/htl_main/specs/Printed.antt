@@ -7,13 +7,13 @@ use Rattle.htl_symbols.specs.Ranges.{Range}
 use Rattle.htl_symbols.specs.Reading.{Reads, records_of}
 use Rattle.htl_symbols.specs.declared.fault.SymbolFault.{SymbolFault}
 use Rattle.htl_symbols.specs.declared.fault.SymbolFault.TheVariants as symbol_faults
-use Rattle.htl_report.specs.Folded.{folded_sites, folded_text}
+use Rattle.htl_report.specs.Folded.{folded_lines}
 use Rattle.htl_report.specs.Texts.{text_of}
 use Rattle.htl_json.specs.Lines.{json_line, values_of}
 use Rattle.htl_command.specs.declared.question.Format.{Format}
 use Rattle.htl_command.specs.declared.question.Format.TheVariants.{Plain, Json, Folded}
 use Rattle.htl_command.specs.declared.question.Job.{Job}
-use Rattle.htl_question.specs.Rows.{Found, Listed, leaks, sites}
+use Rattle.htl_question.specs.Rows.{Found}
 use Rattle.htl_evidence.specs.Bases.{IsAnswer}
 use Rattle.htl_inputs.specs.CutInputs.{Decoding, IsDecoding}
 use Rattle.htl_inputs.specs.Inputs.{IsReportedOfInput, StopsAtInput}
@@ -23,12 +23,6 @@ use Rattle.htl_main.specs.Completeness.{ReportsMissing}
 use Rattle.htl_main.specs.Moments.{IsCompleteUntil, IsNamedMoment}
 use Rattle.htl_main.specs.Subjects.{HasAbsence}
 use Rattle.htl_main.specs.declared.completed.Absence.{Absence}
-
--- only leaking stacks are folded
-abbrev pub folded_lines : List Range → Option ℕ → Option ℕ → Found → Listed → List ℕ
-folded_lines table until top answer (leaks rows) = folded_text table top rows
-folded_lines table until top answer (sites rows) = folded_sites table top rows
-folded_lines table until top answer unfolded = text_of table until top answer
 
 -- the lines of an answer in each form, with all rows or the first so many
 abbrev pub lines_of_answer : Format → List Range → Option ℕ → Option ℕ → Found → List ℕ

@@ -25,8 +25,8 @@ use htl_device::Sink;
 use htl_event::NoMemory;
 use htl_inputs::{CutEnd, RunFault, decode_all, write_lines};
 use htl_json::json_lines;
-use htl_question::{Answer, Rows};
-use htl_report::{folded, folded_sites, text};
+use htl_question::Answer;
+use htl_report::{folded, text};
 use htl_symbols::{SymbolFault, Symbols};
 use std::alloc::Global;
 use std::thread::Threads;
@@ -173,11 +173,10 @@ pub(crate) fn lines(
     ensures { IfOk result (λ lines.
         lines.items ≡ lines_of_answer job.now.format symbols.now until job.now.top answer.now) }
 {
-    match (job.format, &answer.rows) {
-        (Format::Json, _) => json_lines(alloc, answer, symbols, until, job.top),
-        (Format::Folded, Rows::Leaks(rows)) => folded(alloc, rows, symbols, job.top),
-        (Format::Folded, Rows::Sites(rows)) => folded_sites(alloc, rows, symbols, job.top),
-        (Format::Plain | Format::Folded, _) => text(alloc, answer, symbols, until, job.top),
+    match job.format {
+        Format::Plain => text(alloc, answer, symbols, until, job.top),
+        Format::Json => json_lines(alloc, answer, symbols, until, job.top),
+        Format::Folded => folded(alloc, answer, symbols, until, job.top),
     }
 }
 

@@ -1,11 +1,13 @@
--- The text of leaking stacks for flame graph programs, as bytes: a line for each stack, its frames from the outermost to the innermost.
+-- The text of an answer for flame graph programs, as bytes: a line for each leaking stack, its frames from the outermost to the innermost.
 use Rattle.std.specs.Prelude.{◌++◌, ◌∷◌, [], ◌==◌, ◌||◌, ℕ, List, Option, codes, flat_map, if◌then◌else◌, map, reverse}
 use Rattle.std.specs.Fmt.{decimal}
 use Rattle.std.specs.List.{join_by}
 use Rattle.htl_event.specs.Sites.{Site}
 use Rattle.htl_symbols.specs.Ranges.{Range, resolved}
 use Rattle.htl_report.specs.Addresses.{line_feed, named}
+use Rattle.htl_question.specs.Rows.{Found, Listed, leaks, sites}
 use Rattle.htl_report.specs.Rows.{first_rows}
+use Rattle.htl_report.specs.Texts.{text_of}
 
 -- `;` separates frames, and a line feed or carriage return ends a line, so within a name `:` and a space stand for them
 abbrev pub folded_byte : ℕ → ℕ
@@ -25,16 +27,11 @@ unfoldable pub folded_count : ℕ → List ℕ
 folded_count handles = codes " " ++ (decimal handles ++ line_feed)
 
 -- a stack, and how many handles it opened
-abbrev pub folded_line : List Range → List ℕ × ℕ → List ℕ
-folded_line symbols row = folded_stack symbols row.0 ++ folded_count row.1
+abbrev pub folded_line : List Range → List ℕ → ℕ → List ℕ
+folded_line symbols stack handles = folded_stack symbols stack ++ folded_count handles
 
--- the leaking stacks, with no first line
-abbrev pub folded_text : List Range → Option ℕ → List (List ℕ × ℕ) → List ℕ
-folded_text symbols top rows = flat_map (folded_line symbols) (first_rows top rows)
-
--- the same of the handles of all processes
-abbrev pub folded_site : List Range → Site → List ℕ
-folded_site symbols site = folded_line symbols (site.stack, site.handles)
-
-abbrev pub folded_sites : List Range → Option ℕ → List Site → List ℕ
-folded_sites symbols top rows = flat_map (folded_site symbols) (first_rows top rows)
+-- the leaking stacks, with no first line; the handles of a site are those of all processes, and any other answer is not folded
+abbrev pub folded_lines : List Range → Option ℕ → Option ℕ → Found → Listed → List ℕ
+folded_lines symbols until top answer (leaks rows) = flat_map (λ (row : List ℕ × ℕ). folded_line symbols row.0 row.1) (first_rows top rows)
+folded_lines symbols until top answer (sites rows) = flat_map (λ (site : Site). folded_line symbols site.stack site.handles) (first_rows top rows)
+folded_lines symbols until top answer unfolded = text_of symbols until top answer

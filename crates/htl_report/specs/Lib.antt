@@ -3,9 +3,9 @@ pub mod Addresses
 pub mod Parts
 pub mod Heads
 pub mod Rows
-pub mod Folded
 pub mod Summaries
 pub mod Texts
+pub mod Folded
 pub mod Names
 -- What only private contracts cite: where lines of stacks stand.
 pub mod Printed

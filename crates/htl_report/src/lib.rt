@@ -25,7 +25,7 @@ mod summary;
 
 pub use address::write_address;
 pub use answer::text;
-pub use flame_graph::{folded, folded_sites};
+pub use flame_graph::folded;
 pub use names::shows_no_name;
 pub use parts::{shown_byte, write_tag};
 pub use rows::first_rows;

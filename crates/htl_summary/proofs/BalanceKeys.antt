@@ -29,7 +29,7 @@ module _ {K : Type 0} {cmp : K → K → Ordering} (o : IsTotalOrder cmp) (prope
   same k = ap is_eq (tied_itself o k)
 
   -- a key that comes before another isn't that
-  apart : (k j : K) → cmp k j ≡ Less → k ≢ j
+  pub apart : (k j : K) → cmp k j ≡ Less → k ≢ j
   apart k j less e =
       let tied : cmp k j ≡ Equal = ap (λ (x : K). cmp k x) (sym e) ∙ tied_itself o k in
       cc

@@ -23,7 +23,7 @@ use Rattle.htl_answers.proofs.TagLemmas.{row_of}
 use Rattle.htl_summary.proofs.Counting.{positive_somewhere, count_one}
 use Rattle.htl_summary.proofs.ListedSums.{slot_sums}
 use Rattle.htl_summary.proofs.ObjectRows.{no_member, balances, are_tags, same_tags as same_balances, one_row as one_object_row}
-use Rattle.htl_summary.proofs.OneProcess.{rising_members}
+use Rattle.htl_summary.proofs.Placed.{rising_members}
 use Rattle.htl_summary.proofs.TagRows.{differing, differ, one_number, one_row as one_tag_row}
 use Rattle.htl_summary.proofs.TagSums.{of_tag, same_tags, own_tag, refs_are, derefs_are, objects, number_of_objects}
 use Rattle.htl_summary.specs.BalanceLaws.{BalancesAddUp}

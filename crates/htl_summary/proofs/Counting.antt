@@ -1,10 +1,12 @@
--- How many elements of a list pass a test, where none does, all do, or some do.
+-- How many elements of a list pass a test, where none does, all do, or some do, and where each passes one of several.
 use Rattle.std.proofs.Common.{◌≡◌, ℕ, ◌<◌, Bool, true, false, cond, List, [], ◌∷◌, length, refl, ap, ◌∙◌, arith, inl, inr}
 use Rattle.std.specs.Prelude.{Contains, count_by}
 use Rattle.std.proofs.lemmas.Bool.{cases_Bool, both_ways}
+use Rattle.std.specs.List.{sum_by}
 use Rattle.std.proofs.lemmas.List.Sums.{sum_by-cons}
 use Rattle.htl_event.proofs.Members.{Contains-here, Contains-there, Contains-cases, Contains-nil, at_member}
 use Rattle.htl_event.specs.Members.{IsRising}
+use Rattle.htl_answers.proofs.NumberSums.{sum_same, sum_swap}
 
 module _ {X : Type 0} (p : X → Bool) where
   abbrev one_if : X → ℕ
@@ -77,3 +79,10 @@ module _ {X : Type 0} (p : X → Bool) where
               omega (arith, split, here, others)
         ]
       ]
+
+-- where each element has one of the keys, the sum of how many have each key is their number
+pub sum_of_keys : {K X : Type 0} (has : K → X → Bool) (ks : List K) (xs : List X)
+    → ((x : X) → Contains xs x → count_by (λ k. has k x) ks ≡ 1) → sum_by (λ k. count_by (has k) xs) ks ≡ length xs
+sum_of_keys has ks xs one =
+    sum_swap (λ k x. cond (has k x) 1 0) ks xs ∙ sum_same (λ x. count_by (λ k. has k x) ks) (λ x. cond true 1 0) xs one
+    ∙ count_all (λ x. true) xs (λ x h. refl)

@@ -1,11 +1,11 @@
 -- The rows of objects are those of the definition, and their number is that of the objects.
 use Rattle.std.proofs.Common.{◌≡◌, ℕ, ◌+◌, ◌<◌, Bool, true, false, not, cond, ◌&&◌, ◌==◌, List, [], ◌∷◌, map}
-use Rattle.std.proofs.Common.{Option, Some, None, T, refl, sym, ap, subst, ◌∙◌, arith, inl, inr}
+use Rattle.std.proofs.Common.{Option, Some, None, refl, sym, ap, subst, ◌∙◌, arith, inl, inr}
 use Rattle.std.specs.Prelude.{Contains, ◌↔◌, ◌⊎◌, length, count_by, filter, nat_lt}
-use Rattle.std.specs.List.{sum_by, filter_map, AllByRecursion}
+use Rattle.std.specs.List.{sum_by, filter_map}
 use Rattle.std.specs.Ordering.{nat_cmp, is_eq}
 use Rattle.std.specs.Cmp.{unsigned_tied}
-use Rattle.std.specs.FinMap.Entries.{find, below_all}
+use Rattle.std.specs.FinMap.Entries.{find}
 use Rattle.std.proofs.lemmas.Bool.{eqb-true, cases_lt, and_parts, ltb-true, lt-ltb}
 use Rattle.std.proofs.lemmas.Cmp.{nat_eq_equiv}
 use Rattle.std.proofs.lemmas.List.{length-map}
@@ -28,10 +28,10 @@ use Rattle.htl_event.proofs.Members.{Contains-here, Contains-map, Contains-from_
 use Rattle.htl_event.proofs.Members.{Contains-filter, Contains-from_filter}
 use Rattle.htl_event.proofs.Counts.{counts_are_determined}
 use Rattle.htl_sorted.specs.Entries.{IsSorted}
-use Rattle.htl_lemmas.proofs.Tests.{both_left, both_right, less, lower}
 use Rattle.htl_tree.specs.Trees.{BySlot}
 use Rattle.htl_answers.specs.Tags.{tag_row}
 use Rattle.htl_answers.proofs.FilterMaps.{Contains-filter_map, Contains-from_filter_map, IsRising-filter_map}
+use Rattle.htl_answers.proofs.Opens.{IsRising-map}
 use Rattle.htl_answers.proofs.TagLemmas.{row_of, row_is, row_at, tags_rise}
 use Rattle.htl_answers.specs.Sums.{times_of, ListsSlotSums}
 use Rattle.htl_summary.specs.Totals.{by_owner, one_at, total_at}
@@ -40,6 +40,7 @@ use Rattle.htl_answers.proofs.NumberSums.{amount, sum_same, sum_filter_map}
 use Rattle.htl_summary.proofs.Counting.{exists_one}
 use Rattle.htl_summary.proofs.Totals.{found_row, row_there, total-amount, total-keeps, number_at}
 use Rattle.htl_summary.proofs.SlotSums.{came}
+use Rattle.htl_summary.proofs.Sorted.{keys_rise}
 
 abbrev Sum : Type 0
 Sum = Slot × Count
@@ -265,19 +266,11 @@ module _ (events : List Event) (sums : List Sum) (rows : List ObjectRow) (listed
           let found = found_row key object row rows (values object ∙ at) in
           (found.0, found.1, ap key found.2 ∙ (is_tagged events sums listed object row at).1)
 
-  rising_from : (k : ℕ) (rs : List ObjectRow) → T (below_all nat_cmp k (by_owner key rs)) → AllByRecursion (λ o. k < o) (map key rs)
-  rising_from k [] h = tt
-  rising_from k (r ∷ rs) h = (lower k r.object (less (nat_cmp k r.object) (both_left _ _ h)), rising_from k rs (both_right _ _ h))
-
-  rising : (rs : List ObjectRow) → IsSorted nat_cmp (by_owner key rs) → IsRising (λ a b. a < b) (map key rs)
-  rising [] sorted = tt
-  rising (r ∷ rs) sorted = (rising_from r.object rs (both_left _ _ sorted), rising rs (both_right _ _ sorted))
-
   -- there are as many rows as objects with an event
   pub are_objects : IsNumberOfObjects events (length rows)
   are_objects = (
     map key rows,
-    record { rising = rising rows ordered; members = λ object. (from_key object, into_key object) },
+    record { rising = IsRising-map (λ a b. key a < key b) (λ a b. a < b) key (λ a b lt. lt) rows (keys_rise key (λ row. row) rows ordered); members = λ object. (from_key object, into_key object) },
     sym (length-map rows key),
   )
     where

@@ -1,8 +1,27 @@
--- Where elements compare, any list has one that rises with the same members.
-use Rattle.std.proofs.Common.{◌≡◌, ◌⊎◌, List, [], ◌∷◌, sym, subst, ◌∙◌, inl, inr}
+-- A list that rises in one order rises in another, where its members do; and where elements compare, any list has one that rises with
+-- the same members.
+use Rattle.std.proofs.Common.{◌≡◌, ◌⊎◌, List, [], ◌∷◌, ◌++◌, sym, subst, ◌∙◌, inl, inr}
 use Rattle.std.specs.Prelude.{Contains, ◌↔◌}
 use Rattle.htl_event.specs.Members.{IsRising, Lists, IsStrictOrder}
-use Rattle.htl_event.proofs.Members.{Contains-here, Contains-there, Contains-cases, Contains-cons, at_member, each_member}
+use Rattle.htl_event.proofs.Members.{Contains-here, Contains-there, Contains-cases, Contains-cons, at_member, each_member, all_append}
+
+-- a list rises in another order, where its members do
+pub rising_members : {X : Type 0} (before after : X → X → Type 0) (xs : List X)
+    → ((x y : X) → Contains xs x → Contains xs y → before x y → after x y) → IsRising before xs → IsRising after xs
+rising_members before after [] into rising = tt
+rising_members before after (x ∷ xs) into rising = (
+  each_member (after x) xs (λ y h. into x y (Contains-here x xs) (Contains-there x xs y h) (at_member (before x) xs y rising.0 h)),
+  rising_members before after xs (λ y z in_y in_z. into y z (Contains-there x xs y in_y) (Contains-there x xs z in_z)) rising.1,
+)
+
+-- one element more, which comes after all
+pub rising_snoc : {X : Type 0} (before : X → X → Type 0) (xs : List X) (y : X) → IsRising before xs → ((x : X) → Contains xs x → before x y)
+    → IsRising before (xs ++ y ∷ [])
+rising_snoc before [] y rising first = (tt, tt)
+rising_snoc before (x ∷ xs) y rising first = (
+  all_append (before x) xs (y ∷ []) rising.0 (first x (Contains-here x xs), tt),
+  rising_snoc before xs y rising.1 (λ z h. first z (Contains-there x xs z h)),
+)
 
 module _ {X : Type 0} (before : X → X → Type 0) (strict : IsStrictOrder before)
     (compare : (x y : X) → before x y ⊎ ((x ≡ y) ⊎ before y x)) where

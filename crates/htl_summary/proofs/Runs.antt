@@ -1,123 +1,105 @@
--- The first run of sorted openers, in which each has the stack of the next, has all of them that have its stack.
+-- The first run of a list that is sorted by a key, in which each has the key of the next, has all that have its key.
 use Rattle.std.proofs.Common.{◌≡◌, ◌≢◌, ℕ, zero, suc, ◌+◌, ◌-◌, ◌<◌, ◌≤◌, Bool, true, false, List, ◌++◌, length, get_or}
-use Rattle.std.proofs.Common.{refl, sym, ap, subst, ◌∙◌, arith, inl, inr, nat_eq}
+use Rattle.std.proofs.Common.{refl, sym, ap, subst, ◌∙◌, arith, inl, inr}
 use Rattle.std.specs.Prelude.{Contains}
+use Rattle.std.specs.Bool.{Decides}
 use Rattle.std.specs.List.{IsChunkByPrefix}
-use Rattle.std.specs.List.Sorted.{IsSorted}
-use Rattle.std.specs.Ordering.{nat_cmp, is_lt, ordering_then}
-use Rattle.std.specs.Cmp.{IsTotalOrder, unsigned_Decides}
-use Rattle.std.specs.Cmp.Lexicographic.{pointwise, pointwise_decides}
+use Rattle.std.specs.List.Sorted.{IsSortedByKey}
+use Rattle.std.specs.Ordering.{is_lt}
+use Rattle.std.specs.Cmp.{IsTotalOrder}
 use Rattle.std.specs.declared.cmp.Ordering.{Ordering}
 use Rattle.std.specs.declared.cmp.Ordering.TheVariants.{Less, Equal, Greater}
 use Rattle.std.proofs.lemmas.Bool.{both_ways}
-use Rattle.std.proofs.lemmas.Cmp.{nat_cmp_total, on_total, then_total}
 use Rattle.std.proofs.lemmas.List.{length-append, get_or-append-add, get_or_default}
 use Rattle.std.proofs.lemmas.List.Elements.{Contains-append_right, Contains-append_cases}
 use Rattle.std.proofs.Math.ListN.{get_or-append}
 use Rattle.std.proofs.lemmas.List.Sorted.{ranks_by, sorted_far}
-use Rattle.htl_event.specs.OrderLaws.{stack_total}
-use Rattle.htl_event.specs.Stacks.{stack_cmp}
 use Rattle.htl_sorted.proofs.Places.{turn}
-use Rattle.htl_answers.specs.RowOrder.{stack_same}
-use Rattle.htl_summary.specs.Openers.{Opener, opener_cmp}
 
-opener_total : IsTotalOrder opener_cmp
-opener_total = then_total (on_total (λ (x : Opener). x.0) stack_total) (on_total (λ (x : Opener). x.1) nat_cmp_total)
+module _ {X K : Type 0} (key : X → K) {cmp : K → K → Ordering} (o : IsTotalOrder cmp) (proper : (x y : K) → cmp x y ≡ Equal → x ≡ y)
+    (same : K → K → Bool) (decides : (x y : K) → Decides (same x y) (x ≡ y)) where
+  -- the two have one key
+  abbrev have_one : X → X → Bool
+  have_one x y = same (key x) (key y)
 
--- the two have one stack
-abbrev pub same_stack : Opener → Opener → Bool
-same_stack x y = pointwise nat_eq x.0 y.0
+  -- keys of which neither is lower are equal
+  neither_lower : (s t : K) → is_lt (cmp s t) ≡ false → is_lt (cmp t s) ≡ false → s ≡ t
+  neither_lower s t not nor = by (cmp s t) refl
+    where
+      by : (r : Ordering) → cmp s t ≡ r → s ≡ t
+      by Less e = absurd (both_ways (is_lt (cmp s t)) not (ap is_lt e))
+      by Equal e = proper s t e
+      by Greater e = absurd (both_ways (is_lt (cmp t s)) nor (ap is_lt (turn o s t Greater e)))
 
-same : (s t : List ℕ) → pointwise nat_eq s t ≡ true → s ≡ t
-same s t = (pointwise_decides unsigned_Decides s t).0
+  module _ (rest run after : List X) (sorted : IsSortedByKey key cmp rest) (is : rest ≡ run ++ after) (some : 0 < length run)
+      (prefix : IsChunkByPrefix have_one rest (length run)) where
+    abbrev key_at : ℕ → X → K
+    key_at i d = key (get_or rest i d)
 
--- what isn't before another has no lower stack
-no_lower : (x y : Opener) → is_lt (opener_cmp x y) ≡ false → is_lt (stack_cmp x.0 y.0) ≡ false
-no_lower x y = by (stack_cmp x.0 y.0)
-  where
-    by : (r : Ordering) → is_lt (ordering_then r (nat_cmp x.1 y.1)) ≡ false → is_lt r ≡ false
-    by Less e = e
-    by Equal e = refl
-    by Greater e = refl
+    long : length rest ≡ length run + length after
+    long = ap length is ∙ length-append run after
 
--- stacks of which neither is lower are equal
-neither_lower : (s t : List ℕ) → is_lt (stack_cmp s t) ≡ false → is_lt (stack_cmp t s) ≡ false → s ≡ t
-neither_lower s t not nor = by (stack_cmp s t) refl
-  where
-    by : (r : Ordering) → stack_cmp s t ≡ r → s ≡ t
-    by Less e = absurd (both_ways (is_lt (stack_cmp s t)) not (ap is_lt e))
-    by Equal e = stack_same s t e
-    by Greater e = absurd (both_ways (is_lt (stack_cmp t s)) nor (ap is_lt (turn stack_total s t Greater e)))
+    -- each of the run has the key of the first
+    key_is : (i : ℕ) (d : X) → i < length run → key_at i d ≡ key_at 0 d
+    key_is zero d lt = refl
+    key_is (suc i) d lt =
+        let next : i + 1 ≡ suc i = omega arith in
+        let passes : have_one (get_or rest i d) (get_or rest (suc i) d) ≡ true = subst (λ j. have_one (get_or rest i d) (get_or rest j d) ≡ true)
+        next (prefix.0 i d (omega (arith, lt))) in
+        sym ((decides (key_at i d) (key_at (suc i) d)).0 passes) ∙ key_is i d (omega (arith, lt))
 
-module _ (rest run after : List Opener) (sorted : IsSorted opener_cmp rest) (is : rest ≡ run ++ after) (some : 0 < length run)
-    (prefix : IsChunkByPrefix same_stack rest (length run)) where
-  abbrev stack_at : ℕ → Opener → List ℕ
-  stack_at i d = (get_or rest i d).0
+    lowest : (i j : ℕ) (d : X) → i ≤ j → j < length rest → is_lt (cmp (key_at j d) (key_at i d)) ≡ false
+    lowest i j d le lt =
+        sorted_far (λ x y. is_lt (cmp (key x) (key y))) (ranks_by o key) rest sorted i j d le lt
 
-  long : length rest ≡ length run + length after
-  long = ap length is ∙ length-append run after
+    -- and each that follows has another
+    key_differs : (j : ℕ) (d : X) → length run ≤ j → j < length rest → key_at j d ≢ key_at 0 d
+    key_differs j d le lt e =
+        let n = length run in
+        let border = prefix.1 (omega (arith, le, lt)) d in
+        let last : key_at (n - 1) d ≡ key_at 0 d = key_is (n - 1) d (omega (arith, some)) in
+        let below = lowest 0 n d (omega arith) (omega (arith, le, lt)) in
+        let above : is_lt (cmp (key_at 0 d) (key_at n d)) ≡ false = subst (λ s. is_lt (cmp s (key_at n d)) ≡ false) e (lowest n j d le lt) in
+        let at : key_at n d ≡ key_at 0 d = neither_lower (key_at n d) (key_at 0 d) below above in
+        both_ways (have_one (get_or rest (n - 1) d) (get_or rest n d)) border
+        ((decides (key_at (n - 1) d) (key_at n d)).1 (last ∙ sym at))
 
-  -- each of the run has the stack of the first
-  stack_is : (i : ℕ) (d : Opener) → i < length run → stack_at i d ≡ stack_at 0 d
-  stack_is zero d lt = refl
-  stack_is (suc i) d lt =
-      let next : i + 1 ≡ suc i = omega arith in
-      let passes : same_stack (get_or rest i d) (get_or rest (suc i) d) ≡ true = subst (λ j. same_stack (get_or rest i d) (get_or rest j d) ≡ true)
-      next (prefix.0 i d (omega (arith, lt))) in
-      sym (same (stack_at i d) (stack_at (suc i) d) passes) ∙ stack_is i d (omega (arith, lt))
+    in_run : (i : ℕ) (d : X) → i < length run → get_or rest i d ≡ get_or run i d
+    in_run i d lt = ap (λ l. get_or l i d) is ∙ get_or-append run after d i lt
 
-  lowest : (i j : ℕ) (d : Opener) → i ≤ j → j < length rest → is_lt (stack_cmp (stack_at j d) (stack_at i d)) ≡ false
-  lowest i j d le lt =
-      no_lower (get_or rest j d) (get_or rest i d) (sorted_far (λ x y. is_lt (opener_cmp x y)) (ranks_by opener_total (λ x. x)) rest sorted i j d le lt)
+    in_after : (i : ℕ) (d : X) → get_or rest (length run + i) d ≡ get_or after i d
+    in_after i d = ap (λ l. get_or l (length run + i) d) is ∙ get_or-append-add run after i d
 
-  -- and each that follows has another
-  stack_differs : (j : ℕ) (d : Opener) → length run ≤ j → j < length rest → stack_at j d ≢ stack_at 0 d
-  stack_differs j d le lt e =
-      let n = length run in
-      let border = prefix.1 (omega (arith, le, lt)) d in
-      let last : stack_at (n - 1) d ≡ stack_at 0 d = stack_is (n - 1) d (omega (arith, some)) in
-      let below = lowest 0 n d (omega arith) (omega (arith, le, lt)) in
-      let above : is_lt (stack_cmp (stack_at 0 d) (stack_at n d)) ≡ false = subst (λ s. is_lt (stack_cmp s (stack_at n d)) ≡ false) e (lowest n j d le lt) in
-      let at : stack_at n d ≡ stack_at 0 d = neither_lower (stack_at n d) (stack_at 0 d) below above in
-      both_ways (same_stack (get_or rest (n - 1) d) (get_or rest n d)) border
-      ((pointwise_decides unsigned_Decides (stack_at (n - 1) d) (stack_at n d)).1 (last ∙ sym at))
+    pub run_same : (d x : X) → Contains run x → key x ≡ key (get_or run 0 d)
+    run_same d x (i, lt, at) =
+        ap key (sym at ∙ get_or_default run i x d lt ∙ sym (in_run i d lt)) ∙ key_is i d lt ∙ ap key (in_run 0 d some)
 
-  in_run : (i : ℕ) (d : Opener) → i < length run → get_or rest i d ≡ get_or run i d
-  in_run i d lt = ap (λ l. get_or l i d) is ∙ get_or-append run after d i lt
+    pub after_differs : (d x : X) → Contains after x → key x ≢ key (get_or run 0 d)
+    after_differs d x (i, lt, at) e =
+        let within : length run + i < length rest = omega (arith, lt, long) in
+        let here : key x ≡ key_at (length run + i) d = ap key (sym at ∙ get_or_default after i x d lt ∙ sym (in_after i d)) in
+        key_differs (length run + i) d (omega arith) within (sym here ∙ e ∙ ap key (sym (in_run 0 d some)))
 
-  in_after : (i : ℕ) (d : Opener) → get_or rest (length run + i) d ≡ get_or after i d
-  in_after i d = ap (λ l. get_or l (length run + i) d) is ∙ get_or-append-add run after i d
+    pub after_sorted : IsSortedByKey key cmp after
+    after_sorted k d low high =
+        let more : length run + k + 1 ≡ length run + (k + 1) = omega arith in
+        let up : is_lt (cmp (key_at (length run + (k + 1)) d) (key_at (length run + k) d)) ≡ false =
+        subst (λ j. is_lt (cmp (key_at j d) (key_at (length run + k) d)) ≡ false) more
+        (sorted (length run + k) d (omega arith) (omega (arith, high, long))) in
+        subst (λ y. is_lt (cmp (key y) (key (get_or after k d))) ≡ false) (in_after (k + 1) d)
+        (subst (λ y. is_lt (cmp (key_at (length run + (k + 1)) d) (key y)) ≡ false) (in_after k d) up)
 
-  pub run_same : (d x : Opener) → Contains run x → x.0 ≡ (get_or run 0 d).0
-  run_same d x (i, lt, at) =
-      ap (λ (y : Opener). y.0) (sym at ∙ get_or_default run i x d lt ∙ sym (in_run i d lt)) ∙ stack_is i d lt ∙ ap (λ (y : Opener). y.0) (in_run 0 d some)
+    first_in : (d : X) → Contains rest (get_or run 0 d)
+    first_in d =
+        let first = get_or run 0 d in
+        (0, omega (arith, some, long), in_run 0 first some ∙ get_or_default run 0 first d some)
 
-  pub after_differs : (d x : Opener) → Contains after x → x.0 ≢ (get_or run 0 d).0
-  after_differs d x (i, lt, at) e =
-      let within : length run + i < length rest = omega (arith, lt, long) in
-      let here : x.0 ≡ stack_at (length run + i) d = ap (λ (y : Opener). y.0) (sym at ∙ get_or_default after i x d lt ∙ sym (in_after i d)) in
-      stack_differs (length run + i) d (omega arith) within (sym here ∙ e ∙ ap (λ (y : Opener). y.0) (sym (in_run 0 d some)))
+    module _ (passed : List X) (differ : (x y : X) → Contains passed x → Contains rest y → key x ≢ key y) where
+      pub before_differs : (d x : X) → Contains passed x → key x ≢ key (get_or run 0 d)
+      before_differs d x h = differ x (get_or run 0 d) h (first_in d)
 
-  pub after_sorted : IsSorted opener_cmp after
-  after_sorted k d low high =
-      let more : length run + k + 1 ≡ length run + (k + 1) = omega arith in
-      let up : is_lt (opener_cmp (get_or rest (length run + (k + 1)) d) (get_or rest (length run + k) d)) ≡ false =
-      subst (λ j. is_lt (opener_cmp (get_or rest j d) (get_or rest (length run + k) d)) ≡ false) more
-      (sorted (length run + k) d (omega arith) (omega (arith, high, long))) in
-      subst (λ y. is_lt (opener_cmp y (get_or after k d)) ≡ false) (in_after (k + 1) d)
-      (subst (λ y. is_lt (opener_cmp (get_or rest (length run + (k + 1)) d) y) ≡ false) (in_after k d) up)
-
-  first_in : (d : Opener) → Contains rest (get_or run 0 d)
-  first_in d =
-      let first = get_or run 0 d in
-      (0, omega (arith, some, long), in_run 0 first some ∙ get_or_default run 0 first d some)
-
-  module _ (passed : List Opener) (differ : (x y : Opener) → Contains passed x → Contains rest y → x.0 ≢ y.0) where
-    pub before_differs : (d x : Opener) → Contains passed x → x.0 ≢ (get_or run 0 d).0
-    before_differs d x h = differ x (get_or run 0 d) h (first_in d)
-
-    pub still_differ : (d x y : Opener) → Contains (passed ++ run) x → Contains after y → x.0 ≢ y.0
-    still_differ d x y h there e = elim (Contains-append_cases passed run x h) [
-      | inl old ↦ differ x y old (subst (λ l. Contains l y) (sym is) (Contains-append_right run after y there)) e
-      | inr new ↦ after_differs d y there (sym e ∙ run_same d x new)
-    ]
+      pub still_differ : (d x y : X) → Contains (passed ++ run) x → Contains after y → key x ≢ key y
+      still_differ d x y h there e = elim (Contains-append_cases passed run x h) [
+        | inl old ↦ differ x y old (subst (λ l. Contains l y) (sym is) (Contains-append_right run after y there)) e
+        | inr new ↦ after_differs d y there (sym e ∙ run_same d x new)
+      ]

@@ -1,17 +1,22 @@
 -- A run of one stack gives its site, and the sites of all runs are those of the open handles.
-use Rattle.std.proofs.Common.{◌≡◌, ◌≢◌, ℕ, ◌+◌, ◌<◌, ◌≤◌, true, false, cond, List, [], ◌∷◌, ◌++◌, length, get_or, map, Option, Some, None}
+use Rattle.std.proofs.Common.{◌≡◌, ◌≢◌, ℕ, ◌+◌, ◌<◌, ◌≤◌, nat_eq, Bool, true, false, cond, List, [], ◌∷◌, ◌++◌, length, get_or, map, Option, Some, None}
 use Rattle.std.proofs.Common.{refl, sym, ap, subst, ◌∙◌, arith, inl, inr, append-nil, append_assoc}
 use Rattle.std.specs.Prelude.{Contains, ◌↔◌, count_by, filter, max}
 use Rattle.std.specs.List.{IsChunkByPrefix}
 use Rattle.std.specs.List.Sorted.{IsPermutation, IsSorted}
 use Rattle.std.specs.Cmp.{unsigned_Decides}
-use Rattle.std.specs.Cmp.Lexicographic.{pointwise_decides}
+use Rattle.std.specs.Cmp.Lexicographic.{pointwise, pointwise_decides}
+use Rattle.std.specs.Ordering.{is_lt, nat_cmp, ordering_then}
+use Rattle.std.specs.declared.cmp.Ordering.{Ordering}
+use Rattle.std.specs.declared.cmp.Ordering.TheVariants.{Less, Equal, Greater}
 use Rattle.std.proofs.lemmas.Bool.{cases_Bool}
 use Rattle.std.proofs.lemmas.List.Elements.{Contains-append_left, Contains-append_right, Contains-append_cases}
 use Rattle.std.proofs.lemmas.List.Sums.{sum_by-cons, sum_by-append}
 use Rattle.std.proofs.lemmas.List.Sorted.{Contains-permutation, IsPermutation-sym}
 use Rattle.htl_event.specs.Events.{Event}
 use Rattle.htl_event.specs.Members.{IsRising, Lists}
+use Rattle.htl_event.specs.OrderLaws.{stack_total}
+use Rattle.htl_event.specs.Stacks.{stack_cmp}
 use Rattle.htl_event.specs.Tallies.{has_stack}
 use Rattle.htl_event.specs.Handles.{HaveOwnSequences, IsOpen}
 use Rattle.htl_event.specs.declared.since.Since.{Since}
@@ -26,11 +31,13 @@ use Rattle.htl_tables.specs.Greatest.{sequence_at}
 use Rattle.htl_tables.specs.Keys.{ByKey}
 use Rattle.htl_tables.specs.Latest.{HasEvent}
 use Rattle.htl_answers.specs.Parts.{AreTablesOf}
+use Rattle.htl_answers.specs.RowOrder.{stack_same}
 use Rattle.htl_answers.proofs.OpenLemmas.{rising-filter, open_from_latest, latest_from_open}
 use Rattle.htl_summary.proofs.Counting.{count_none, count_all, exists_one}
-use Rattle.htl_summary.specs.Openers.{Opener, opener_of, opener_cmp, start_of, is_counted_open, is_of_stack}
+use Rattle.htl_summary.specs.Openers.{Opener, opener_of, opener_cmp, stack_of, start_of, is_counted_open, is_of_stack}
 use Rattle.htl_summary.specs.Openers.{IsSiteOfRun, IsSiteOf, AreSitesOf, HavePassed}
-use Rattle.htl_summary.proofs.Runs.{same_stack, run_same, after_differs, after_sorted, before_differs, still_differ}
+use Rattle.htl_summary.proofs.Placed.{rising_snoc}
+use Rattle.htl_summary.proofs.Runs.{run_same, after_differs, after_sorted, before_differs, still_differ}
 
 -- ---- open handles of all processes
 
@@ -88,14 +95,6 @@ is_of_no stack x apart = elim (cases_Bool (is_of_stack stack x)) [
 ]
 
 -- ---- one run more
-
-rising_snoc : {X : Type 0} (before : X → X → Type 0) (xs : List X) (y : X) → IsRising before xs → ((x : X) → Contains xs x → before x y)
-    → IsRising before (xs ++ y ∷ [])
-rising_snoc before [] y rising first = (tt, tt)
-rising_snoc before (x ∷ xs) y rising first = (
-  all_append (before x) xs (y ∷ []) rising.0 (first x (Contains-here x xs), tt),
-  rising_snoc before xs y rising.1 (λ z h. first z (Contains-there x xs z h)),
-)
 
 module _ (openers passed run after : List Opener) (split : openers ≡ passed ++ (run ++ after)) (stack : List ℕ) (some : 0 < length run)
     (before : (x : Opener) → Contains passed x → x.0 ≢ stack) (within : (x : Opener) → Contains run x → x.0 ≡ stack)
@@ -214,6 +213,10 @@ module _ (openers passed run after : List Opener) (split : openers ≡ passed ++
 no_opener : Opener
 no_opener = ([], 0)
 
+-- the two have one stack
+abbrev pub same_stack : Opener → Opener → Bool
+same_stack x y = pointwise nat_eq x.0 y.0
+
 module _ (openers rest run after : List Opener) (least : ℕ) (sites : List Site) (so_far : HavePassed openers rest least sites)
     (is : rest ≡ run ++ after) (some : 0 < length run) (prefix : IsChunkByPrefix same_stack rest (length run)) where
   abbrev passed : List Opener
@@ -222,37 +225,57 @@ module _ (openers rest run after : List Opener) (least : ℕ) (sites : List Site
   parted : openers ≡ passed ++ (run ++ after)
   parted = so_far.split ∙ ap (λ l. passed ++ l) is
 
+  -- the stack of the run
+  abbrev stack : List ℕ
+  stack = (get_or run 0 no_opener).0
+
+  before : (x : Opener) → Contains passed x → x.0 ≢ stack
+  before = before_differs stack_of stack_total stack_same (pointwise nat_eq) (pointwise_decides unsigned_Decides)
+      rest run after so_far.sorted is some prefix passed so_far.differ no_opener
+
+  within : (x : Opener) → Contains run x → x.0 ≡ stack
+  within = run_same stack_of stack_total stack_same (pointwise nat_eq) (pointwise_decides unsigned_Decides)
+      rest run after so_far.sorted is some prefix no_opener
+
+  behind : (x : Opener) → Contains after x → x.0 ≢ stack
+  behind = after_differs stack_of stack_total stack_same (pointwise nat_eq) (pointwise_decides unsigned_Decides)
+      rest run after so_far.sorted is some prefix no_opener
+
   passed_with : (more : List Site) → AreSitesOf openers (passed ++ run) least more → HavePassed openers after least more
   passed_with more are = record {
-    sorted = after_sorted rest run after so_far.sorted is some prefix;
+    sorted = after_sorted stack_of stack_total stack_same (pointwise nat_eq) (pointwise_decides unsigned_Decides)
+        rest run after so_far.sorted is some prefix;
     passed = passed ++ run;
     split = parted ∙ sym (append_assoc passed run after);
-    differ = still_differ rest run after so_far.sorted is some prefix passed so_far.differ no_opener;
+    differ = still_differ stack_of stack_total stack_same (pointwise nat_eq) (pointwise_decides unsigned_Decides)
+        rest run after so_far.sorted is some prefix passed so_far.differ no_opener;
     are = are;
   }
 
   -- the site of a run with enough handles is one of the sites
   pub run_added : (site : Site) → IsSiteOfRun run site → least ≤ length run → HavePassed openers after least (sites ++ site ∷ [])
   run_added site of many =
-      passed_with (sites ++ site ∷ []) (
-      site_added openers passed run after parted (get_or run 0 no_opener).0 some
-      (before_differs rest run after so_far.sorted is some prefix passed so_far.differ no_opener)
-      (run_same rest run after so_far.sorted is some prefix no_opener) (after_differs rest run after so_far.sorted is some prefix no_opener)
-      least sites so_far.are site of (of.first no_opener) many)
+      passed_with (sites ++ site ∷ [])
+      (site_added openers passed run after parted stack some before within behind least sites so_far.are site of (of.first no_opener) many)
 
   -- and one with fewer gives none
   pub run_left_out : length run < least → HavePassed openers after least sites
   run_left_out few =
-      passed_with sites (
-      site_left_out openers passed run after parted (get_or run 0 no_opener).0 some
-      (before_differs rest run after so_far.sorted is some prefix passed so_far.differ no_opener)
-      (run_same rest run after so_far.sorted is some prefix no_opener) (after_differs rest run after so_far.sorted is some prefix no_opener)
-      least sites so_far.are few)
+      passed_with sites (site_left_out openers passed run after parted stack some before within behind least sites so_far.are few)
+
+-- an opener that doesn't come before another has no lower stack
+no_lower : (x y : Opener) → is_lt (opener_cmp x y) ≡ false → is_lt (stack_cmp x.0 y.0) ≡ false
+no_lower x y = by (stack_cmp x.0 y.0)
+  where
+    by : (r : Ordering) → is_lt (ordering_then r (nat_cmp x.1 y.1)) ≡ false → is_lt r ≡ false
+    by Less e = e
+    by Equal e = refl
+    by Greater e = refl
 
 -- before the first run there are no sites
 pub none_passed : (openers : List Opener) (least : ℕ) → IsSorted opener_cmp openers → HavePassed openers openers least []
 none_passed openers least sorted = record {
-  sorted = sorted;
+  sorted = λ k d low high. no_lower (get_or openers (k + 1) d) (get_or openers k d) (sorted k d low high);
   passed = [];
   split = refl;
   differ = λ x y h. absurd (Contains-nil x h);

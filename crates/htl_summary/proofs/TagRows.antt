@@ -1,13 +1,11 @@
 -- The balances of tags that are made of the sums of slots are those of the definition.
-use Rattle.std.proofs.Common.{◌≡◌, ℕ, zero, suc, ◌+◌, ◌<◌, ◌≤◌, ◌^◌, Bool, true, false, not, cond, ◌==◌, List, length, Option, Some}
+use Rattle.std.proofs.Common.{◌≡◌, ◌≢◌, map, ℕ, zero, suc, ◌+◌, ◌<◌, ◌≤◌, ◌^◌, Bool, true, false, not, cond, ◌==◌, List, length, Option, Some}
 use Rattle.std.proofs.Common.{refl, sym, ap, subst, ◌∙◌, arith, nat_eq, inl, inr}
 use Rattle.std.specs.Prelude.{Contains, ◌↔◌}
 use Rattle.std.specs.List.{sum_by, filter_map}
-use Rattle.std.specs.Ordering.{nat_cmp, is_eq}
+use Rattle.std.specs.Ordering.{is_eq}
 use Rattle.std.specs.Cmp.{unsigned_Decides}
-use Rattle.std.specs.Cmp.Lexicographic.{pointwise, pointwise_decides, slice_cmp, texts_ties}
-use Rattle.std.specs.declared.cmp.Ordering.{Ordering}
-use Rattle.std.specs.declared.cmp.Ordering.TheVariants.{Equal}
+use Rattle.std.specs.Cmp.Lexicographic.{pointwise, pointwise_decides, texts_ties}
 use Rattle.std.proofs.lemmas.Bool.{cases_lt, ltb-true, lt-ltb}
 use Rattle.std.proofs.lemmas.Bool.Decides.{same_from_decides}
 use Rattle.std.proofs.lemmas.Cmp.{nat_list_cmp_total}
@@ -23,11 +21,12 @@ use Rattle.htl_event.specs.Balances.{Balance, references_where, has_tag, HaveObj
 use Rattle.htl_answers.specs.Sums.{ListsSlotSums}
 use Rattle.htl_answers.proofs.FilterMaps.{Contains-from_filter_map}
 use Rattle.htl_answers.proofs.OpenLemmas.{rising-filter}
+use Rattle.htl_answers.proofs.Opens.{IsRising-map}
 use Rattle.htl_answers.proofs.NumberSums.{amount, sum_same, sum_upto, sum_filter_map}
 use Rattle.htl_summary.specs.ObjectTags.{one_if_unbalanced}
-use Rattle.htl_summary.specs.Balancing.{tag_balance, listed, shows, at_key, ByKey, Fit, AreAdded}
+use Rattle.htl_summary.specs.Balancing.{tag_cmp, tag_same, tag_balance, listed, shows, at_key, ByKey, Fit, AreAdded}
 use Rattle.htl_summary.proofs.Fitting.{one_at_most}
-use Rattle.htl_summary.proofs.BalanceKeys.{once, found}
+use Rattle.htl_summary.proofs.BalanceKeys.{apart, once, found}
 use Rattle.htl_summary.proofs.TagSums.{of_tag, refs_are, derefs_are, objects, objects_are, number_of_objects}
 
 abbrev Sum : Type 0
@@ -68,17 +67,10 @@ row_positive (Bad p h) count row e some = absurd cc
 
 -- ---- numbers of a tag
 
-abbrev pub tag_cmp : List ℕ → List ℕ → Ordering
-tag_cmp = slice_cmp nat_cmp
-
 tags_tied : (tag its : List ℕ) → is_eq (tag_cmp tag its) ≡ pointwise nat_eq its tag
 tags_tied tag its =
     sym (texts_ties tag its) ∙ same_from_decides (pointwise nat_eq tag its) (pointwise nat_eq its tag) (pointwise_decides unsigned_Decides tag its)
     ((λ e. sym ((pointwise_decides unsigned_Decides its tag).0 e)), λ e. (pointwise_decides unsigned_Decides its tag).1 (sym e))
-
--- tags that tie are equal
-pub tag_same : (x y : List ℕ) → tag_cmp x y ≡ Equal → x ≡ y
-tag_same x y e = (pointwise_decides unsigned_Decides x y).0 (texts_ties x y ∙ ap is_eq e)
 
 module _ (number : Balance → ℕ) (own : Count → ℕ)
     (is : (object : ℕ) (tag : List ℕ) (count : Count) → number (record { by = tag; count = count; objects = one_if_unbalanced count }) ≡ own count) where
@@ -215,6 +207,13 @@ module _ (events : List Event) (sums : List Sum) (rows : List Balance) (counted 
   }
 
 -- rows that are listed rise, where all do
-pub rising_listed : (all : Bool) (rows : List Balance) → IsRising (ByKey tag_cmp) rows → IsRising (ByKey tag_cmp) (listed all rows)
+rising_listed : (all : Bool) (rows : List Balance) → IsRising (ByKey tag_cmp) rows → IsRising (ByKey tag_cmp) (listed all rows)
 rising_listed true rows rising = rising
 rising_listed false rows rising = rising-filter (ByKey tag_cmp) shows rows rising
+
+-- and their tags differ
+pub tags_differ : (all : Bool) (rows : List Balance) → IsRising (ByKey tag_cmp) rows
+    → IsRising (λ s t. s ≢ t) (map (λ (row : Balance). row.by) (listed all rows))
+tags_differ all rows rising =
+    IsRising-map (ByKey tag_cmp) (λ s t. s ≢ t) (λ (row : Balance). row.by) (λ x y less. apart nat_list_cmp_total tag_same x.by y.by less)
+    (listed all rows) (rising_listed all rows rising)

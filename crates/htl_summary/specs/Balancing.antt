@@ -2,10 +2,12 @@
 use Rattle.std.specs.Prelude.{◌≡◌, ℕ, ◌+◌, ◌<◌, ◌^◌, nat_eq, nat_lt, Bool, true, false, List, Contains, Option, Some, None, filter}
 use Rattle.std.specs.Prelude.{if◌then◌else◌}
 use Rattle.std.specs.List.{sum_by}
-use Rattle.std.specs.Ordering.{is_eq}
-use Rattle.std.specs.Cmp.Lexicographic.{pointwise}
+use Rattle.std.specs.Ordering.{is_eq, nat_cmp}
+use Rattle.std.specs.Cmp.{unsigned_Decides}
+use Rattle.std.specs.Cmp.Lexicographic.{pointwise, pointwise_decides, slice_cmp, texts_ties}
 use Rattle.std.specs.declared.cmp.Ordering.{Ordering}
-use Rattle.std.specs.declared.cmp.Ordering.TheVariants.{Less}
+use Rattle.std.specs.declared.cmp.Ordering.TheVariants.{Less, Equal}
+use Rattle.std.proofs.Common.{ap, ◌∙◌}
 use Rattle.htl_event.specs.declared.balance.Balance.{Balance}
 use Rattle.htl_event.specs.Events.{Event}
 use Rattle.htl_event.specs.declared.slot.Count.{Count}
@@ -15,6 +17,15 @@ use Rattle.htl_event.specs.Members.{IsRising, Lists}
 use Rattle.htl_event.specs.Tallies.{plus_count, total_of, tally, IsPositive}
 use Rattle.htl_tree.specs.Trees.{ByStackAndSlot}
 use Rattle.htl_summary.specs.ObjectTags.{one_if_unbalanced}
+
+-- ---- tags
+
+abbrev pub tag_cmp : List ℕ → List ℕ → Ordering
+tag_cmp = slice_cmp nat_cmp
+
+-- tags that tie are equal
+pub tag_same : (x y : List ℕ) → tag_cmp x y ≡ Equal → x ≡ y
+tag_same x y e = (pointwise_decides unsigned_Decides x y).0 (texts_ties x y ∙ ap is_eq e)
 
 -- ---- balances of slots
 

@@ -8,4 +8,5 @@ pub mod Usages
 pub mod ObjectTags
 pub mod Rows
 pub mod Openers
+pub mod Ranking
 pub mod Balancing

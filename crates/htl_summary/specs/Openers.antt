@@ -1,7 +1,7 @@
 -- What the sites are made of: the stack and the process of each open handle.
 use Rattle.std.specs.Prelude.{◌≡◌, ◌≢◌, ℕ, ◌<◌, ◌≤◌, max, Bool, nat_eq, List, ◌++◌}
 use Rattle.std.specs.Prelude.{Contains, Option, Some, None, length, get_or, map, count_by}
-use Rattle.std.specs.List.Sorted.{IsSorted}
+use Rattle.std.specs.List.Sorted.{IsSortedByKey}
 use Rattle.std.specs.Ordering.{nat_cmp, ordering_then}
 use Rattle.std.specs.Cmp.Lexicographic.{pointwise}
 use Rattle.std.specs.declared.cmp.Ordering.{Ordering}
@@ -17,6 +17,9 @@ use Rattle.htl_answers.specs.Open.{is_opened_after}
 -- the stack that opened a handle, and the process that has it
 abbrev pub Opener : Type 0
 Opener = List ℕ × ℕ
+
+abbrev pub stack_of : Opener → List ℕ
+stack_of opener = opener.0
 
 abbrev pub opener_of : Event → Opener
 opener_of e = (e.stack, e.process)
@@ -68,14 +71,10 @@ pub record AreSitesOf (openers some : List Opener) (at_least : ℕ) (sites : Lis
   pub all : (opener : Opener) → Contains some opener → at_least ≤ count_by (is_of_stack opener.0) openers
       → (site : Site) × Contains sites site × (site.stack ≡ opener.0)
 
--- the sites are those of the openers before the rest, of which each has another stack than any in the rest, which is sorted
+-- the sites are those of the openers before the rest, of which each has another stack than any in the rest, which is sorted by stack
 pub record HavePassed (openers rest : List Opener) (at_least : ℕ) (sites : List Site) : Type 0 where
-  pub sorted : IsSorted opener_cmp rest
+  pub sorted : IsSortedByKey stack_of stack_cmp rest
   pub passed : List Opener
   pub split : openers ≡ passed ++ rest
   pub differ : (x y : Opener) → Contains passed x → Contains rest y → x.0 ≢ y.0
   pub are : AreSitesOf openers passed at_least sites
-
--- the most handles first, and then by stack
-abbrev pub site_cmp : Site → Site → Ordering
-site_cmp a b = ordering_then (nat_cmp b.handles a.handles) (stack_cmp a.stack b.stack)

@@ -1,27 +1,24 @@
 //! The balances of tags over all objects.
 
-ghost use Rattle.std.specs.Prelude.{◌≡◌, ◌<◌, ◌^◌, ◌↔◌, ℕ, List, Contains, filter};
-ghost use Rattle.std.specs.Prelude.{map, IfOk};
+ghost use Rattle.std.specs.Prelude.{◌≡◌, ◌<◌, ◌^◌, List, Contains, map, IfOk};
 ghost use Rattle.std.specs.List.{filter_map, sum_by};
-ghost use Rattle.std.specs.Cmp.Lexicographic.{slice_cmp};
-ghost use Rattle.std.specs.Ordering.{nat_cmp};
 ghost use Rattle.htl_event.specs.Events.{Event};
 ghost use Rattle.htl_event.specs.declared.slot.Slot.{Slot};
 ghost use Rattle.htl_event.specs.declared.slot.Count.{Count};
 ghost use Rattle.htl_event.specs.Tallies.{total_of, IsPositive};
-ghost use Rattle.htl_event.specs.Members.{IsRising};
 ghost use Rattle.htl_event.specs.Summaries.{IsNumberOfObjects};
 ghost use Rattle.htl_answers.specs.Parts.{AreEventsOf, size_of_all};
 ghost use Rattle.htl_answers.specs.Sums.{ListsSlotSums};
 ghost use Rattle.htl_event.specs.declared.balance.Balance.{Balance};
-ghost use Rattle.htl_event.specs.Balances.{AreBalances, MostObjectsFirst};
-ghost use Rattle.htl_summary.specs.Balancing.{tag_balance, listed, shows, ByKey};
+ghost use Rattle.htl_event.specs.Balances.{AreBalances};
+ghost use Rattle.htl_summary.specs.Balancing.{tag_balance, listed};
 
 use crate::adding::add_up;
 use crate::by_object::balances_of_slots;
+use crate::ranking::{Ranked, keep_counted, put_most_first};
 use htl_answers::{Part, slot_sums};
 use htl_event::{Balance, Count, NoMemory, Slot};
-use std::alloc::Global;
+use std::alloc::{AllocError, Global};
 
 /// The balances of tags over all objects.
 #[derive(Drop)]
@@ -63,22 +60,18 @@ fn tags_of_slots(
     let mut rows = each_balance(alloc, sums)?;
     add_up(&mut rows);
     keep_listed(&mut rows, all);
-    put_in_order(&mut rows);
+    put_most_first(&mut rows);
     Ok(rows)
 }
 
 /// The balance of each tag of each object.
-fn each_balance(alloc: Global, sums: &[(Slot, Count)]) -> Result<Vec<Balance<[u8; 4]>>, NoMemory>
+fn each_balance(alloc: Global, sums: &[(Slot, Count)]) -> Result<Vec<Balance<[u8; 4]>>, AllocError>
     ensures { IfOk result (λ rows. rows.items
         ≡ filter_map (λ (sum : Slot × Count). tag_balance sum.0 sum.1) sums.now) }
 {
-    let mut rows = Vec::new(alloc);
-    for (slot, count) in sums {
-        if let Some(row) = tag_balance(*slot, *count) {
-            rows.push(row)?;
-        }
-    }
-    Ok(rows)
+    sums.iter()
+        .filter_map(|(slot, count)| tag_balance(*slot, *count))
+        .collect(alloc)
 }
 
 /// The balance of the slot's tag, if it has one.
@@ -100,25 +93,26 @@ fn keep_listed(rows: &mut Vec<Balance<[u8; 4]>>, all: bool)
     ensures { rows.new.items ≡ listed all rows.old.items }
 {
     if !all {
-        keep_unbalanced(rows);
+        keep_counted(rows);
     }
 }
 
-/// Keeps the rows of tags that don't balance on some object.
-fn keep_unbalanced(rows: &mut Vec<Balance<[u8; 4]>>)
-    ensures { rows.new.items ≡ filter shows rows.old.items }
-{
-    rows.retain(|row| row.objects > 0);
-}
+impl Ranked for Balance<[u8; 4]> {
+    ghost use Rattle.htl_summary.specs.Balancing.{tag_same};
 
-/// Puts rows of different tags in order.
-fn put_in_order(rows: &mut Vec<Balance<[u8; 4]>>)
-    requires { IsRising (ByKey (slice_cmp nat_cmp)) rows.old.items }
-    ensures rising { IsRising MostObjectsFirst rows.new.items }
-    ensures members { (row : Balance (List ℕ))
-        → Contains rows.new.items row ↔ Contains rows.old.items row }
-{
-    rows.sort_unstable_by(|one, other| {
-        other.objects.cmp(&one.objects).then(one.by.cmp(&other.by))
-    });
+    type Key = [u8; 4];
+
+    ghost number_of = { λ row. row.objects };
+
+    ghost key_of = { λ row. row.by };
+
+    ghost proper = { tag_same };
+
+    fn number(&self) -> u64 {
+        self.objects
+    }
+
+    fn key(&self) -> &[u8; 4] {
+        &self.by
+    }
 }

@@ -1,22 +1,21 @@
 //! Objects, and whether their references balance.
 
-ghost use Rattle.std.specs.Prelude.{◌≡◌, ◌<◌, ◌^◌, ◌↔◌, List, Contains, filter};
-ghost use Rattle.std.specs.Prelude.{length, map, nat_eq, nat_lt, IfOk};
-ghost use Rattle.std.specs.List.{IsDistinct, sum_by};
+ghost use Rattle.std.specs.Prelude.{◌≡◌, ◌<◌, ◌^◌, List, Contains};
+ghost use Rattle.std.specs.Prelude.{length, map, IfOk};
+ghost use Rattle.std.specs.List.{sum_by};
 ghost use Rattle.htl_event.specs.Events.{Event};
 ghost use Rattle.htl_event.specs.declared.slot.Slot.{Slot};
 ghost use Rattle.htl_event.specs.declared.slot.Count.{Count};
 ghost use Rattle.htl_event.specs.Tallies.{total_of, IsPositive};
-ghost use Rattle.htl_event.specs.Members.{IsRising};
-ghost use Rattle.htl_event.specs.Summaries.{IsUnbalanced, IsNumberOfObjects, MostUnbalancedFirst};
+ghost use Rattle.htl_event.specs.Summaries.{IsUnbalanced, IsNumberOfObjects};
 ghost use Rattle.htl_answers.specs.Parts.{AreEventsOf, size_of_all};
 ghost use Rattle.htl_answers.specs.Sums.{ListsSlotSums};
 
+use crate::ranking::{Ranked, keep_counted, put_most_first};
 use crate::rows::rows_by_owner;
 use htl_answers::{Part, slot_sums};
 use htl_event::{Count, NoMemory, ObjectRow, Slot};
 use std::alloc::Global;
-use std::cmp::Reverse;
 
 /// The objects of a summary.
 #[derive(Drop)]
@@ -53,8 +52,8 @@ pub(crate) fn balances_of_slots(alloc: Global, sums: &[(Slot, Count)]) -> Result
 {
     let mut rows = rows_by_owner::<ObjectRow>(alloc, sums)?;
     let number = number_of(&rows);
-    keep_unbalanced(&mut rows);
-    put_in_order(&mut rows);
+    keep_counted(&mut rows);
+    put_most_first(&mut rows);
     Ok(Objects {
         number,
         unbalanced: rows,
@@ -67,20 +66,22 @@ fn number_of(rows: &[ObjectRow]) -> u64
     rows.len() as u64
 }
 
-/// Keeps the rows of objects with an unbalanced tag.
-fn keep_unbalanced(rows: &mut Vec<ObjectRow>)
-    ensures { rows.new.items
-        ≡ filter (λ (row : ObjectRow). nat_lt 0 row.unbalanced) rows.old.items }
-{
-    rows.retain(|row| row.unbalanced > 0);
-}
+impl Ranked for ObjectRow {
+    ghost use Rattle.std.specs.FinMap.{nat_cmp-IsAntisymmetric};
 
-/// Puts rows of different objects in order.
-fn put_in_order(rows: &mut Vec<ObjectRow>)
-    requires { IsDistinct nat_eq (map (λ (row : ObjectRow). row.object) rows.old.items) }
-    ensures rising { IsRising MostUnbalancedFirst rows.new.items }
-    ensures members { (row : ObjectRow)
-        → Contains rows.new.items row ↔ Contains rows.old.items row }
-{
-    rows.sort_unstable_by_key(|row| (Reverse(row.unbalanced), row.object));
+    type Key = u64;
+
+    ghost number_of = { λ row. row.unbalanced };
+
+    ghost key_of = { λ row. row.object };
+
+    ghost proper = { nat_cmp-IsAntisymmetric };
+
+    fn number(&self) -> u64 {
+        self.unbalanced
+    }
+
+    fn key(&self) -> &u64 {
+        &self.object
+    }
 }

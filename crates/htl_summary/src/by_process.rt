@@ -1,16 +1,15 @@
 //! Processes, and what they did with handles.
 
-ghost use Rattle.std.specs.Prelude.{◌≡◌, ◌<◌, ◌^◌, ◌↔◌, List, Contains};
-ghost use Rattle.std.specs.Prelude.{filter, length, map, nat_eq, IfOk};
-ghost use Rattle.std.specs.List.{IsDistinct, sum_by};
+ghost use Rattle.std.specs.Prelude.{◌≡◌, ◌<◌, ◌^◌, List};
+ghost use Rattle.std.specs.Prelude.{filter, length, map, IfOk};
+ghost use Rattle.std.specs.List.{sum_by};
 ghost use Rattle.std.specs.Ordering.{nat_cmp};
 ghost use Rattle.htl_event.specs.Events.{Event};
 ghost use Rattle.htl_event.specs.declared.slot.Slot.{Slot};
 ghost use Rattle.htl_event.specs.declared.slot.Count.{Count};
 ghost use Rattle.htl_event.specs.Tallies.{total_of};
-ghost use Rattle.htl_event.specs.Members.{IsRising};
 ghost use Rattle.htl_event.specs.Handles.{HaveOwnSequences};
-ghost use Rattle.htl_event.specs.Summaries.{IsProcesses, MostOutstandingFirst};
+ghost use Rattle.htl_event.specs.Summaries.{IsProcesses};
 ghost use Rattle.htl_answers.specs.Parts.{AreEventsOf, AreTablesOf, size_of_all};
 ghost use Rattle.htl_answers.specs.Open.{is_opened_after};
 ghost use Rattle.htl_answers.specs.Sums.{ListsSlotSums};
@@ -19,13 +18,13 @@ ghost use Rattle.htl_summary.specs.Counted.{AreUsages};
 ghost use Rattle.htl_summary.specs.Totals.{by_owner};
 ghost use Rattle.htl_summary.specs.Rows.{IsRowOf, AreRowsOf};
 
+use crate::ranking::{Ranked, put_most_first};
 use crate::rows::rows_by_owner;
 use crate::tables::{Tables, tables_of};
 use crate::usage::Usage;
 use htl_answers::{Part, slot_sums};
 use htl_event::{Count, Kind, NoMemory, ProcessRow, SharedEvent, Slot};
 use std::alloc::{Allocator, Global};
-use std::cmp::Reverse;
 
 /// Each process with an open, a close or a bad reference, the most outstanding handles first and
 /// then by process. The tables of all parts are joined under `table_alloc`.
@@ -66,7 +65,7 @@ pub(crate) fn processes_of<A: Allocator>(
         → HaveOwnSequences events → IsProcesses events rows.items) }
 {
     let mut rows = process_rows(alloc, used, tables)?;
-    put_in_order(&mut rows);
+    put_most_first(&mut rows);
     Ok(rows)
 }
 
@@ -122,12 +121,22 @@ fn opened_after(latest: &[SharedEvent], moment: u64) -> u64
     opens
 }
 
-/// Puts rows of different processes in order.
-fn put_in_order(rows: &mut Vec<ProcessRow>)
-    requires { IsDistinct nat_eq (map (λ (row : ProcessRow). row.process) rows.old.items) }
-    ensures rising { IsRising MostOutstandingFirst rows.new.items }
-    ensures members { (row : ProcessRow)
-        → Contains rows.new.items row ↔ Contains rows.old.items row }
-{
-    rows.sort_unstable_by_key(|row| (Reverse(row.outstanding), row.process));
+impl Ranked for ProcessRow {
+    ghost use Rattle.std.specs.FinMap.{nat_cmp-IsAntisymmetric};
+
+    type Key = u32;
+
+    ghost number_of = { λ row. row.outstanding };
+
+    ghost key_of = { λ row. row.process };
+
+    ghost proper = { nat_cmp-IsAntisymmetric };
+
+    fn number(&self) -> u64 {
+        self.outstanding
+    }
+
+    fn key(&self) -> &u32 {
+        &self.process
+    }
 }

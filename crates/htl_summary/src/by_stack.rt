@@ -1,20 +1,19 @@
 //! The stacks that left handles open, in whatever process.
 
-ghost use Rattle.std.specs.Prelude.{◌≡◌, ◌≢◌, ◌↔◌, ◌<◌, List, Contains, IfOk, length, map};
-ghost use Rattle.std.specs.List.Sorted.{IsPermutation, IsSorted};
+ghost use Rattle.std.specs.Prelude.{◌≡◌, ◌<◌, List, Contains, IfOk, length, map};
+ghost use Rattle.std.specs.List.Sorted.{IsSorted};
 ghost use Rattle.htl_event.specs.Events.{Event};
 ghost use Rattle.htl_event.specs.Handles.{HaveOwnSequences};
-ghost use Rattle.htl_event.specs.Members.{IsRising};
-ghost use Rattle.htl_event.specs.Sites.{Site as SiteValue, IsSites, MostHandlesFirst};
+ghost use Rattle.htl_event.specs.Sites.{IsSites};
 ghost use Rattle.htl_answers.specs.Parts.{AreEventsOf, AreTablesOf};
 ghost use Rattle.htl_summary.specs.Openers.{AreOpenersOf, opener_cmp, is_counted_open, start_of};
-ghost use Rattle.htl_summary.specs.Openers.{HaveOwners, IsSiteOfRun, AreSitesOf, site_cmp};
+ghost use Rattle.htl_summary.specs.Openers.{HaveOwners, IsSiteOfRun, AreSitesOf};
 
+use crate::ranking::{Ranked, put_most_first};
 use crate::tables::{Tables, tables_of};
 use htl_answers::{Part, put_in_order};
 use htl_event::{Kind, NoMemory, SharedEvent, SharedStack, Since, Site};
-use std::alloc::{Allocator, Global};
-use std::cmp::Ordering;
+use std::alloc::{AllocError, Allocator, Global};
 
 /// The stacks that opened handles which are still open, in whatever process: for each the number of
 /// these handles and of the processes that have them, the most handles first and then in stack
@@ -124,33 +123,28 @@ fn number_of_processes(alloc: Global, run: &[(SharedStack, u32)]) -> Result<u64,
 }
 
 /// The processes, one for each handle.
-fn processes_of(alloc: Global, run: &[(SharedStack, u32)]) -> Result<Vec<u32>, NoMemory>
+fn processes_of(alloc: Global, run: &[(SharedStack, u32)]) -> Result<Vec<u32>, AllocError>
     ensures { IfOk result (λ processes. processes.items ≡ map (λ opener. opener.1) run.now) }
 {
-    let mut processes = Vec::with_capacity(alloc, run.len())?;
-    for (_, process) in run {
-        processes.push(*process)?;
+    run.iter().map(|opener| opener.1).collect(alloc)
+}
+
+impl Ranked for Site<SharedStack> {
+    ghost use Rattle.htl_answers.specs.RowOrder.{stack_same};
+
+    type Key = SharedStack;
+
+    ghost number_of = { λ site. site.handles };
+
+    ghost key_of = { λ site. site.stack };
+
+    ghost proper = { stack_same };
+
+    fn number(&self) -> u64 {
+        self.handles
     }
-    Ok(processes)
-}
 
-/// Puts the sites of different stacks in order.
-fn put_most_first(sites: &mut Vec<Site<SharedStack>>)
-    requires { IsRising (λ (a b : SiteValue). a.stack ≢ b.stack) sites.old.items }
-    ensures rising { IsRising MostHandlesFirst sites.new.items }
-    ensures members { (site : SiteValue)
-        → Contains sites.new.items site ↔ Contains sites.old.items site }
-{
-    sites.sort_unstable_by(|one, other| by_handles(one, other));
-}
-
-/// Compares two sites: the one with more handles comes first, and of equal numbers that with the lower
-/// stack.
-fn by_handles(one: &Site<SharedStack>, other: &Site<SharedStack>) -> Ordering
-    ensures { result ≡ site_cmp one.now other.now }
-{
-    other
-        .handles
-        .cmp(&one.handles)
-        .then(one.stack.cmp(&other.stack))
+    fn key(&self) -> &SharedStack {
+        &self.stack
+    }
 }

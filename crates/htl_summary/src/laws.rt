@@ -11,6 +11,7 @@ pub fn sites_add_up()
 
 /// Where all events are of one process, sites are its leaks, whatever the threshold, and since
 /// whenever handles count.
+#[tactic(auto, using(crate::proofs::SiteLaws::sites_are_leaks))]
 pub fn sites_of_one_process_are_its_leaks()
     ensures { (events : List Event) (process : ℕ) → SitesAreLeaks events process }
 {}

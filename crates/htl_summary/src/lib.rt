@@ -13,10 +13,10 @@
 //! about processes and about objects), `by_stack.rt` (sites), `balancing.rt` and `stacking.rt` (the
 //! balances of tags, and of the stacks of a tag), `tables.rt` (the tables of all parts), `usage.rt`
 //! and `tags.rt` (the rows of a process and of an object that a slot gives), `rows.rt` (adds these up
-//! for each owner), `adding.rt` (adds up the balances of each tag or stack), `laws.rt` and
-//! `balance_laws.rt` (what sites and balances have to do with other answers). In `proofs/`,
-//! `ProcessRows`, `ObjectRows`, `SiteRows`, `TagRows` and `StackRows` show that rows are those of the
-//! definitions.
+//! for each owner), `adding.rt` (adds up the balances of each tag or stack), `ranking.rt` (rows in
+//! order, the greatest number first), `laws.rt` and `balance_laws.rt` (what sites and balances have to
+//! do with other answers). In `proofs/`, `ProcessRows`, `ObjectRows`, `SiteRows`, `TagRows` and
+//! `StackRows` show that rows are those of the definitions.
 #![tactic(auto)]
 
 mod adding;
@@ -26,6 +26,7 @@ mod by_object;
 mod by_process;
 mod by_stack;
 pub mod laws;
+mod ranking;
 mod rows;
 mod stacking;
 mod summarizing;

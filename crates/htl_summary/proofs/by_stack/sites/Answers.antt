@@ -1,6 +1,8 @@
 -- The sites of the sorted openers, put in order, are those of the open handles.
-use Rattle.std.proofs.Common.{subst, map}
+use Rattle.std.proofs.Common.{◌≢◌, subst, map}
 use Rattle.std.specs.List.Sorted.{IsPermutation}
+use Rattle.htl_event.specs.Sites.{Site}
+use Rattle.htl_answers.proofs.Opens.{IsRising-map}
 use Rattle.htl_summary.specs.Openers.{opener_of}
 use Rattle.htl_summary.proofs.SiteRows.{sites_listed}
 use Rattle.htl_summary.proofs.by_stack.sites.Goals as goal
@@ -9,7 +11,8 @@ pub sites_of-requires : goal.sites_of-requires
 sites_of-requires g c = rw c.deref.ensures.value c.sort_unstable.ensures.sorted
 
 pub put_most_first-requires : goal.put_most_first-requires
-put_most_first-requires g c = c.in_ok-sites.ensures.apart
+put_most_first-requires g c =
+    IsRising-map (λ (a b : Site). a.stack ≢ b.stack) (λ s t. s ≢ t) (λ site. site.stack) (λ a b apart. apart) c.in_ok-sites.sites.items c.in_ok-sites.ensures.apart
 
 pub returns : goal.returns
 returns g c = λ events are own.
@@ -19,6 +22,6 @@ returns g c = λ events are own.
     record {
       handles = handles;
       are = are_open;
-      stacks = sites_listed handles openers moved c.args.at_least c.in_ok-sites.sites.items c.put_most_first.new.sites.items
+      stacks = sites_listed handles openers moved c.args.at_least c.in_ok-sites.sites.items c.put_most_first.new.rows.items
           (rw c.deref.ensures.value at c.in_ok-sites.ensures) c.put_most_first.ensures.rising c.put_most_first.ensures.members;
     }

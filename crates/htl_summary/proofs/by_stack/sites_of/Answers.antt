@@ -4,8 +4,7 @@ use Rattle.std.specs.Slice.Iter.{chunk_by_rest}
 use Rattle.std.proofs.lemmas.Fn.{always_returns_same}
 use denote.Param.Always.{mut_total}
 use Rattle.htl_summary.specs.Openers.{HavePassed}
-use Rattle.htl_summary.proofs.Runs.{same_stack}
-use Rattle.htl_summary.proofs.SiteRows.{none_passed, run_added, run_left_out, all_passed}
+use Rattle.htl_summary.proofs.SiteRows.{none_passed, same_stack, run_added, run_left_out, all_passed}
 use Rattle.htl_summary.proofs.by_stack.sites_of.Goals as goal
 
 pub loop-run-init : goal.loop-run-init

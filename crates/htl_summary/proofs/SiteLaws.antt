@@ -1,42 +1,137 @@
--- The handles of all sites are the outstanding handles of all processes.
-use Rattle.std.proofs.Common.{◌≡◌, ◌≢◌, ℕ, ◌<◌, Bool, true, false, cond, List, [], ◌∷◌, length, None}
+-- The laws of sites: of one process they are its leaks, and their handles are the outstanding handles of all processes.
+use Rattle.std.proofs.Common.{◌≡◌, ℕ, ◌<◌, ◌≤◌, Bool, true, List, [], ◌∷◌, length, map, Option, Some, None}
 use Rattle.std.proofs.Common.{refl, sym, ap, subst, ◌∙◌, arith, inl, inr, ◌⊎◌, ◌&&◌}
 use Rattle.std.specs.Prelude.{Contains, ◌==◌, count_by, filter}
 use Rattle.std.specs.List.{sum_by}
 use Rattle.std.specs.Cmp.{unsigned_Decides}
 use Rattle.std.specs.Cmp.Lexicographic.{pointwise_decides}
-use Rattle.std.proofs.lemmas.Bool.{cases_lt, cases_eq, eqb-true, eq-eqb, and_from, both_ways}
+use Rattle.std.proofs.lemmas.Bool.{cases_lt, cases_eq, eqb-true, eq-eqb, and_from}
+use Rattle.std.proofs.lemmas.Bool.Decides.{nat_tests}
 use Rattle.std.proofs.lemmas.List.Sums.{length-filter}
 use Rattle.htl_event.specs.Events.{Event}
 use Rattle.htl_event.specs.Members.{IsRising, Lists}
-use Rattle.htl_event.specs.Handles.{ByBase, IsOpen}
-use Rattle.htl_event.specs.Tallies.{has_stack}
+use Rattle.htl_event.specs.Handles.{ByBase, IsOpen, IsMark}
+use Rattle.htl_event.specs.Tallies.{has_stack, MostFirst, AreOpenSince, IsLeaksSince}
 use Rattle.htl_event.specs.Summaries.{is_open, is_close, is_bad, how_many, HasOutstanding, MostOutstandingFirst, IsProcesses}
-use Rattle.htl_event.specs.Sites.{Site, ByProcessAndBase, HasHandle, MostHandlesFirst, IsSites}
+use Rattle.htl_event.specs.Sites.{Site, ByProcessAndBase, AreOpenAnywhere, HasHandle, HaveProcesses, MostHandlesFirst, IsSites}
+use Rattle.htl_event.specs.declared.since.Since.{Since}
+use Rattle.htl_event.specs.declared.since.Since.TheVariants.{Snapshot, Sequence}
 use Rattle.htl_event.specs.declared.summary.ProcessRow.{ProcessRow}
-use Rattle.htl_event.proofs.Members.{Contains-here, Contains-there, Contains-nil, Contains-cases}
+use Rattle.htl_event.proofs.Members.{Contains-nil, Contains-cases, Contains-cons, Contains-map, Contains-from_map}
 use Rattle.htl_event.proofs.Members.{Contains-filter, Contains-from_filter}
 use Rattle.htl_event.proofs.Orders.{lower-strict, MostHandlesFirst-strict}
 use Rattle.htl_event.proofs.Summarized.{MostOutstandingFirst-strict}
 use Rattle.htl_event.proofs.ComputedHandles.{mark_of, IsMark-mark_of, last_exit_of, IsLastExit-last_exit_of}
 use Rattle.htl_event.proofs.ComputedSites.{IsSite-unique}
-use Rattle.htl_event.proofs.Determined.{outstanding_same}
-use Rattle.htl_answers.proofs.NumberSums.{sum_same, sum_swap}
+use Rattle.htl_event.proofs.Determined.{IsGreatestSequence-unique, outstanding_same}
+use Rattle.htl_answers.proofs.NumberSums.{sum_same}
 use Rattle.htl_answers.proofs.OpenLemmas.{rising-filter}
-use Rattle.htl_summary.proofs.Counting.{count_all, count_one, positive_somewhere}
+use Rattle.htl_answers.proofs.Opens.{IsRising-map}
+use Rattle.htl_summary.proofs.Counting.{count_one, exists_one, positive_somewhere, sum_of_keys}
 use Rattle.htl_summary.proofs.ProcessRows.{one_row}
-use Rattle.htl_summary.proofs.OneProcess.{rising_members, base_order}
-use Rattle.htl_summary.proofs.Placed.{placed}
-use Rattle.htl_summary.specs.SiteLaws.{SitesAddUp}
+use Rattle.htl_summary.proofs.Placed.{in_order, rising_members}
+use Rattle.htl_summary.specs.SiteLaws.{IsMoment, row_of_leaks, SitesAddUp, SitesAreLeaks}
 
--- where each element has one of the keys, the sum of how many have each key is their number
-sum_of_keys : {K X : Type 0} (has : K → X → Bool) (ks : List K) (xs : List X)
-    → ((x : X) → Contains xs x → count_by (λ k. has k x) ks ≡ 1) → sum_by (λ k. count_by (has k) xs) ks ≡ length xs
-sum_of_keys has ks xs one =
-    sum_swap (λ k x. cond (has k x) 1 0) ks xs ∙ sum_same (λ x. count_by (λ k. has k x) ks) (λ x. cond true 1 0) xs one
-    ∙ count_all (λ x. true) xs (λ x h. refl)
+-- ---- one process
 
--- ---- numbers in order, each once
+-- of one process, what comes first has the lower base handle
+base_order : (a b : Event) → ByProcessAndBase a b → a.process ≡ b.process → ByBase a b
+base_order a b order owner =
+    let order' = order in
+    let owner' = owner in
+    grind (arith, nat_tests)
+
+module _ (events : List Event) (process : ℕ) (own : (e : Event) → Contains events e → e.process ≡ process) where
+  its : (e : Event) → IsOpen (Contains events) e.process e → e.process ≡ process
+  its e o = own e o.latest.here
+
+  here : (e : Event) → IsOpen (Contains events) e.process e → IsOpen (Contains events) process e
+  here e o = subst (λ p. IsOpen (Contains events) p e) (its e o) o
+
+  there : (e : Event) → IsOpen (Contains events) process e → IsOpen (Contains events) e.process e
+  there e o = subst (λ p. IsOpen (Contains events) p e) (sym o.latest.of_handle.owner) o
+
+  owner_of : (since : Option Since) (handles : List Event) → AreOpenAnywhere (Contains events) since handles → (e : Event)
+      → Contains handles e → e.process ≡ process
+  owner_of since handles are e h = its e ((are.members e).0 h).0
+
+  by_base : (since : Option Since) (handles : List Event) → AreOpenAnywhere (Contains events) since handles → IsRising ByBase handles
+  by_base since handles are = rising_members ByProcessAndBase ByBase handles
+      (λ x y in_x in_y before. base_order x y before (owner_of since handles are x in_x ∙ sym (owner_of since handles are y in_y))) are.rising
+
+  -- the open handles of all processes are those of the one
+  handles_are : (since : Option Since) (moment : Option ℕ) → IsMoment (Contains events) process since moment → (handles : List Event)
+      → AreOpenAnywhere (Contains events) since handles → AreOpenSince (Contains events) process moment handles
+  handles_are None moment is handles are = subst (λ m. AreOpenSince (Contains events) process m handles) (sym is) (record {
+    rising = by_base None handles are;
+    members = λ e. (λ h. here e ((are.members e).0 h).0, λ o. (are.members e).1 (there e o, tt));
+  })
+  handles_are (Some (Sequence n)) moment is handles are = subst (λ m. AreOpenSince (Contains events) process m handles) (sym is) (record {
+    rising = by_base (Some (Sequence n)) handles are;
+    members = λ e. (
+      λ h. let of = (are.members e).0 h in (here e of.0, of.1),
+      λ o. (are.members e).1 (there e o.0, o.1),
+    );
+  })
+  handles_are (Some Snapshot) moment (n, is, mark) handles are = subst (λ m. AreOpenSince (Contains events) process m handles) (sym is) (record {
+    rising = by_base (Some Snapshot) handles are;
+    members = λ e. (
+      λ h.
+          let of = (are.members e).0 h in
+          (here e of.0, of.1 n (subst (λ p. IsMark (Contains events) p n) (sym (its e of.0)) mark)),
+      λ o. (are.members e).1 (
+        there e o.0,
+        λ m marked.
+            let owner : e.process ≡ process = o.0.latest.of_handle.owner in
+            let same = IsGreatestSequence-unique _ m n (subst (λ p. IsMark (Contains events) p m) owner marked) mark in
+            let after = o.1 in
+            omega (arith, same, after),
+      ),
+    );
+  })
+
+  -- where all events are of one process, its sites are its leaks
+  pub sites_are_leaks : (since : Option Since) (moment : Option ℕ) (least : ℕ) (sites : List Site)
+      → IsMoment (Contains events) process since moment → IsSites (Contains events) since least sites
+      → IsLeaksSince (Contains events) process moment least (map row_of_leaks sites)
+  sites_are_leaks since moment least sites is of = record {
+    handles = of.handles;
+    are = handles_are since moment is of.handles of.are;
+    stacks = record {
+      rising = IsRising-map MostHandlesFirst MostFirst row_of_leaks (λ x y h. h) sites of.stacks.rising;
+      members = λ row. (
+        λ h.
+            let (site, listed, same) = Contains-from_map row_of_leaks sites row h in
+            let facts = (of.stacks.members site).0 listed in
+            subst (λ (r : List ℕ × ℕ). (r.1 ≡ count_by (has_stack r.0) of.handles) × ((0 < r.1) × (least ≤ r.1))) same (facts.0.opened, facts.1),
+        λ h. Contains-map row_of_leaks sites (site_of row) ((of.stacks.members (site_of row)).1
+            (record { opened = h.0; owners = one_owner row h.0 h.1.0 }, h.1)),
+      );
+    };
+  }
+    where
+      site_of : List ℕ × ℕ → Site
+      site_of row = record { stack = row.0; handles = row.1; processes = 1 }
+
+      one_owner : (row : List ℕ × ℕ) → row.1 ≡ count_by (has_stack row.0) of.handles → 0 < row.1 → HaveProcesses of.handles row.0 1
+      one_owner row number some =
+          let (e, listed, its_stack) = exists_one (has_stack row.0) of.handles (omega (arith, number, some)) in
+          let owner = owner_of since of.handles of.are in (
+            process ∷ [],
+            record {
+              rising = (tt, tt);
+              members = λ p. (
+                λ h. elim (Contains-cases process [] p h) [
+                  | inl same ↦ (e, listed, owner e listed ∙ same, (pointwise_decides unsigned_Decides e.stack row.0).0 its_stack)
+                  | inr none ↦ absurd (Contains-nil p none)
+                ],
+                λ h. Contains-cons process [] p (inl (sym (owner h.0 h.1) ∙ h.2)),
+              );
+            },
+            refl,
+          )
+
+-- ---- all processes
 
 compare : (a b : ℕ) → (a < b) ⊎ ((a ≡ b) ⊎ (b < a))
 compare a b = elim (cases_lt a b) [
@@ -46,54 +141,25 @@ compare a b = elim (cases_lt a b) [
 
 -- the processes of a stack have a number
 processes_of : (handles : List Event) (stack : List ℕ) → (processes : List ℕ) × Lists (λ p q. p < q) (HasHandle handles stack) processes
-processes_of [] stack = ([], record { rising = tt; members = λ p. (λ h. absurd (Contains-nil p h), λ h. absurd (Contains-nil h.0 h.1)) })
-processes_of (e ∷ es) stack = go (processes_of es stack) (has_stack stack e) refl
-  where
-    later : (p : ℕ) → HasHandle es stack p → HasHandle (e ∷ es) stack p
-    later p (x, here, owner, its) = (x, Contains-there e es x here, owner, its)
-
-    go : ((processes : List ℕ) × Lists (λ p q. p < q) (HasHandle es stack) processes) → (b : Bool) → has_stack stack e ≡ b
-        → (processes : List ℕ) × Lists (λ p q. p < q) (HasHandle (e ∷ es) stack) processes
-    go others true is =
-        let its : e.stack ≡ stack = (pointwise_decides unsigned_Decides e.stack stack).0 is in
-        let (ks, rising, members) = placed (λ p q. p < q) lower-strict compare e.process others.0 others.1.rising in (
-          ks,
-          record {
-            rising = rising;
-            members = λ p. (
-              λ h. elim ((members p).0 h) [
-                | inl owner ↦ (e, Contains-here e es, owner, its)
-                | inr there ↦ later p ((others.1.members p).0 there)
-              ],
-              λ h.
-                  let (x, here, owner, whose) = h in
-                  elim (Contains-cases e es x here) [
-                    | inl same ↦ (members p).1 (inl (ap (λ (y : Event). y.process) same ∙ owner))
-                    | inr there ↦ (members p).1 (inr ((others.1.members p).1 (x, there, owner, whose)))
-                  ],
-            );
-          },
-        )
-    go others false not = (
-      others.0,
+processes_of handles stack =
+    let process : Event → ℕ = λ e. e.process in
+    let own = filter (has_stack stack) handles in
+    let (processes, listed) = in_order (λ p q. p < q) lower-strict compare (map process own) in (
+      processes,
       record {
-        rising = others.1.rising;
+        rising = listed.rising;
         members = λ p. (
-          λ h. later p ((others.1.members p).0 h),
           λ h.
-              let (x, here, owner, whose) = h in
-              elim (Contains-cases e es x here) [
-                | inl same ↦ absurd (apart (ap (λ (y : Event). y.stack) same ∙ whose))
-                | inr there ↦ (others.1.members p).1 (x, there, owner, whose)
-              ],
+              let (e, its_own, owner) = Contains-from_map process own p ((listed.members p).0 h) in
+              let (here, its) = Contains-from_filter (has_stack stack) handles e its_own in
+              (e, here, owner, (pointwise_decides unsigned_Decides e.stack stack).0 its),
+          λ h.
+              let (e, here, owner, its) = h in
+              let its_own = Contains-filter (has_stack stack) handles e here ((pointwise_decides unsigned_Decides e.stack stack).1 its) in
+              (listed.members p).1 (subst (Contains (map process own)) owner (Contains-map process own e its_own)),
         );
       },
     )
-      where
-        apart : e.stack ≢ stack
-        apart is = let holds = (pointwise_decides unsigned_Decides e.stack stack).1 is in both_ways (has_stack stack e) not holds
-
--- ---- the law
 
 module _ (events : List Event) (sites : List Site) (processes : List ProcessRow) (of : IsSites (Contains events) None 1 sites)
     (are : IsProcesses events processes) where

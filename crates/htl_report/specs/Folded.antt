@@ -32,6 +32,8 @@ folded_line symbols stack handles = folded_stack symbols stack ++ folded_count h
 
 -- the leaking stacks, with no first line; the handles of a site are those of all processes, and any other answer is not folded
 abbrev pub folded_lines : List Range → Option ℕ → Option ℕ → Found → Listed → List ℕ
-folded_lines symbols until top answer (leaks rows) = flat_map (λ (row : List ℕ × ℕ). folded_line symbols row.0 row.1) (first_rows top rows)
-folded_lines symbols until top answer (sites rows) = flat_map (λ (site : Site). folded_line symbols site.stack site.handles) (first_rows top rows)
+folded_lines symbols until top answer (leaks rows) =
+    flat_map (λ (row : List ℕ × ℕ). folded_line symbols row.0 row.1) (first_rows top rows)
+folded_lines symbols until top answer (sites rows) =
+    flat_map (λ (site : Site). folded_line symbols site.stack site.handles) (first_rows top rows)
 folded_lines symbols until top answer unfolded = text_of symbols until top answer

@@ -14,7 +14,8 @@ use Rattle.htl_state.specs.declared.rows.Setting.{Setting}
 use Rattle.htl_state.specs.Rows.{Part, State}
 use Rattle.htl_state.specs.Reading.{follows, held, setting}
 use Rattle.htl_state.specs.WellFormed.{RowsFit, SegmentFits, PartFits, PartsFit, WellFormed}
-use Rattle.htl_analyst.specs.Restored.{Fold, no_fold, fold_at, AreFoldsOf, CanRestore, IsBounded, AreNew, held_segments, of_folds, with_segments, RestoreRefused}
+use Rattle.htl_analyst.specs.Restored.{Fold, no_fold, fold_at, AreFoldsOf, CanRestore, IsBounded, AreNew}
+use Rattle.htl_analyst.specs.Restored.{held_segments, of_folds, with_segments, RestoreRefused}
 use Rattle.htl_analyst.specs.declared.fault.RestoreFault.{RestoreFault}
 use Rattle.htl_analyst.specs.Laws.{IsMadeAgain, AreMadeAgain}
 use Rattle.htl_saved.specs.AnalystRows.{no_rows, rows_at}

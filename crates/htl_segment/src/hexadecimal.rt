@@ -1,5 +1,6 @@
 //! Bytes read from hexadecimal digits.
-ghost use Rattle.std.specs.Prelude.{◌≡◌, ◌<◌, ◌%◌, ℕ, true, length, position, Ok, Err, Some, None, MatchResult};
+ghost use Rattle.std.specs.Prelude.{◌≡◌, ◌<◌, ◌%◌, ℕ, true, length, position};
+ghost use Rattle.std.specs.Prelude.{Ok, Err, Some, None, MatchResult};
 ghost use Rattle.std.specs.List.{AllPass};
 ghost use Rattle.hex.specs.Hex.{decode_of, hex_digit_value, is_hex_digit, pair_value};
 ghost use Rattle.htl_segment.specs.Hexadecimal.{is_foreign, digits_of, hex_fault};

@@ -36,10 +36,6 @@ module _ {Row K X : Type 0} (key : Row → K) (value : Row → X) (R : K → K �
         both _ _ (below_chain (key row) rows (λ d lt. rise 0 d (omega (arith, lt))) (λ i d lt. rise (suc i) d (omega (arith, lt))))
         (sorted_chain rows (λ i d lt. rise (suc i) d (omega (arith, lt))))
 
-    -- of rows in order each is above the one before it
-    pub chain_sorted : (rows : List Row) → IsSorted R (entries key value rows) → RiseTo rows (length rows)
-    chain_sorted rows sorted i d lt = rising key value o rows sorted i (suc i) d (omega arith) lt
-
     -- in rows in order the row at a place is above that at the place before it
     pub above_before : (rows : List Row) (n : ℕ) (x y : Row) → IsSorted R (entries key value rows) → 0 < n → n < length rows
         → x ≡ get_or rows (n - 1) x → y ≡ get_or rows n y → R (key x) (key y) ≡ Less

@@ -12,7 +12,8 @@ sites_of-requires g c = rw c.deref.ensures.value c.sort_unstable.ensures.sorted
 
 pub put_most_first-requires : goal.put_most_first-requires
 put_most_first-requires g c =
-    IsRising-map (λ (a b : Site). a.stack ≢ b.stack) (λ s t. s ≢ t) (λ site. site.stack) (λ a b apart. apart) c.in_ok-sites.sites.items c.in_ok-sites.ensures.apart
+    IsRising-map (λ (a b : Site). a.stack ≢ b.stack) (λ s t. s ≢ t) (λ site. site.stack) (λ a b apart. apart)
+    c.in_ok-sites.sites.items c.in_ok-sites.ensures.apart
 
 pub returns : goal.returns
 returns g c = λ events are own.

@@ -6,7 +6,8 @@ use Rattle.htl_sorted.specs.Entries.{IsSorted}
 use Rattle.htl_tables.specs.Greatest.{sequences}
 use Rattle.htl_tables.proofs.Positive.{all_positive, positive_all}
 use Rattle.htl_tables.proofs.greatest.Greatest.of_rows.Goals as goal
-use Rattle.htl_tables.proofs.greatest.Greatest.of_rows.Goals.{else-are_in_order-via-then-are_in_order+else-are_positive, else-are_in_order-via-else-are_in_order}
+use Rattle.htl_tables.proofs.greatest.Greatest.of_rows.Goals.{else-are_in_order-via-then-are_in_order+else-are_positive}
+use Rattle.htl_tables.proofs.greatest.Greatest.of_rows.Goals.{else-are_in_order-via-else-are_in_order}
 
 abbrev AllAbove : List (ℕ × ℕ) → Type 0
 AllAbove rows = list_all (λ (row : ℕ × ℕ). nat_lt 0 row.1) rows ≡ true

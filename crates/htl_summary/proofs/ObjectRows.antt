@@ -271,8 +271,7 @@ module _ (events : List Event) (sums : List Sum) (rows : List ObjectRow) (listed
   are_objects = (
     map key rows,
     record {
-      rising =
-          IsRising-map (λ a b. key a < key b) (λ a b. a < b) key (λ a b lt. lt) rows (keys_rise key (λ row. row) rows ordered);
+      rising = IsRising-map (λ a b. key a < key b) (λ a b. a < b) key (λ a b lt. lt) rows (keys_rise key (λ row. row) rows ordered);
       members = λ object. (from_key object, into_key object);
     },
     sym (length-map rows key),

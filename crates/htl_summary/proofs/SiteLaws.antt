@@ -30,7 +30,7 @@ use Rattle.htl_answers.proofs.Opens.{IsRising-map}
 use Rattle.htl_summary.proofs.Counting.{count_one, exists_one, positive_somewhere, sum_of_keys}
 use Rattle.htl_summary.proofs.ProcessRows.{one_row}
 use Rattle.htl_summary.proofs.Placed.{in_order, rising_members}
-use Rattle.htl_summary.specs.SiteLaws.{IsMoment, row_of_leaks, SitesAddUp, SitesAreLeaks}
+use Rattle.htl_summary.specs.SiteLaws.{IsMoment, row_of_leaks, SitesAddUp}
 
 -- ---- one process
 

@@ -22,8 +22,8 @@ use Rattle.htl_event.specs.Handles.{HaveOwnSequences, IsOpen}
 use Rattle.htl_event.specs.declared.since.Since.{Since}
 use Rattle.htl_event.specs.declared.since.Since.TheVariants.{Snapshot, Sequence}
 use Rattle.htl_event.specs.Sites.{Site, CountsSince, ByProcessAndBase, AreOpenAnywhere, HasHandle, IsSite, MostHandlesFirst}
-use Rattle.htl_event.proofs.Members.{Contains-nil, Contains-cases, Contains-here, Contains-there, Contains-map, Contains-from_map}
-use Rattle.htl_event.proofs.Members.{Contains-filter, Contains-from_filter, all_append}
+use Rattle.htl_event.proofs.Members.{Contains-nil, Contains-cases, Contains-here, Contains-map, Contains-from_map}
+use Rattle.htl_event.proofs.Members.{Contains-filter, Contains-from_filter}
 use Rattle.htl_event.proofs.ComputedSites.{IsSite-unique}
 use Rattle.htl_event.proofs.Counts.{count_by-IsPermutation}
 use Rattle.htl_event.proofs.Determined.{IsGreatestSequence-unique}

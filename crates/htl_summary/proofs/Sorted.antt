@@ -1,5 +1,5 @@
 -- Rows that a sort by a number and a key put in order rise strictly, where their keys differ.
-use Rattle.std.proofs.Common.{◌≡◌, ◌≢◌, ℕ, suc, ◌+◌, ◌<◌, get_or, Bool, true, false, List, []}
+use Rattle.std.proofs.Common.{◌≡◌, ◌≢◌, ℕ, suc, ◌+◌, ◌<◌, get_or, Bool, false, List, []}
 use Rattle.std.proofs.Common.{◌∷◌, map, T, refl, sym, ap, subst, ◌∙◌, arith, inl, inr}
 use Rattle.std.specs.Prelude.{Contains, ◌↔◌}
 use Rattle.std.specs.List.{IsDistinct, AllByRecursion}

@@ -1,20 +1,21 @@
--- The events of a process or an object are those whose bytes say that they can be, and that are.
+-- The events of a process, an object or a handle are those whose bytes say that they can be, and that are.
 use Rattle.std.proofs.Common.{◌≡◌, ◌+◌, ◌<◌, ◌++◌, ◌∷◌, ◌∙◌, [], ℕ, zero, suc, Bool, true, false, List, Option, None, Some, ap, append_assoc, arith, get_or}
 use Rattle.std.proofs.Common.{inl, inr, length, map, refl, sym, take}
 use Rattle.std.specs.Prelude.{◌&&◌, ◌==◌, filter, nat_le}
-use Rattle.std.proofs.lemmas.Bool.{and_from, both_ways, cases_Bool, eq-eqb, eqb-true}
+use Rattle.std.proofs.lemmas.Bool.{and_from, and_parts, both_ways, cases_Bool, eq-eqb, eqb-true}
 use Rattle.std.proofs.lemmas.List.{take_more}
 use Rattle.std.proofs.lemmas.List.Elements.{filter-append}
 use Rattle.htl_event.specs.Events.{Event}
 use Rattle.htl_event.specs.Moments.{counted_events}
+use Rattle.htl_event.specs.Slots.{base_of}
 use Rattle.htl_event.proofs.Members.{filter-pass, filter-skip}
 use Rattle.htl_segment.specs.Content.{Content}
-use Rattle.htl_evidence.specs.Columns.{AreColumnsOf, HaveColumns, byte_of, is_counted, is_counted_own, is_own, number_in, object_bytes}
+use Rattle.htl_evidence.specs.Columns.{AreColumnsOf, HaveColumns, byte_of, handle_bytes, is_counted, is_counted_own, number_in, object_bytes}
 use Rattle.htl_evidence.specs.Columns.{process_bytes}
-use Rattle.htl_evidence.specs.Told.{number_of, own_events}
+use Rattle.htl_evidence.specs.Told.{is_own, number_of, own_events}
 use Rattle.htl_evidence.specs.declared.columns.Columns.{Columns}
 use Rattle.htl_evidence.specs.declared.owner.Owner.{Owner}
-use Rattle.htl_evidence.specs.declared.owner.Owner.TheVariants.{Process, Object}
+use Rattle.htl_evidence.specs.declared.owner.Owner.TheVariants.{Process, Object, Handle}
 
 -- ---- one event
 
@@ -25,12 +26,19 @@ and_false false b is = refl
 false_and : (a b : Bool) → a ≡ false → (a && b) ≡ false
 false_and a b is = rw is refl
 
--- where the bytes differ, the event isn't of the process or the object
+-- the event has the number of what it is of
+own_number : (owner : Owner) (e : Event) → is_own owner e ≡ true → number_in owner e ≡ number_of owner
+own_number (Process process) e own = eqb-true e.process process own
+own_number (Object object) e own = eqb-true e.object object own
+own_number (Handle process base) e own =
+    eqb-true (base_of e.handle) base (and_parts (e.process == process) (base_of e.handle == base) own).1
+
+-- where the bytes differ, the event isn't of the process, the object or the handle
 pub differs : (owner : Owner) (until : Option ℕ) (e : Event) (candidate byte : ℕ) → candidate ≡ byte_of (number_in owner e)
     → byte ≡ byte_of (number_of owner) → (candidate == byte) ≡ false → is_counted_own owner until e ≡ false
 differs owner until e candidate byte of is other = elim (cases_Bool (is_own owner e)) [
   | inl own ↦
-      let same : candidate ≡ byte = of ∙ ap byte_of (eqb-true (number_in owner e) (number_of owner) own) ∙ sym is in
+      let same : candidate ≡ byte = of ∙ ap byte_of (own_number owner e own) ∙ sym is in
       absurd (both_ways (candidate == byte) other (eq-eqb candidate byte same))
   | inr none ↦ and_false (is_counted until e) (is_own owner e) none
 ]
@@ -66,16 +74,11 @@ both_tests {X = X} p q (x ∷ xs) =
       | inr first ↦ filter-skip both x xs (false_and (p x) (q x) first) ∙ rest ∙ sym (ap (filter q) (filter-skip p x xs first))
     ]
 
-own_are : (owner : Owner) (es : List Event) → filter (is_own owner) es ≡ own_events (Some owner) es
-own_are (Process process) es = refl
-own_are (Object object) es = refl
-
--- the events that count and are of the process or the object
+-- the events that count and are of the process, the object or the handle
 pub counted_own_are : (owner : Owner) (until : Option ℕ) (es : List Event)
     → filter (is_counted_own owner until) es ≡ own_events (Some owner) (counted_events until es)
-counted_own_are owner None es = own_are owner es
-counted_own_are owner (Some moment) es =
-    both_tests (λ e. nat_le e.sequence moment) (is_own owner) es ∙ own_are owner (counted_events (Some moment) es)
+counted_own_are owner None es = refl
+counted_own_are owner (Some moment) es = both_tests (λ e. nat_le e.sequence moment) (is_own owner) es
 
 -- ---- the columns of all segments
 
@@ -94,4 +97,5 @@ columns_at ss all i s c have lt there here = record {
   processes =
       same_at (λ (d : Columns). d.processes.items) (λ (t : Content). process_bytes t.events) all ss i c s have.processes lt here there;
   objects = same_at (λ (d : Columns). d.objects.items) (λ (t : Content). object_bytes t.events) all ss i c s have.objects lt here there;
+  handles = same_at (λ (d : Columns). d.handles.items) (λ (t : Content). handle_bytes t.events) all ss i c s have.handles lt here there;
 }

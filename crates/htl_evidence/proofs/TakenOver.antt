@@ -8,7 +8,7 @@ use Rattle.htl_segment.specs.Rising.{IsKeyBefore}
 use Rattle.htl_segment.specs.Traces.{AreInOrder, IsBefore}
 use Rattle.htl_case.specs.Faults.{key_of}
 use Rattle.htl_case.proofs.KeyOrder.{before_before, in_order_differ, not_itself}
-use Rattle.htl_evidence.specs.Columns.{AreAmong, AreColumnsOf, HaveColumns, object_bytes, process_bytes}
+use Rattle.htl_evidence.specs.Columns.{AreAmong, AreColumnsOf, HaveColumns, handle_bytes, object_bytes, process_bytes}
 use Rattle.htl_evidence.specs.declared.columns.Columns.{Columns}
 
 -- a segment after another in order has another key
@@ -74,6 +74,11 @@ columns_more ss i s all columns lt is have of =
           ∙ ap (λ (xs : List (List ℕ)). xs ++ columns.objects.items ∷ []) have.objects
           ∙ ap (λ (x : List ℕ). map (λ (t : Content). object_bytes t.events) (take i ss) ++ x ∷ []) of.objects
           ∙ sym (map-append (λ (t : Content). object_bytes t.events) (take i ss) (s ∷ []));
+      handles =
+          map-append (λ (c : Columns). c.handles.items) all (columns ∷ [])
+          ∙ ap (λ (xs : List (List ℕ)). xs ++ columns.handles.items ∷ []) have.handles
+          ∙ ap (λ (x : List ℕ). map (λ (t : Content). handle_bytes t.events) (take i ss) ++ x ∷ []) of.handles
+          ∙ sym (map-append (λ (t : Content). handle_bytes t.events) (take i ss) (s ∷ []));
     })
 
 -- the segments that are left begin with the next one
@@ -84,7 +89,7 @@ left_from ss i s lt is = drop_more ss i s lt ∙ ap (λ (x : Content). x ∷ dro
 
 -- the first columns are those of the first segment
 first_columns : (s : Content) (ss : List Content) (c : Columns) (cs : List Columns) → HaveColumns (s ∷ ss) (c ∷ cs) → AreColumnsOf s.events c
-first_columns s ss c cs have = record { processes = cc have.processes; objects = cc have.objects }
+first_columns s ss c cs have = record { processes = cc have.processes; objects = cc have.objects; handles = cc have.handles }
 
 module _ (earlier ss : List Content) (s : Content) (is : earlier ≡ s ∷ ss) (t : Content) (ts : List Content) (among : AreAmong earlier (t ∷ ts)) where
   -- its columns are those of the next one, where they have one key

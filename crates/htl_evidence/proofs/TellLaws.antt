@@ -2,16 +2,19 @@
 use Rattle.std.proofs.Common.{◌≡◌, ◌∙◌, ◌<◌, ℕ, Bool, true, false, cond, List, [], ◌∷◌, Option, None, Some, length, refl, sym, ap, subst, inl}
 use Rattle.std.proofs.Common.{IsPermutation, arith, inr, map}
 use mathlib.Core.List.{map-id}
-use Rattle.std.specs.Prelude.{Contains, ◌↔◌, count_by}
+use Rattle.std.specs.Prelude.{Contains, ◌↔◌, ◌==◌, count_by, filter}
+use Rattle.std.proofs.lemmas.Bool.{and_from, eq-eqb}
 use Rattle.std.proofs.lemmas.List.{append-nil}
 use Rattle.std.proofs.lemmas.List.Sorted.{IsPermutation-refl}
 use Rattle.std.proofs.lemmas.List.Sums.{sum_by-cons}
 use Rattle.htl_event.specs.Events.{Event}
-use Rattle.htl_event.specs.Handles.{HaveOwnSequences, IsGreatestSequence}
-use Rattle.htl_event.specs.Interests.{wanted, wants}
+use Rattle.htl_event.specs.Handles.{HaveOwnSequences, IsGreatestSequence, IsListing, IsOfHandle}
+use Rattle.htl_event.specs.Interests.{wanted}
 use Rattle.htl_event.specs.Moments.{counted_events}
+use Rattle.htl_event.specs.Slots.{base_of}
+use Rattle.htl_event.specs.declared.interest.Interest.TheVariants as interests
 use Rattle.htl_event.specs.declared.growth.Span.{Span}
-use Rattle.htl_event.proofs.Members.{Contains-here, Contains-there}
+use Rattle.htl_event.proofs.Members.{Contains-filter, Contains-from_filter, Contains-here, Contains-there}
 use Rattle.htl_segment.specs.Content.{Content}
 use Rattle.htl_segment.specs.Traces.{Trace, HasKey, all_events, key_is_in}
 use Rattle.htl_taken.specs.Gaps.{IsGaps}
@@ -33,16 +36,17 @@ use Rattle.htl_case.specs.Complete.{IsCompleteTo, IsFirstMissing}
 use Rattle.htl_case.proofs.Counted.{own_filtered, own_until}
 use Rattle.htl_case.proofs.Pickings.{picked_own}
 use Rattle.htl_case.proofs.Sizes.{size_is}
-use Rattle.htl_question.specs.Answers.{Suffice}
+use Rattle.htl_question.specs.Answers.{IsAnswerOver, Suffice}
 use Rattle.htl_question.specs.Bases.{Extent, basis, extent}
 use Rattle.htl_question.specs.declared.question.Question.{Question}
+use Rattle.htl_question.specs.declared.question.Question.TheVariants as questions
 use Rattle.htl_question.proofs.Wanted.{wanted_suffice}
 use Rattle.htl_evidence.specs.Bases.{IsExtentOf}
 use Rattle.htl_evidence.specs.Kept.{Tells, one_by_one, unfolded}
-use Rattle.htl_evidence.specs.Told.{AreEnough, AreFoldsOf, ArePicksFor, AsOf, HasFolded, IsOfCase, PicksUntil, counted_own, folds, interest_of}
+use Rattle.htl_evidence.specs.Told.{AreEnough, AreFoldsOf, ArePicksFor, AsOf, HasFolded, IsOfCase, PicksUntil, counted_own, folds, is_own}
 use Rattle.htl_evidence.specs.Told.{own_events}
 use Rattle.htl_evidence.specs.declared.owner.Owner.{Owner}
-use Rattle.htl_evidence.specs.declared.owner.Owner.TheVariants.{Process, Object}
+use Rattle.htl_evidence.specs.declared.owner.Owner.TheVariants.{Process, Object, Handle}
 use Rattle.htl_evidence.proofs.Covered.{one_first}
 
 -- ---- events as a part of which nothing was folded
@@ -56,26 +60,46 @@ are_events_of part events is = rw is ([], [], nothing_folded events, refl, sym (
 
 -- ---- each way of keeping
 
--- nothing is left out of the events of a process or an object
-all_needed : (owner : Owner) (es : List Event) → wanted (interest_of owner) es ≡ own_events (Some owner) es
-all_needed (Process process) es = map-id _
-all_needed (Object object) es = map-id _
+-- the listing of a handle over its own events is the one over all
+listing_of_own : (process base handle : ℕ) (es rows : List Event) → base_of handle ≡ base
+    → IsListing (Contains (filter (is_own (Handle process base)) es)) process handle rows → IsListing (Contains es) process handle rows
+listing_of_own process base handle es rows is over = record {
+  rising = over.rising;
+  members = λ e. (
+    λ here. let own = (over.members e).0 here in ((Contains-from_filter (is_own (Handle process base)) es e own.0).0, own.1),
+    λ own. (over.members e).1 (Contains-filter (is_own (Handle process base)) es e own.0 (is_its e own.1), own.1),
+  );
+} where
+  is_its : (e : Event) → IsOfHandle process (base_of handle) e → is_own (Handle process base) e ≡ true
+  is_its e of = and_from (e.process == process) (base_of e.handle == base) (eq-eqb e.process process of.owner)
+      (eq-eqb (base_of e.handle) base (of.handle ∙ is))
 
 -- no two of them have one sequence, where no two of all have
 own_sequences : (owner : Option Owner) (es : List Event) → HaveOwnSequences es → HaveOwnSequences (own_events owner es)
 own_sequences None es own = own
-own_sequences (Some owner) es own = own_filtered (wants (interest_of owner)) es own
+own_sequences (Some owner) es own = own_filtered (is_own owner) es own
 
 -- they are enough where they are all, or all that can tell the answer
 own_suffice : (owner : Option Owner) (question : Question) (es : List Event) (span : Option Span) (extent : Extent)
     → AreEnough owner question → HaveOwnSequences es → Suffice (own_events owner es) question (basis es span extent)
 own_suffice None question es span extent enough own = λ answer over. over
-own_suffice (Some owner) question es span extent enough own =
-    let all : IsPermutation (wanted (interest_of owner) es) (own_events (Some owner) es) = subst (IsPermutation _)
-    (all_needed owner es) (IsPermutation-refl _) in
-    wanted_suffice question (interest_of owner) (basis es span extent) (own_events (Some owner) es) (inr enough) all own
+own_suffice (Some (Process process)) question es span extent enough own =
+    let all : IsPermutation (wanted (interests.Process process) es) (own_events (Some (Process process)) es) = subst (IsPermutation _)
+    (map-id _) (IsPermutation-refl _) in
+    wanted_suffice question (interests.Process process) (basis es span extent) (own_events (Some (Process process)) es) (inr enough) all own
+own_suffice (Some (Object object)) question es span extent enough own =
+    let all : IsPermutation (wanted (interests.Object object) es) (own_events (Some (Object object)) es) = subst (IsPermutation _)
+    (map-id _) (IsPermutation-refl _) in
+    wanted_suffice question (interests.Object object) (basis es span extent) (own_events (Some (Object object)) es) (inr enough) all own
+own_suffice (Some (Handle process base)) question es span extent (handle, asked, is) own =
+    rw asked (λ answer over. record {
+      asked = over.asked;
+      since = over.since;
+      rows = (let listed = over.rows in
+          (listed.0, listed.1, listing_of_own process base handle es listed.0 is listed.2));
+    })
 
--- the events of a case up to a moment, or those of a process or object
+-- the events of a case up to a moment, or those of a process, object or handle
 pub told_as_of : (e : AsOf) (question : Question) (T : Trace) (until : Option ℕ) → IsCase e.trace → IsOfCase e question T until
     → Tells true (one_by_one (counted_own e)) question T until
 told_as_of e question T until case of =

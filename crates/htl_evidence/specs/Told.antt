@@ -1,9 +1,9 @@
 -- Each way of keeping a trace, and which answers it tells.
-use Rattle.std.specs.Prelude.{◌≡◌, ◌↔◌, ⊤, ℕ, false, filter, map, sum_by, List, Option, None, Some}
+use Rattle.std.specs.Prelude.{◌≡◌, ◌↔◌, ◌==◌, ◌&&◌, ⊤, ℕ, Bool, false, filter, map, sum_by, List, Option, None, Some}
 use Rattle.htl_event.specs.Events.{Event}
 use Rattle.htl_event.specs.Handles.{HaveOwnSequences}
-use Rattle.htl_event.specs.Interests.{wants}
 use Rattle.htl_event.specs.Moments.{counted_events}
+use Rattle.htl_event.specs.Slots.{base_of}
 use Rattle.htl_event.specs.declared.interest.Interest.{Interest}
 use Rattle.htl_event.specs.declared.interest.Interest.TheVariants as interests
 use Rattle.htl_segment.specs.Traces.{Trace, HasKey, all_events}
@@ -16,19 +16,22 @@ use Rattle.htl_case.specs.Picked.{Picked, IsPickedUntil}
 use Rattle.htl_taken.specs.Numbers.{front_at}
 use Rattle.htl_question.specs.Questions.{Serves, is_of_counts, widest}
 use Rattle.htl_question.specs.declared.question.Question.{Question}
+use Rattle.htl_question.specs.declared.question.Question.TheVariants as questions
 use Rattle.htl_evidence.specs.Kept.{Kept}
 use Rattle.htl_evidence.specs.declared.owner.Owner.{Owner}
-use Rattle.htl_evidence.specs.declared.owner.Owner.TheVariants.{Process, Object}
+use Rattle.htl_evidence.specs.declared.owner.Owner.TheVariants.{Process, Object, Handle}
 
--- the number of the process, or the address of the object
+-- the number of the process, the address of the object, or the base of the handle
 abbrev pub number_of : Owner → ℕ
 number_of (Process process) = process
 number_of (Object object) = object
+number_of (Handle process base) = base
 
--- all events of the process or object
-abbrev pub interest_of : Owner → Interest
-interest_of (Process process) = interests.Process process
-interest_of (Object object) = interests.Object object
+-- the event is of the process, the object or the handle
+abbrev pub is_own : Owner → Event → Bool
+is_own (Process process) e = e.process == process
+is_own (Object object) e = e.object == object
+is_own (Handle process base) e = e.process == process && base_of e.handle == base
 
 -- a case, whose events count up to a moment where one is given; and whose events are looked at, where they aren't all
 pub record AsOf : Type 0 where
@@ -39,19 +42,21 @@ pub record AsOf : Type 0 where
 abbrev pub as_of : Trace → Option ℕ → Option Owner → AsOf
 as_of trace until owner = record { trace = trace; until = until; owner = owner }
 
--- all events, or those of the process or object
+-- all events, or those of the process, object or handle
 abbrev pub own_events : Option Owner → List Event → List Event
 own_events None events = events
-own_events (Some owner) events = filter (wants (interest_of owner)) events
+own_events (Some owner) events = filter (is_own owner) events
 
 -- those of them that count
 abbrev pub counted_own : AsOf → List Event
 counted_own e = own_events e.owner (counted_events e.until (all_events e.trace.segments))
 
--- The events that are looked at are all, or all that can tell the answer.
+-- The events that are looked at are all, or all that can tell the answer: a trace lists those of its handle.
 abbrev pub AreEnough : Option Owner → Question → Type 0
 AreEnough None question = ⊤
-AreEnough (Some owner) question = interest_of owner ≡ widest question
+AreEnough (Some (Process process)) question = interests.Process process ≡ widest question
+AreEnough (Some (Object object)) question = interests.Object object ≡ widest question
+AreEnough (Some (Handle process base)) question = (handle : ℕ) × (question ≡ questions.Trace process handle) × (base_of handle ≡ base)
 
 -- It is of this case and this moment, and of enough events for the question.
 pub record IsOfCase (e : AsOf) (question : Question) (T : Trace) (until : Option ℕ) : Type 0 where

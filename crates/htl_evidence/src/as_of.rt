@@ -14,7 +14,7 @@ use std::marker::Model;
 use std::slice::from_ref;
 
 /// A case of which events count up to a moment, or all where none is given: all of these, or those of
-/// one process or object.
+/// one process, object or handle.
 #[derive(Drop)]
 pub struct AsOf<'a, E: EventList> {
     case: &'a Case,
@@ -47,8 +47,8 @@ impl<'a, E: EventList> AsOf<'a, E> {
     ghost use Rattle.htl_event.specs.Moments.{counted_events};
     ghost use Rattle.htl_segment.specs.Traces.{all_events};
 
-    /// The case with lists of the events until the moment (`Case::until`), or of those of a process
-    /// or object.
+    /// The case with lists of the events until the moment (`Case::until`), or of those of a process,
+    /// object or handle.
     pub fn new(
         alloc: Global,
         case: &'a Case,

@@ -1,4 +1,4 @@
-//! A byte of each event, by which the events of one process or of one object are found: a question
+//! A byte of each event, by which the events of one process, object or handle are found: a question
 //! looks at these bytes, and at little more than its own events.
 
 ghost use Rattle.std.specs.Prelude.{◌≡◌, ◌++◌, ◌∷◌, [], List, false, filter, flat_map, IfOk, OnOk};
@@ -12,16 +12,17 @@ ghost use Rattle.htl_evidence.specs.Columns.{byte_of, bytes_for, is_counted, is_
 
 use crate::one::One;
 use crate::owner::Owner;
-use htl_event::{EventList, NoMemory, SharedEvent};
+use htl_event::{EventList, NoMemory, SharedEvent, base};
 use htl_segment::Segment;
 use std::alloc::Global;
 use std::vec;
 
-/// A byte for the process of each event of a list, and one for its object.
+/// A byte for the process of each event of a list, one for its object, and one for its base handle.
 #[derive(Drop)]
 pub(crate) struct Columns {
     pub processes: Vec<u8>,
     pub objects: Vec<u8>,
+    pub handles: Vec<u8>,
 }
 
 impl Columns {
@@ -31,14 +32,20 @@ impl Columns {
     {
         let mut processes = Vec::with_capacity(alloc, events.len())?;
         let mut objects = Vec::with_capacity(alloc, events.len())?;
+        let mut handles = Vec::with_capacity(alloc, events.len())?;
         for event in events {
             processes.push(byte_of(u64::from(event.process)))?;
             objects.push(byte_of(event.object))?;
+            handles.push(byte_of(u64::from(base(event.handle))))?;
         }
-        Ok(Columns { processes, objects })
+        Ok(Columns {
+            processes,
+            objects,
+            handles,
+        })
     }
 
-    /// The bytes in which the events of the process or object are looked for.
+    /// The bytes in which the events of the process, object or handle are looked for.
     fn bytes_for(&self, owner: Owner) -> &[u8]
         ensures { (events : List Event) → AreColumnsOf events self.now
             → result.now ≡ bytes_for owner events }
@@ -46,10 +53,11 @@ impl Columns {
         match owner {
             Owner::Process(_) => &self.processes,
             Owner::Object(_) => &self.objects,
+            Owner::Handle { .. } => &self.handles,
         }
     }
 
-    /// Adds those of the events that count and are of the process or object.
+    /// Adds those of the events that count and are of the process, object or handle.
     pub fn push_own<'a>(
         &self,
         lists: &mut Vec<One<'a>>,
@@ -70,8 +78,8 @@ impl Columns {
     }
 }
 
-/// Adds the event if it counts and is of the process or object. Where it can't be, it isn't looked
-/// at.
+/// Adds the event if it counts and is of the process, object or handle. Where it can't be, it isn't
+/// looked at.
 fn push_if_own<'a>(
     lists: &mut Vec<One<'a>>,
     event: &'a SharedEvent,
@@ -179,8 +187,8 @@ fn have_one_key(one: &Segment, other: &Segment) -> bool
     (one.processor(), one.number()) == (other.processor(), other.number())
 }
 
-/// The byte of a process or an object. Numbers at even distances have different bytes, as 251 is a
-/// prime.
+/// The byte of a process, an object or a base handle. Numbers at even distances have different bytes,
+/// as 251 is a prime.
 fn byte_of(number: u64) -> u8
     ensures { result ≡ byte_of number }
 {

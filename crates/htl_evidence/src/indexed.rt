@@ -19,8 +19,8 @@ use std::alloc::Global;
 use std::marker::Model;
 use std::thread::Threads;
 
-/// A case, which may have an index: then a question about a process or an object looks at little
-/// more than its own events.
+/// A case, which may have an index: then a question about a process, an object or a handle looks at
+/// little more than its own events.
 #[derive(Drop)]
 pub struct Indexed {
     case: Case,
@@ -57,7 +57,7 @@ impl Indexed {
         }
     }
 
-    /// The same case with an index, which takes two bytes an event. Where memory for it is refused,
+    /// The same case with an index, which takes three bytes an event. Where memory for it is refused,
     /// the case has none.
     pub fn with_index(self, alloc: Global) -> Indexed
         ensures { result ≡ self }
@@ -129,7 +129,7 @@ impl Indexed {
     }
 }
 
-/// The events of the process or object, up to a moment.
+/// The events of the process, object or handle, up to a moment.
 fn own_lists<'a>(
     alloc: Global,
     segments: &'a [Segment],

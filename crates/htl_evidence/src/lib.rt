@@ -7,8 +7,8 @@
 //! answer), `as_of.rt`, `picks.rt` and `folds.rt` (the three ways of keeping: whole segments, picked
 //! events, and what an analyst folded), `unfolded.rt` (events as a part of which nothing was folded),
 //! `indexed.rt`, `owner.rt`, `columns.rt` and `one.rt` (a case of which many questions are asked: how
-//! the events of a process or an object are found in it), `extent.rt` and `outlines.rt` (how much there
-//! is of a trace, by the outlines of its segments).
+//! the events of a process, object or handle are found in it), `extent.rt` and `outlines.rt` (how much
+//! there is of a trace, by the outlines of its segments).
 #![tactic(auto)]
 
 mod answering;

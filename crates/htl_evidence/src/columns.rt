@@ -126,7 +126,11 @@ pub(crate) fn columns_after(
     };
     let mut all = Vec::with_capacity(alloc, segments.len())?;
     for segment in segments {
-        all.push(rest.take_or_make(alloc, segment)?)?;
+        let columns = match rest.take(segment) {
+            Some(columns) => columns,
+            None => Columns::of(alloc, segment.events())?,
+        };
+        all.push(columns)?;
     }
     Ok(all)
 }
@@ -139,25 +143,6 @@ struct Earlier<'a> {
 }
 
 impl<'a> Earlier<'a> {
-    /// The columns of the segment, which are taken over if it is the first of the earlier ones.
-    fn take_or_make(&mut self, alloc: Global, segment: &Segment) -> Result<Columns, NoMemory>
-        requires { AreLeft self.old.segments.now (into_iter_items self.old.columns)
-            (into_iter_len self.old.columns) }
-        ensures left { AreLeft self.new.segments.now (into_iter_items self.new.columns)
-            (into_iter_len self.new.columns) }
-        ensures among { (later : List Content)
-            → AreAmong self.old.segments.now (segment.now ∷ later)
-            → AreAmong self.new.segments.now later }
-        ensures value { IfOk result (λ columns. (later : List Content)
-            → AreAmong self.old.segments.now (segment.now ∷ later)
-            → AreColumnsOf segment.now.events columns) }
-    {
-        match self.take(segment) {
-            Some(columns) => Ok(columns),
-            None => Columns::of(alloc, segment.events()),
-        }
-    }
-
     /// Takes out the columns of the first of the earlier segments, if it is this one.
     fn take(&mut self, segment: &Segment) -> Option<Columns>
         requires { AreLeft self.old.segments.now (into_iter_items self.old.columns)

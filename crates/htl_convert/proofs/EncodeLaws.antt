@@ -10,7 +10,7 @@ use Rattle.std.proofs.lemmas.List.{take_more}
 use Rattle.std.proofs.lemmas.Option.{slice_get_within, get_or_from_slice_get}
 use Rattle.hex.specs.Hex.{encode_lower, encode_with}
 use Rattle.htl_device.specs.Devices.{AppendsPrefix}
-use Rattle.htl_device.specs.States.{SourceState, ends, has_ended, lefts, remaining}
+use Rattle.htl_device.specs.States.{SinkState, SourceState, ends, has_ended, lefts, remaining}
 use Rattle.htl_segment.specs.Content.{Content}
 use Rattle.htl_segment.specs.Encoding.{encoding}
 use Rattle.htl_segment.specs.Bundles.{bundle}
@@ -24,6 +24,7 @@ use Rattle.htl_inputs.specs.declared.fault.RunFault.TheVariants.{Write}
 use Rattle.htl_inputs.proofs.ReadingLaws.{Next, at_next, ended_there, ill, left_there}
 use Rattle.htl_convert.specs.Dumps.{is_failed_write}
 use Rattle.htl_convert.specs.Encodings.{EncodeAll, EncodingStops, IsReportedOfText, written_as, EndsEncoding}
+use Rattle.htl_convert.specs.Writing.{Writes}
 use Rattle.htl_device.proofs.KnownBytes.{prefix_after}
 use Rattle.htl_convert.proofs.DumpLaws.{prefix_more}
 
@@ -64,12 +65,21 @@ digits_cut bytes rest step later old mid new so_far cut part =
     rw (all, digits_more, digits_more) (prefix_more old new (encode_lower so_far.front ++ encode_lower step) (encode_lower later)
     (prefix_after old mid new (encode_lower so_far.front) (encode_lower step) so_far.written part))
 
--- what follows the digits was written in part
-pub feed_cut : (P : Type 0) (old mid new : Option (List ℕ)) (xs ys : List ℕ) (result : Result (Unit {0}) RunFault) → Appends old mid xs
-    → IfErr result (λ fault. (fault ≡ Write) × P × AppendsPrefix mid new ys)
-    → IfErr result (λ fault. (fault ≡ Write) × AppendsPrefix old new (xs ++ ys))
-feed_cut P old mid new xs ys (Ok done) written failed = tt
-feed_cut P old mid new xs ys (Err fault) written failed = (failed.0, prefix_after old mid new xs ys written failed.2)
+-- once the digits are written, and what follows them or some first part of it, all was written or some first part
+pub feed_writes : (old mid new : SinkState) (xs ys : List ℕ) (result : Result (Unit {0}) RunFault) → Appends old.contents mid.contents xs
+    → OnOk result (Appends mid.contents new.contents ys) → OnOk result (new.failed ≡ false)
+    → IfErr result (λ fault. (fault ≡ Write) × (new.failed ≡ true) × AppendsPrefix mid.contents new.contents ys)
+    → Writes (xs ++ ys) old new result
+feed_writes old mid new xs ys (Ok done) first next fine failed = record {
+  ok = Appends-trans old.contents mid.contents new.contents xs ys first next;
+  err = tt;
+  failed = fine;
+}
+feed_writes old mid new xs ys (Err fault) first next fine failed = record {
+  ok = tt;
+  err = (failed.0, prefix_after old.contents mid.contents new.contents xs ys first failed.2);
+  failed = rw failed.0 failed.1;
+}
 
 -- ---- texts one after another
 

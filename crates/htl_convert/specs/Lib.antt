@@ -3,3 +3,4 @@ pub mod Dumps
 pub mod Encodings
 -- What only private contracts cite.
 pub mod Dumping
+pub mod Writing

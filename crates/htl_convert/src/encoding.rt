@@ -1,19 +1,17 @@
 //! The run that encodes texts of segments.
 
 ghost use Rattle.std.specs.Prelude.{◌≡◌, ◌≤◌, ℕ, Bool, List, Option, false, true, length};
-ghost use Rattle.std.specs.Prelude.{map, IfErr, IfOk, IfSome, OnOk};
-ghost use Rattle.std.specs.Io.KnownBytes.{Appends};
+ghost use Rattle.std.specs.Prelude.{map, IfErr, IfOk, IfSome};
 ghost use Rattle.hex.specs.Hex.{encode_lower};
-ghost use Rattle.htl_device.specs.Devices.{AppendsPrefix};
 ghost use Rattle.htl_segment.specs.Bundles.{bundle};
 ghost use Rattle.htl_segment.specs.Content.{Content};
 ghost use Rattle.htl_text.specs.Encoded.{Encodes};
 ghost use Rattle.htl_device.specs.States.{AreOpen, IfKnown, IsOpen, ends, lefts};
 ghost use Rattle.htl_inputs.specs.Reads.{IsRead, NamesOnly, NeverRead, NeverWrite};
 ghost use Rattle.htl_inputs.specs.Readings.{AreRead, AskForReaders};
-ghost use Rattle.htl_convert.specs.Dumps.{is_failed_write};
 ghost use Rattle.htl_convert.specs.Encodings.{EncodeAll, EncodingStops, IsEncodedFrom};
 ghost use Rattle.htl_convert.specs.Encodings.{IsReportedOfText, written_as};
+ghost use Rattle.htl_convert.specs.Writing.{Writes};
 
 use htl_device::{MAX_READS, Sink, Source, read_whole};
 use htl_inputs::{RunFault, write_lines};
@@ -94,12 +92,7 @@ fn encode_text(alloc: Global, place: u64, text: &[u8]) -> Result<Vec<u8>, RunFau
 /// Writes the bytes as they are, or their hexadecimal digits and a line feed.
 fn write_bundle<W: Sink>(hex: bool, bytes: &[u8], out: &mut W) -> Result<(), RunFault>
     requires { (W.state out.old).failed ≡ false }
-    ensures ok { OnOk result
-        (Appends (W.state out.old).contents (W.state out.new).contents (written_as hex bytes.now)) }
-    ensures err { IfErr result (λ fault. (fault ≡ RunFault.Write)
-        × AppendsPrefix (W.state out.old).contents (W.state out.new).contents
-        (written_as hex bytes.now)) }
-    ensures failed { (W.state out.new).failed ≡ is_failed_write result }
+    ensures { Writes (written_as hex bytes.now) (W.state out.old) (W.state out.new) result }
 {
     if hex {
         write_digits(bytes, out)?;
@@ -115,12 +108,7 @@ const STEP: usize = 2_048;
 /// Writes the hexadecimal digits of bytes, in lower case.
 fn write_digits<W: Sink>(bytes: &[u8], out: &mut W) -> Result<(), RunFault>
     requires { (W.state out.old).failed ≡ false }
-    ensures ok { OnOk result
-        (Appends (W.state out.old).contents (W.state out.new).contents (encode_lower bytes.now)) }
-    ensures err { IfErr result (λ fault. (fault ≡ RunFault.Write)
-        × AppendsPrefix (W.state out.old).contents (W.state out.new).contents
-        (encode_lower bytes.now)) }
-    ensures failed { (W.state out.new).failed ≡ is_failed_write result }
+    ensures { Writes (encode_lower bytes.now) (W.state out.old) (W.state out.new) result }
 {
     let mut rest = bytes;
     while !rest.is_empty() {
@@ -135,12 +123,7 @@ fn write_digits<W: Sink>(bytes: &[u8], out: &mut W) -> Result<(), RunFault>
 fn write_step<W: Sink>(bytes: &[u8], out: &mut W) -> Result<(), RunFault>
     requires few { length bytes.now ≤ STEP }
     requires out { (W.state out.old).failed ≡ false }
-    ensures ok { OnOk result
-        (Appends (W.state out.old).contents (W.state out.new).contents (encode_lower bytes.now)) }
-    ensures err { IfErr result (λ fault. (fault ≡ RunFault.Write)
-        × AppendsPrefix (W.state out.old).contents (W.state out.new).contents
-        (encode_lower bytes.now)) }
-    ensures failed { (W.state out.new).failed ≡ is_failed_write result }
+    ensures { Writes (encode_lower bytes.now) (W.state out.old) (W.state out.new) result }
 {
     let mut buffer = [0u8; 2 * STEP];
     let digits = &mut buffer[..2 * bytes.len()];

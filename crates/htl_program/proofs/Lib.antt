@@ -5,3 +5,4 @@ mod Converted
 mod Picked
 mod Answered
 pub mod NamesRun
+mod RunAgain

@@ -2,11 +2,10 @@
 
 ghost use Rattle.std.specs.Prelude.{◌≡◌, false, map};
 ghost use Rattle.std.specs.Prelude.{option_copied, string_bytes, true};
-ghost use Rattle.htl_main.specs.Origins.{by_fault};
-ghost use Rattle.htl_world.specs.Rounds.{Asks, CanBeReadAgain, Rounds};
+ghost use Rattle.htl_world.specs.Rounds.{CanBeReadAgain};
 ghost use Rattle.htl_world.specs.Worlds.{change};
 ghost use Rattle.htl_program.specs.Outcomes.{IsAnswered};
-ghost use Rattle.htl_program.specs.Runs.{IsRunOfNames};
+ghost use Rattle.htl_program.specs.Runs.{IsRunAgain};
 
 use htl_command::Run;
 use htl_device::Sink;
@@ -66,10 +65,9 @@ fn pick_again<Rt: Threads + Sync, W: World, O: Sink>(
 ) -> Result<Completed, Refused>
     requires out { (O.state out.old).failed ≡ false }
     requires bytes { run.now.job.setting.form.hex ≡ false }
-    ensures run { IsRunOfNames (W.state world.old).known (map W.Input.state inputs.new.items)
-        run.now (option_copied symbols.entry) (O.state out.old) (O.state out.new) result }
-    ensures asked { Asks (change (W.state world.old) (W.state world.new))
-        (Rounds 2 (map string_bytes run.now.files.items) (by_fault result)) }
+    ensures { IsRunAgain 2 (change (W.state world.old) (W.state world.new))
+        (map W.Input.state inputs.new.items) run.now (option_copied symbols.entry) (O.state out.old)
+        (O.state out.new) result }
 {
     open_inputs(alloc, world, &run.files, inputs)?;
     let widest = run.job.question.widest_interest();
@@ -91,10 +89,9 @@ fn run_again<Rt: Threads + Sync, W: World, O: Sink>(
     out: &mut O,
 ) -> Result<Completed, Refused>
     requires { (O.state out.old).failed ≡ false }
-    ensures run { IsRunOfNames (W.state world.old).known (map W.Input.state inputs.new.items)
-        run.now (option_copied symbols.entry) (O.state out.old) (O.state out.new) result }
-    ensures asked { Asks (change (W.state world.old) (W.state world.new))
-        (Rounds 1 (map string_bytes run.now.files.items) (by_fault result)) }
+    ensures { IsRunAgain 1 (change (W.state world.old) (W.state world.new))
+        (map W.Input.state inputs.new.items) run.now (option_copied symbols.entry) (O.state out.old)
+        (O.state out.new) result }
 {
     open_inputs(alloc, world, &run.files, inputs)?;
     run_from(rt, alloc, &run.job, inputs, symbols, out)

@@ -3,7 +3,7 @@
 
 ghost use Rattle.std.specs.Prelude.{◌≡◌, ◌&&◌, ◌||◌, false, not};
 ghost use Rattle.htl_program.specs.Opened.{reach};
-ghost use Rattle.htl_program.specs.Programs.{DoesAnswer, DoesConverse, DoesDump, DoesEncode};
+ghost use Rattle.htl_program.specs.Programs.{DoesAnswer, DoesConverse, DoesDump};
 ghost use Rattle.htl_program.specs.Programs.{EncodesOrRefuses, spoken, told};
 
 use crate::answering::answer;
@@ -100,27 +100,6 @@ pub(crate) fn do_encode<W: World, O: Output, P: Person>(
     if !hex && console.person.sees_output() {
         return refuse(&ParseFault::bytes_at_terminal(alloc), console);
     }
-    encode_into(alloc, world, line, hex, files, inputs, console)
-}
-
-/// Encodes texts to an output that isn't a terminal.
-fn encode_into<W: World, O: Output, P: Person>(
-    alloc: Global,
-    world: &mut W,
-    line: &CommandLine,
-    hex: bool,
-    files: &[String],
-    inputs: &mut Inputs<W::Input>,
-    console: &mut Console<O, P>,
-) -> u8
-    requires { (O.state console.old.out).failed ≡ false }
-    ensures { DoesEncode (P.is_watching console.old.person)
-        (P.is_watching console.old.person || line.now.notes)
-        (reach W.Input.state (W.state world.old) (W.state world.new) inputs.old inputs.new)
-        (told O.state O.has_lost_reader P.heard console.old)
-        (told O.state O.has_lost_reader P.heard console.new)
-        line.now.command hex files.now result }
-{
     let audience = console.begin(line);
     let ended = encode(
         alloc,

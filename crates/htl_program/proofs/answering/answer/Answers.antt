@@ -76,7 +76,7 @@ returns-in-Err-Lacking-Process g c =
     let unwritten = c.pick_from.ensures.unwritten c.in-Err-Lacking-Process.field-0-0
     (c.in-Err-Lacking-Process.is ∙ ap Err c.in-Err-Lacking-Process.field-0-is) in
     answered_then c.args.run.now _ _ c.in_ok-table.table _ _ _ _ _ opened
-    (rw (known, c.as_bytes-symbols.ensures, unwritten) at c.pick_again.ensures.run) _
+    (rw (known, c.as_bytes-symbols.ensures, unwritten) at c.pick_again.ensures.is) _
     (again names (by_fault c.pick_again.result) (g.W.World.state c.args.world.now).known _ _ _ can.0 (rw known at can.1) c.pick_again.ensures.asked)
 
 pub returns : goal.returns
@@ -90,5 +90,5 @@ returns g c =
     let ended = by_fault c.run_again.result in
     let asked = c.run_again.ensures.asked in
     answered_then c.args.run.now _ _ c.in_ok-table.table _ _ _ _ _ opened
-    (rw (known, c.as_bytes-symbols.ensures, unwritten) at c.run_again.ensures.run) _
+    (rw (known, c.as_bytes-symbols.ensures, unwritten) at c.run_again.ensures.is) _
     (again names ended (g.W.World.state c.args.world.now).known _ _ _ can.0 (rw known at can.1) (asked.0, asked.1, two_rounds names ended asked.0 asked.2))

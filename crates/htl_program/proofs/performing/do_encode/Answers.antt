@@ -1,12 +1,18 @@
 -- What is said of an encoding is how the encoding ended.
-use Rattle.std.proofs.Common.{rules}
+use Rattle.std.proofs.Common.{◌≡◌, ◌&&◌, false, not, rules}
 use Rattle.htl_program.proofs.Told.{run_told}
-use Rattle.htl_program.proofs.performing.encode_into.Goals as goal
+use Rattle.htl_program.proofs.performing.do_encode.Goals.{else-not-hex-via-then-not-hex+else-sees_output, else-not-hex-via-else-not-hex}
+use Rattle.htl_program.proofs.performing.do_encode.Goals as goal
 
 pub returns : goal.returns
 returns g c =
     let begun = c.begin-audience.ensures in
-    let over = c.end-manner.ensures in (
+    let over = c.end-manner.ensures in
+    let unseen : (not c.args.hex && g.P.Person.sees_output c.args.console.now.person) ≡ false = elim c.else-not-hex.branch [
+      | else-not-hex-via-then-not-hex+else-sees_output w ↦ search rules
+      | else-not-hex-via-else-not-hex w ↦ search rules
+    ] in
+    rw unseen (
       search rules,
       record {
         ended = c.encode-ended.result;

@@ -9,3 +9,5 @@ pub mod Refusals
 pub mod Steps
 pub mod Statuses
 pub mod Needs
+pub mod Processes
+pub mod Helps

@@ -207,7 +207,7 @@ pub(crate) fn other_command(alloc: Global) -> ParseFault
     ensures { IsUsageWith ⊤ result }
 {
     let why = "\
-a line is a question, 'read FILE ..' or 'quit'
+a line is a question, 'read FILE ..', 'use N' or 'quit'
 
   tip: ask, explain, dump and encode are commands of their own";
     wrong_line(alloc, why)
@@ -238,7 +238,7 @@ fn why_of(text: &str) -> &str {
 }
 
 /// A usage fault, in the frame that every one has.
-fn usage(alloc: Global, why: &str, tip: &str) -> ParseFault
+pub(crate) fn usage(alloc: Global, why: &str, tip: &str) -> ParseFault
     ensures { IsUsageWith ⊤ result }
 {
     match format!(in alloc; "error: {why}{tip}\n") {

@@ -52,6 +52,7 @@ pub(crate) const DIALOGUE_USAGE: &str = "<COMMAND> [OPTIONS]";
 pub(crate) const DIALOGUE_AFTER_HELP: &str = "\
 Other lines:
   read FILE ..  Read more segments; a name that begins with '-' follows '--'
+  use N         Use process N in questions without --process; none to use none
   quit          End the dialogue, as exit and q do
 
 Options of every question:
@@ -60,8 +61,9 @@ Options of every question:
                    up to which answers are final: 0 if a processor is idle
       --json       One JSON object a line, for other programs
 
-'COMMAND --help' lists the options of a question. An argument with blanks stands
-in double quotes.
+'COMMAND --help' lists the options of a question. 'help read', 'help use' and
+'help quit' say more of other lines. An argument with blanks stands in double
+quotes.
 
 With --fold no line asks for 'trace', 'growth' or '--until'.";
 
@@ -112,9 +114,10 @@ Example:
 Each line of standard input is a question with its options, as
 'leaks --process 4 --top 5'. An argument with blanks stands in double quotes.
 The answer is written with an empty line after it. 'read FILE ..' reads more
-segments, and replies how many; answers are final up to its complete_to. A line
-that is neither gets the empty line alone, and status 2 at the end. One without
-an argument (blanks, \"\") gets no reply. 'quit' ends.
+segments, and replies how many; answers are final up to its complete_to.
+'use N' names the process of questions without --process. Any other line gets
+the empty line alone, and status 2 at the end. One without an argument (blanks,
+\"\") gets no reply. 'quit' ends.
 
 Example:
   hleak ask --symbols names.csv cpu0.hls cpu1.hls"

@@ -11,7 +11,7 @@
 //! with a row for each question), `builder.rt` (the commands as `clap` gets them), `command.rt`
 //! (`parse`), `line.rt` (a question of a dialogue), `matching.rt` and `entries.rt` (what `clap` finds),
 //! `reading.rt` (what that asks for), `options.rt` and `values.rt` (the values of options), `no_job.rt`,
-//! `fault.rt`, `tip.rt` and `help.rt` (what a person reads).
+//! `fault.rt`, `words.rt`, `tip.rt` and `help.rt` (what a person reads).
 #![tactic(auto)]
 
 mod builder;
@@ -31,11 +31,12 @@ mod reading;
 mod table;
 mod tip;
 mod values;
+mod words;
 
 pub use code::Code;
 pub use command::{Command, CommandLine, Dialogue, Run, parse};
 pub use fault::ParseFault;
 pub use htl_question::{Question, Since};
-pub use line::parse_question;
+pub use line::{parse_process, parse_question, takes_process};
 pub use printed::{Parts, PrintedFault};
 pub use question::{Format, InputForm, Job, Moment, Setting};

@@ -1,17 +1,22 @@
 //! What a line of a dialogue asks for.
 ghost use Rattle.std.specs.Prelude.{◌≡◌, IfErr, IfOk, None, Some, map, string_bytes};
+ghost use Rattle.std.specs.List.{list_any};
 ghost use Rattle.clap.specs.Words.{subcommand_rows_of};
+ghost use Rattle.htl_command.specs.Processes.{is_process, takes_process};
 ghost use Rattle.htl_command.specs.Refusals.{IsUsageWith, RefusesQuestion};
 ghost use Rattle.htl_command.specs.Requests.{asked_by, asked_in, asked_met};
 ghost use Rattle.htl_command.specs.Steps.{entries_of};
+ghost use Rattle.htl_command.specs.Values.{process_in};
 ghost use Rattle.htl_command.specs.declared.table.CommandName.TheVariants as command;
 
 use crate::builder::Place;
 use crate::fault::{ParseFault, no_command, no_question, other_command, refused_entries};
 use crate::matching::matches;
+use crate::names::CommandOption;
 use crate::question::Job;
 use crate::reading::{is_of_run, job};
 use crate::table::{CommandName, QuestionName};
+use crate::values;
 use clap::ArgMatches;
 use std::alloc::Global;
 
@@ -61,4 +66,34 @@ fn read_entries(
             Err(refused_entries(alloc, "", name, refused))
         }
     }
+}
+
+/// The process that a text names.
+pub fn parse_process(text: &str) -> Option<u32>
+    ensures { result ≡ process_in text.now }
+{
+    values::process(text)
+}
+
+/// Whether a word is a question about a process, which `--process` names.
+#[tactic(auto, unfolding(crate::specs::Processes::takes_process))]
+pub fn takes_process(word: &str) -> bool
+    ensures { result ≡ takes_process word.now }
+{
+    match CommandName::from_name(word) {
+        Some(CommandName::Question(question)) => has_process(question.row().options),
+        _ => false,
+    }
+}
+
+fn has_process(options: &[CommandOption]) -> bool
+    ensures { result ≡ list_any is_process options.now }
+{
+    options.iter().any(|option| is_process(*option))
+}
+
+fn is_process(option: CommandOption) -> bool
+    ensures { result ≡ is_process option }
+{
+    matches!(option, CommandOption::Process)
 }

@@ -85,7 +85,7 @@ impl InvalidValue<'_> {
 }
 
 /// The number that is written in hexadecimal behind `0x` or `0X`.
-fn hexadecimal(given: &str) -> Option<u64> {
+pub(crate) fn hexadecimal(given: &str) -> Option<u64> {
     match given.strip_prefix("0X") {
         Some(digits) if !digits.starts_with("0x") => values::object(digits),
         None if given.starts_with("0x") => values::object(given),

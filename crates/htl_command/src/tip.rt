@@ -105,7 +105,7 @@ impl fmt::Display for Tip<'_> {
             ),
             Tip::Line => write!(
                 f,
-                "{TIP}a line is a question, 'read FILE ..' or 'quit': 'help' lists questions"
+                "{TIP}a line is a question, 'read FILE ..', 'use N' or 'quit', as 'help' says"
             ),
             Tip::Before => {
                 write!(

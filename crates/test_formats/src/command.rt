@@ -1,6 +1,7 @@
 //! What the contract of `parse` doesn't say: that it answers, the texts of help and refusals, and
 //! that the definitions mean what the reference says.
 
+mod dialogue;
 mod lines;
 mod texts;
 

@@ -426,9 +426,10 @@ Options:
 Each line of standard input is a question with its options, as
 'leaks --process 4 --top 5'. An argument with blanks stands in double quotes.
 The answer is written with an empty line after it. 'read FILE ..' reads more
-segments, and replies how many; answers are final up to its complete_to. A line
-that is neither gets the empty line alone, and status 2 at the end. One without
-an argument (blanks, \"\") gets no reply. 'quit' ends.
+segments, and replies how many; answers are final up to its complete_to.
+'use N' names the process of questions without --process. Any other line gets
+the empty line alone, and status 2 at the end. One without an argument (blanks,
+\"\") gets no reply. 'quit' ends.
 
 Example:
   hleak ask --symbols names.csv cpu0.hls cpu1.hls
@@ -517,6 +518,7 @@ Options:
 
 Other lines:
   read FILE ..  Read more segments; a name that begins with '-' follows '--'
+  use N         Use process N in questions without --process; none to use none
   quit          End the dialogue, as exit and q do
 
 Options of every question:
@@ -525,8 +527,9 @@ Options of every question:
                    up to which answers are final: 0 if a processor is idle
       --json       One JSON object a line, for other programs
 
-'COMMAND --help' lists the options of a question. An argument with blanks stands
-in double quotes.
+'COMMAND --help' lists the options of a question. 'help read', 'help use' and
+'help quit' say more of other lines. An argument with blanks stands in double
+quotes.
 
 With --fold no line asks for 'trace', 'growth' or '--until'.
 ";
@@ -656,7 +659,7 @@ For more information, try '--help'.
 const DIALOGUE_WORD: &str = "\
 error: unrecognized subcommand 'quti'
 
-  tip: a line is a question, 'read FILE ..' or 'quit': 'help' lists questions
+  tip: a line is a question, 'read FILE ..', 'use N' or 'quit', as 'help' says
 
 Usage: <COMMAND> [OPTIONS]
 
@@ -683,7 +686,7 @@ For more information, try 'help'.
 ";
 
 const DIALOGUE_OTHER: &str = "\
-error: a line is a question, 'read FILE ..' or 'quit'
+error: a line is a question, 'read FILE ..', 'use N' or 'quit'
 
   tip: ask, explain, dump and encode are commands of their own
 
@@ -969,7 +972,13 @@ fn fits(text: &str) -> bool {
 }
 
 /// The line's fault has this status and this text, which fits.
-fn has_text(rt: &impl Abort, alloc: Global, line: &str, fault: &ParseFault, wanted: (u8, &str)) {
+pub fn has_text(
+    rt: &impl Abort,
+    alloc: Global,
+    line: &str,
+    fault: &ParseFault,
+    wanted: (u8, &str),
+) {
     let found = text_of(rt, alloc, fault);
     assert_row(rt, line, (fault.status(), found.as_str()), wanted);
     assert!(rt; fits(wanted.1), "of {line}");

@@ -2,6 +2,7 @@
 use Rattle.std.proofs.Common.{◌≡◌, ◌⊎◌, ℕ, Bool, false, List, [], ◌∷◌, ◌++◌, Option, inl, inr, take}
 use Rattle.htl_dialogue.specs.Dialogues.{Answers, Converses, Gets, GotAt, DialogueStops, last_wait}
 use Rattle.htl_dialogue.specs.Notes.{OwnNote}
+use Rattle.htl_dialogue.specs.Sayings.{Turn}
 use Rattle.htl_dialogue.specs.declared.dialogue.Conversed.{Conversed}
 use Rattle.htl_dialogue.specs.declared.dialogue.DialogueFault.{DialogueFault}
 use Rattle.htl_dialogue.specs.declared.dialogue.DialogueFault.TheVariants.{Questions, Write, NoMemory}
@@ -35,7 +36,7 @@ module _ {S Speaker : Type 0} (answers : Answers S) (wanted : Bool) (before : S)
   waited failed replies notes (inl got) = inl (gets replies (notes ++ hear.Awaits ∷ []) got)
   waited failed replies notes (inr got) = inr (got.0, gets replies notes got.1)
 
-  got_at : (state : S) (failed : Bool) (fault : DialogueFault) (later : List (List ℕ)) (replies : List ℕ) (notes : List OwnNote)
+  got_at : (state : S) (failed : Bool) (fault : DialogueFault) (later : List Turn) (replies : List ℕ) (notes : List OwnNote)
       → GotAt answers state failed (Gets old new told begun after) fault later replies notes
       → GotAt answers state failed (BeginsAndGets names old new told speaker after opening) fault later replies notes
   got_at state failed Write [] replies notes got = got

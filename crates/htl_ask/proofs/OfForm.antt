@@ -1,9 +1,9 @@
 -- A question that a line asks is one that what is kept answers, since where events are forgotten one that needs them is wrong.
-use Rattle.std.proofs.Common.{◌≡◌, ℕ, Bool, List, false, refl, true}
+use Rattle.std.proofs.Common.{◌≡◌, Bool, false, refl, true}
 use Rattle.std.specs.Prelude.{if◌then◌else◌}
 use Rattle.htl_command.specs.Needs.{needs_events}
 use Rattle.htl_command.specs.declared.question.Job.{Job}
-use Rattle.htl_dialogue.specs.Sayings.{Saying, asks, heard, nothing, quits, reads, saying, saying_in, saying_of, wrong}
+use Rattle.htl_dialogue.specs.Sayings.{Saying, Turn, asks, heard, nothing, quits, reads, saying, saying_in, saying_of, uses, wrong}
 use Rattle.htl_dialogue.specs.declared.saying.Said.{Said}
 use Rattle.htl_dialogue.specs.declared.saying.Said.TheVariants as said
 use Rattle.htl_ask.specs.Loads.{IsOfForm}
@@ -18,12 +18,14 @@ needs_none job (asks other) is = answered (needs_events other) refl is
 needs_none job nothing is = absurd (cc is)
 needs_none job quits is = absurd (cc is)
 needs_none job (reads files) is = absurd (cc is)
+needs_none job (uses process) is = absurd (cc is)
 needs_none job wrong is = absurd (cc is)
 
 -- what is heard of a line, where events are forgotten or not, is of this form
-pub of_form : (forgets : Bool) (of : Said) (bytes : List ℕ) → saying of ≡ saying_in forgets bytes → IsOfForm forgets of
-of_form forgets (said.Asks job) bytes is = λ forgotten. needs_none job (saying_of bytes) (rw forgotten at is)
-of_form forgets said.Nothing bytes is = tt
-of_form forgets said.Quits bytes is = tt
-of_form forgets (said.Reads files) bytes is = tt
-of_form forgets (said.Wrong fault) bytes is = tt
+pub of_form : (forgets : Bool) (of : Said) (line : Turn) → saying of ≡ saying_in forgets line → IsOfForm forgets of
+of_form forgets (said.Asks job) line is = λ forgotten. needs_none job (saying_of line) (rw forgotten at is)
+of_form forgets said.Nothing line is = tt
+of_form forgets said.Quits line is = tt
+of_form forgets (said.Reads files) line is = tt
+of_form forgets (said.Uses process) line is = tt
+of_form forgets (said.Wrong fault) line is = tt

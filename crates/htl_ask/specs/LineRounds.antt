@@ -2,7 +2,7 @@
 use Rattle.std.specs.Prelude.{◌≡◌, ◌++◌, ◌∷◌, ◌⊎◌, [], ⊤, ℕ, Bool, List, All, Option, Some, None, Result, Ok, Err}
 use Rattle.htl_inputs.specs.declared.fault.RunFault.{RunFault}
 use Rattle.htl_dialogue.specs.Dialogues.{asked_lines}
-use Rattle.htl_dialogue.specs.Sayings.{Saying, reads, saying_in}
+use Rattle.htl_dialogue.specs.Sayings.{Saying, Turn, reads, saying_in}
 use Rattle.htl_world.specs.Worlds.{Ask, to_open}
 use Rattle.htl_world.specs.Rounds.{EndsEarly, all_opened}
 
@@ -21,7 +21,7 @@ LineAsks (reads names) asks = AsksNames names asks
 LineAsks other asks = asks ≡ []
 
 -- The same by lines, one after the other, in a dialogue that forgets events or keeps them.
-abbrev pub LinesAsk : Bool → List (List ℕ) → List Ask → Type 0
+abbrev pub LinesAsk : Bool → List Turn → List Ask → Type 0
 LinesAsk forgets [] asks = asks ≡ []
 LinesAsk forgets (line ∷ more) asks =
     (own later : List Ask) × LineAsks (saying_in forgets line) own × LinesAsk forgets more later × (asks ≡ own ++ later)
@@ -30,7 +30,7 @@ LinesAsk forgets (line ∷ more) asks =
 abbrev pub DialogueAsks : Bool → Option (List ℕ) → List Ask → Type 0
 DialogueAsks forgets None asks = All IsOfName asks
 DialogueAsks forgets (Some text) asks =
-    (earlier later : List (List ℕ)) × (asked_lines text ≡ earlier ++ later) × LinesAsk forgets earlier asks
+    (earlier later : List Turn) × (asked_lines text ≡ earlier ++ later) × LinesAsk forgets earlier asks
 
 -- Once a dialogue began, its lines asked; where it didn't begin, nothing more was asked for.
 abbrev pub AsksLater : {S E : Type 0} → Bool → Option (List ℕ) → Result S E → List Ask → Type 0

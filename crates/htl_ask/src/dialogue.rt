@@ -7,7 +7,7 @@ ghost use Rattle.htl_device.specs.Devices.{AppendsPrefix};
 ghost use Rattle.htl_device.specs.States.{IsOpen};
 ghost use Rattle.htl_command.specs.Needs.{needs_events};
 ghost use Rattle.htl_dialogue.specs.Dialogues.{Converses, DialogueStops, Gets, is_end};
-ghost use Rattle.htl_dialogue.specs.Dialogues.{reading_reply};
+ghost use Rattle.htl_dialogue.specs.Dialogues.{reading_reply, using_reply};
 ghost use Rattle.htl_dialogue.specs.Replying.{IsRefusedReply, Replies, Tells, fault_of};
 ghost use Rattle.htl_dialogue.specs.Notes.{told_of};
 ghost use Rattle.htl_dialogue.specs.Sayings.{saying};
@@ -31,7 +31,8 @@ use std::alloc::{AllocError, Global};
 use std::thread::Threads;
 
 /// Replies to each line of the source up to `quit` or its end, and returns how that went. A line
-/// may name files to read: later lines are answered from these too. The speaker hears that a line
+/// may name files to read: later lines are answered from these too. Or it says which process is used:
+/// later questions about a process that name none are about this one. The speaker hears that a line
 /// is awaited, and before the reply why the line is wrong, what its files added, or why its question
 /// isn't answered; after the reply to a question, what is told of that and of its answer.
 /// `has_table` says whether addresses are named by a table of symbols.
@@ -78,15 +79,17 @@ pub(crate) fn converse_lines<Rt: Threads + Sync, W: World, Q: Source, O: Sink, S
 {
     let mut held = ReadAhead::new(alloc)?;
     let mut conversed = Conversed::fine();
+    let mut process = None;
     for _line in 0..MAX_READS {
         speaker.hears(Note::Awaits);
         let next = next_line(alloc, questions, &mut held)?;
-        let said = read_line(alloc, &next.line, kept.forgets())?;
+        let said = read_line(alloc, &next.line, process, kept.forgets())?;
         if ends(&said) {
             return Ok(conversed);
         }
         let line = reply(alloc, world, files, kept, has_table, &said, out, speaker)?;
         conversed = conversed.then(line);
+        process = said.used(process);
         if next.is_last {
             return Ok(conversed);
         }
@@ -150,6 +153,11 @@ fn reply<Rt: Threads + Sync, W: World, O: Sink, S: Speaker>(
                 first_fault: fault_of(ended),
             })
         }
+        Said::Uses(process) => {
+            let text = using_reply(alloc, *process)?;
+            write(out, text.as_bytes())?;
+            Ok(Conversed::fine())
+        }
     }
 }
 
@@ -212,6 +220,16 @@ fn reading_reply(alloc: Global, ended: Result<Added, Refused>) -> Result<String,
     match ended {
         Ok(added) => format!(in alloc; "{added}\n\n"),
         Err(_) => String::from_str(alloc, "\n"),
+    }
+}
+
+/// The reply to a line that uses a process, or none.
+fn using_reply(alloc: Global, process: Option<u32>) -> Result<String, AllocError>
+    ensures { IfOk result (λ text. string_bytes text ≡ using_reply process) }
+{
+    match process {
+        Some(process) => format!(in alloc; "using process={process}\n\n"),
+        None => String::from_str(alloc, "using process=none\n\n"),
     }
 }
 

@@ -10,19 +10,19 @@ use Rattle.std.proofs.lemmas.List.Folds.{list_any-append}
 use Rattle.htl_dialogue.specs.Dialogues.{Answers, AreExchanges, IsExchange, IsReplied, is_wrong}
 use Rattle.htl_dialogue.specs.Notes.{IsFaultOf, OwnNote, after_notes, first_fault}
 use Rattle.htl_dialogue.specs.Replying.{IsSaidFault, KeepsFault, Replies}
-use Rattle.htl_dialogue.specs.Sayings.{saying, saying_in}
+use Rattle.htl_dialogue.specs.Sayings.{Turn, saying, saying_in}
 use Rattle.htl_dialogue.specs.declared.dialogue.Conversed.{Conversed}
 use Rattle.htl_dialogue.specs.declared.note.Note.TheVariants as hear
 use Rattle.htl_dialogue.specs.declared.saying.Said.{Said}
 use Rattle.htl_dialogue.specs.declared.saying.Said.TheVariants as said
 use Rattle.htl_dialogue.proofs.Noting.{first_fault-append, line_fault, line_more}
 
-abbrev pub line_is_wrong : Bool → List ℕ → Bool
+abbrev pub line_is_wrong : Bool → Turn → Bool
 line_is_wrong forgets line = is_wrong (saying_in forgets line)
 
 -- Lines got their replies and the speaker their notes, and this is said of them.
 pub record AreReplied {S Speaker : Type 0} (answers : Answers S) (wanted : Bool) (told : Speaker → OwnNote → Speaker) (initial : S)
-    (old : Option (List ℕ)) (speaker : Speaker) (lines : List (List ℕ)) (state : S) (new : Option (List ℕ)) (now : Speaker) (conversed : Conversed)
+    (old : Option (List ℕ)) (speaker : Speaker) (lines : List Turn) (state : S) (new : Option (List ℕ)) (now : Speaker) (conversed : Conversed)
     : Type 0 where
   pub replies : List ℕ
   pub notes : List OwnNote
@@ -44,18 +44,19 @@ pub record IsNextReply {S Speaker : Type 0} (answers : Answers S) (wanted : Bool
 
 module _ {S : Type 0} (answers : Answers S) where
   -- the fault that is said of a line is the line's
-  fault_is_of_line : (line : List ℕ) (of : Said) (before after : S) (reply : List ℕ) (early : List OwnNote)
+  fault_is_of_line : (line : Turn) (of : Said) (before after : S) (reply : List ℕ) (early : List OwnNote)
       → KeepsFault answers.forgets line of → IsReplied answers (IsSaidFault of) before (saying of) after reply early
       → IsReplied answers (IsFaultOf answers.forgets line) before (saying of) after reply early
   fault_is_of_line line said.Nothing before after reply early keeps replied = replied
   fault_is_of_line line said.Quits before after reply early keeps replied = replied
   fault_is_of_line line (said.Asks job) before after reply early keeps replied = replied
   fault_is_of_line line (said.Reads files) before after reply early keeps replied = replied
+  fault_is_of_line line (said.Uses process) before after reply early keeps replied = replied
   fault_is_of_line line (said.Wrong kept) before after reply early keeps replied =
       (replied.0, replied.1, (replied.2.0, subst (IsFaultOf answers.forgets line) (sym (replied.2.1)) keeps, replied.2.2))
 
   -- what was said of a line got its reply, so the line did
-  pub reply_is_of_line : (line : List ℕ) (of : Said) (before after : S) (reply : List ℕ) (early : List OwnNote)
+  pub reply_is_of_line : (line : Turn) (of : Said) (before after : S) (reply : List ℕ) (early : List OwnNote)
       → saying of ≡ saying_in answers.forgets line → KeepsFault answers.forgets line of
       → IsReplied answers (IsSaidFault of) before (saying of) after reply early
       → IsReplied answers (IsFaultOf answers.forgets line) before (saying_in answers.forgets line) after reply early
@@ -63,7 +64,7 @@ module _ {S : Type 0} (answers : Answers S) where
       rw (← same) (fault_is_of_line line of before after reply early keeps replied)
 
   -- an exchange after others
-  exchanges_more : (wanted : Bool) (initial before after : S) (lines : List (List ℕ)) (line replies reply : List ℕ)
+  exchanges_more : (wanted : Bool) (initial before after : S) (lines : List Turn) (line : Turn) (replies reply : List ℕ)
       (notes own : List OwnNote) → AreExchanges answers wanted initial lines before replies notes
       → IsExchange answers wanted before line after reply own
       → AreExchanges answers wanted initial (lines ++ line ∷ []) after (replies ++ reply) (notes ++ own)
@@ -91,7 +92,7 @@ module _ {S : Type 0} (answers : Answers S) where
   )
 
 -- whether one of the lines is wrong, with one line more
-wrong_more : (is_such : List ℕ → Bool) (lines : List (List ℕ)) (line : List ℕ) (has_wrong wrong : Bool) → has_wrong ≡ list_any is_such lines
+wrong_more : (is_such : Turn → Bool) (lines : List Turn) (line : Turn) (has_wrong wrong : Bool) → has_wrong ≡ list_any is_such lines
     → wrong ≡ is_such line → (has_wrong || wrong) ≡ list_any is_such (lines ++ line ∷ [])
 wrong_more is_such lines line has_wrong wrong any is =
     rw (any, is) (sym (list_any-append is_such lines (line ∷ []) ∙ ap (λ b. list_any is_such lines || b) (only (is_such line))))
@@ -116,8 +117,8 @@ module _ {S Speaker : Type 0} {answers : Answers S} {wanted : Bool} {told : Spea
   }
 
   -- one line more
-  pub one_replied : {lines : List (List ℕ)} {before after : S} {mid_out new : Option (List ℕ)} {now end : Speaker}
-      {so_far conversed : Conversed} {of : Said} (line : List ℕ)
+  pub one_replied : {lines : List Turn} {before after : S} {mid_out new : Option (List ℕ)} {now end : Speaker}
+      {so_far conversed : Conversed} {of : Said} (line : Turn)
       → AreReplied answers wanted told initial old speaker lines before mid_out now so_far
       → IsNextReply answers wanted told of before after mid_out new now end so_far conversed
       → saying of ≡ saying_in answers.forgets line → KeepsFault answers.forgets line of

@@ -1,10 +1,10 @@
 -- What a line says where events are forgotten follows from what it says where they are kept.
-use Rattle.std.proofs.Common.{◌≡◌, ◌∙◌, ℕ, Bool, true, false, List, refl, sym, ap}
-use Rattle.std.specs.Prelude.{if◌then◌else◌}
+use Rattle.std.proofs.Common.{◌≡◌, ◌∙◌, ℕ, Bool, true, false, refl, sym, ap}
+use Rattle.std.specs.Prelude.{Option, if◌then◌else◌}
 use Rattle.htl_command.specs.Needs.{needs_events}
 use Rattle.htl_dialogue.specs.Dialogues.{is_end}
 use Rattle.htl_dialogue.specs.Replying.{KeepsFault}
-use Rattle.htl_dialogue.specs.Sayings.{Saying, asks, heard, nothing, quits, reads, saying, saying_in, saying_of, wrong}
+use Rattle.htl_dialogue.specs.Sayings.{Saying, Turn, asks, heard, nothing, quits, reads, saying, saying_in, saying_of, used, uses, wrong}
 use Rattle.htl_dialogue.specs.declared.saying.Said.{Said}
 use Rattle.htl_dialogue.specs.declared.saying.Said.TheVariants as said
 
@@ -17,21 +17,42 @@ same_end true (asks job) = go (needs_events job)
     go true = refl
     go false = refl
 same_end true (reads files) = refl
+same_end true (uses process) = refl
 same_end true nothing = refl
 same_end true quits = refl
 same_end true wrong = refl
 
+-- and the same process is used after a line
+same_use : (forgets : Bool) (before : Option ℕ) (said : Saying) → used before (heard forgets said) ≡ used before said
+same_use false before said = refl
+same_use true before (asks job) = go (needs_events job)
+  where
+    go : (b : Bool) → used before (if b then wrong else asks job) ≡ before
+    go true = refl
+    go false = refl
+same_use true before (reads files) = refl
+same_use true before (uses process) = refl
+same_use true before nothing = refl
+same_use true before quits = refl
+same_use true before wrong = refl
+
+-- what is said of a line uses the process that the line does
+pub use_of_line : (forgets : Bool) (before : Option ℕ) (line : Turn) (of : Said) → saying of ≡ saying_in forgets line
+    → used before (saying of) ≡ used before (saying_of line)
+use_of_line forgets before line of same = ap (used before) same ∙ same_use forgets before (saying_of line)
+
 -- what is said of a line ends the dialogue where the line does
-pub end_of_line : (forgets : Bool) (line : List ℕ) (of : Said) → saying of ≡ saying_in forgets line
+pub end_of_line : (forgets : Bool) (line : Turn) (of : Said) → saying of ≡ saying_in forgets line
     → is_end (saying_of line) ≡ is_end (saying of)
 end_of_line forgets line of same = same_end forgets (saying_of line) ∙ ap is_end (sym same)
 
 -- the fault of what is said of a line stays its fault
-pub fault_stays : (forgets : Bool) (line : List ℕ) (of : Said) → saying of ≡ saying_of line → KeepsFault false line of
+pub fault_stays : (forgets : Bool) (line : Turn) (of : Said) → saying of ≡ saying_of line → KeepsFault false line of
     → KeepsFault forgets line of
 fault_stays false line of same keeps = keeps
 fault_stays true line said.Nothing same keeps = keeps
 fault_stays true line said.Quits same keeps = keeps
 fault_stays true line (said.Asks job) same keeps = keeps
 fault_stays true line (said.Reads files) same keeps = keeps
+fault_stays true line (said.Uses process) same keeps = keeps
 fault_stays true line (said.Wrong fault) same keeps = (keeps.0, rw (← same) keeps.1)

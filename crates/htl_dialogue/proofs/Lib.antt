@@ -5,6 +5,7 @@ pub mod NextLines
 pub mod Noting
 pub mod Hearing
 pub mod Named
+pub mod Turning
 pub mod Exchanging
 pub mod Conversing
 pub mod Stopping

@@ -1,8 +1,8 @@
--- The names of files among arguments, of the texts themselves and of what holds them.
+-- What is found among arguments is the same of the texts themselves and of what holds them: names of files, and whether one passes a test.
 use Rattle.std.proofs.Common.{◌≡◌, ◌∙◌, ◌+◌, ℕ, suc, Bool, List, [], ◌∷◌, map, refl, sym, ap, length, take, drop}
 use Rattle.std.proofs.lemmas.List.{drop-map, length-map, map-append, take-map}
-use Rattle.std.specs.List.{position, position_or_len, remove}
-use Rattle.std.specs.Prelude.{None, Some, cond, nat_lt, not}
+use Rattle.std.specs.List.{list_any, position, position_or_len, remove}
+use Rattle.std.specs.Prelude.{◌||◌, None, Some, cond, nat_lt, not}
 use Rattle.htl_dialogue.specs.Sayings.{before_files, ends_options, names_among}
 
 place_of_texts : {X : Type 0} (text_of : X → List ℕ) (test : List ℕ → Bool) (xs : List X)
@@ -17,6 +17,12 @@ position_of_texts text_of test xs =
     ap (λ n. cond (nat_lt n (length xs)) (Some n) None) (place_of_texts text_of test xs)
     ∙ ap (λ n. cond (nat_lt (position_or_len test (map text_of xs)) n) (Some (position_or_len test (map text_of xs))) None)
     (sym (length-map xs text_of))
+
+-- one of them passes where one of the texts does
+pub any_of_texts : {X : Type 0} (text_of : X → List ℕ) (test : List ℕ → Bool) (xs : List X)
+    → list_any (λ x. test (text_of x)) xs ≡ list_any test (map text_of xs)
+any_of_texts text_of test [] = refl
+any_of_texts text_of test (x ∷ xs) = ap (λ b. test (text_of x) || b) (any_of_texts text_of test xs)
 
 pub before_some : {X : Type 0} (text_of : X → List ℕ) (xs : List X) (n : ℕ) → position ends_options (map text_of xs) ≡ Some n
     → map text_of (take n xs) ≡ before_files (map text_of xs)

@@ -6,7 +6,7 @@ use Rattle.htl_command.specs.declared.question.Job.{Job}
 use Rattle.htl_inputs.specs.declared.fault.RunFault.{RunFault}
 use Rattle.htl_dialogue.specs.Dialogues.{Answers, AreExchanges, Converses, GotAt, IsReplied, DialogueStops, asked_lines}
 use Rattle.htl_dialogue.specs.Notes.{AreTold, AreToldOf, IsFaultOf, OwnNote}
-use Rattle.htl_dialogue.specs.Sayings.{Saying, asks, nothing, quits, reads, saying_in, wrong}
+use Rattle.htl_dialogue.specs.Sayings.{Saying, Turn, asks, nothing, quits, reads, saying_in, uses, wrong}
 use Rattle.htl_dialogue.specs.declared.dialogue.Conversed.{Conversed}
 use Rattle.htl_dialogue.specs.declared.dialogue.DialogueFault.{DialogueFault}
 use Rattle.htl_dialogue.specs.declared.dialogue.DialogueFault.TheVariants.{Questions, Write, NoMemory}
@@ -33,6 +33,7 @@ module _ {A B : Type 0} (one : Answers A) (other : Answers B) (alike : one.forge
   replied_too IsWhy a b (reads files) after reply notes follows is =
       let then = reads_too a b files after is.0 follows is.1 in (then.0, then.1, (is.0, then.2, is.2, is.3))
   replied_too IsWhy a b wrong after reply notes follows is = (b, rw (is.0) follows, (refl, is.1, is.2))
+  replied_too IsWhy a b (uses process) after reply notes follows is = (b, rw (is.0) follows, (refl, is.1, is.2))
   replied_too IsWhy a b nothing after reply notes follows is = (b, rw (is.0) follows, (refl, is.1, is.2))
   replied_too IsWhy a b quits after reply notes follows is = (b, rw (is.0) follows, (refl, is.1, is.2))
 
@@ -48,11 +49,12 @@ module _ {A B : Type 0} (one : Answers A) (other : Answers B) (alike : one.forge
       → AreTold other.has_table (other.has_outcome b) (other.has_absence b) wanted said notes
   told_too wanted a b (asks job) notes follows is = told_of_too wanted a b job notes follows is
   told_too wanted a b (reads files) notes follows is = is
+  told_too wanted a b (uses process) notes follows is = is
   told_too wanted a b wrong notes follows is = is
   told_too wanted a b nothing notes follows is = is
   told_too wanted a b quits notes follows is = is
 
-  exchanges_too : (wanted : Bool) (a : A) (b : B) (lines : List (List ℕ)) (after : A) (replies : List ℕ) (notes : List OwnNote)
+  exchanges_too : (wanted : Bool) (a : A) (b : B) (lines : List Turn) (after : A) (replies : List ℕ) (notes : List OwnNote)
       → Follows a b → AreExchanges one wanted a lines after replies notes
       → (there : B) × Follows after there × AreExchanges other wanted b lines there replies notes
   exchanges_too wanted a b [] after replies notes follows are = (b, rw (are.0) follows, (refl, are.1, are.2))
@@ -97,7 +99,7 @@ module _ {A B : Type 0} (one : Answers A) (other : Answers B) (alike : one.forge
         first = is.first;
       }
 
-  got_too : (a : A) (b : B) (failed : Bool) (Got : List ℕ → List OwnNote → Type 0) (fault : DialogueFault) (later : List (List ℕ))
+  got_too : (a : A) (b : B) (failed : Bool) (Got : List ℕ → List OwnNote → Type 0) (fault : DialogueFault) (later : List Turn)
       (replies : List ℕ) (notes : List OwnNote) → Follows a b → GotAt one a failed Got fault later replies notes
       → GotAt other b failed Got fault later replies notes
   got_too a b failed Got Questions later replies notes follows is = is

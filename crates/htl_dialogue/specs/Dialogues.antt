@@ -1,7 +1,8 @@
 -- What a dialogue writes, and what its speaker is told (this project's own): the reply to one line after the other, up to the one that
 -- ends it. Who answers may change: files that a line names are read, and the lines after it are answered from these too.
 use Rattle.std.specs.Prelude.{◌≡◌, ◌⊎◌, ℕ, Bool, true, false, List, [], ◌∷◌, ◌++◌, Option, Some, if◌then◌else◌, take}
-use Rattle.std.specs.Prelude.{Result, Ok, Err}
+use Rattle.std.specs.Prelude.{None, Result, Ok, Err, codes}
+use Rattle.std.specs.Fmt.{decimal}
 use Rattle.std.specs.List.{list_any}
 use Rattle.std.specs.Io.KnownBytes.{Appends, Consumes}
 use Rattle.htl_command.specs.declared.fault.ParseFault.{ParseFault}
@@ -9,7 +10,8 @@ use Rattle.htl_command.specs.declared.question.Job.{Job}
 use Rattle.htl_inputs.specs.declared.fault.RunFault.{RunFault}
 use Rattle.htl_dialogue.specs.Lines.{lines_of_dialogue}
 use Rattle.htl_dialogue.specs.Notes.{AreTold, IsFaultOf, OwnNote, after_notes, declined, first_fault}
-use Rattle.htl_dialogue.specs.Sayings.{Saying, nothing, quits, asks, reads, wrong, saying_in, saying_of}
+use Rattle.htl_dialogue.specs.Sayings.{Saying, nothing, quits, asks, reads, uses, wrong, saying_in, saying_of}
+use Rattle.htl_dialogue.specs.Sayings.{Turn, lines_in, turns_of}
 use Rattle.htl_dialogue.specs.declared.dialogue.Conversed.{Conversed}
 use Rattle.htl_dialogue.specs.declared.dialogue.DialogueFault.{DialogueFault}
 use Rattle.htl_dialogue.specs.declared.dialogue.DialogueFault.TheVariants.{Questions, Write, NoMemory}
@@ -50,6 +52,11 @@ abbrev pub reading_reply : Result Added Refused → List ℕ
 reading_reply (Ok added) = added_text added ++ 10 ∷ (10 ∷ [])
 reading_reply (Err refused) = 10 ∷ []
 
+-- the reply to a process that is used from here on, or to none: it says so
+abbrev pub using_reply : Option ℕ → List ℕ
+using_reply (Some process) = codes "using process=" ++ (decimal process ++ 10 ∷ (10 ∷ []))
+using_reply None = codes "using process=none" ++ 10 ∷ (10 ∷ [])
+
 -- What becomes of what a line says, up to its reply: the state that it leads to, the reply, and the notes before it. A question gets the
 -- text of its answer and a line feed; a wrong line, or a question that isn't answered, the line feed alone; and a line that says nothing
 -- gets nothing. Why a line is wrong, or isn't answered, is given first.
@@ -62,11 +69,12 @@ IsReplied answers IsWhy before (reads files) after reply notes =
     × (notes ≡ hear.Reads files ended ∷ [])
 IsReplied answers IsWhy before wrong after reply notes =
     (after ≡ before) × (reply ≡ 10 ∷ []) × ((fault : ParseFault) × IsWhy fault × (notes ≡ hear.Refuses fault ∷ []))
+IsReplied answers IsWhy before (uses process) after reply notes = (after ≡ before) × (reply ≡ using_reply process) × (notes ≡ [])
 IsReplied answers IsWhy before nothing after reply notes = (after ≡ before) × (reply ≡ []) × (notes ≡ [])
 IsReplied answers IsWhy before quits after reply notes = (after ≡ before) × (reply ≡ []) × (notes ≡ [])
 
 -- A line is awaited and got its reply, with these notes before it and after it.
-pub record IsExchange {S : Type 0} (answers : Answers S) (wanted : Bool) (before : S) (line : List ℕ) (after : S) (reply : List ℕ)
+pub record IsExchange {S : Type 0} (answers : Answers S) (wanted : Bool) (before : S) (line : Turn) (after : S) (reply : List ℕ)
     (notes : List OwnNote) : Type 0 where
   pub early : List OwnNote
   pub late : List OwnNote
@@ -76,7 +84,7 @@ pub record IsExchange {S : Type 0} (answers : Answers S) (wanted : Bool) (before
   pub all : notes ≡ hear.Awaits ∷ (early ++ late)
 
 -- Lines got their replies, one after the other.
-abbrev pub AreExchanges : {S : Type 0} → Answers S → Bool → S → List (List ℕ) → S → List ℕ → List OwnNote → Type 0
+abbrev pub AreExchanges : {S : Type 0} → Answers S → Bool → S → List Turn → S → List ℕ → List OwnNote → Type 0
 AreExchanges answers wanted before [] after replies notes = (after ≡ before) × (replies ≡ []) × (notes ≡ [])
 AreExchanges {S = S} answers wanted before (line ∷ more) after replies notes =
     (between : S) × (reply later : List ℕ) × (own rest : List OwnNote) × IsExchange answers wanted before line between reply own
@@ -91,17 +99,21 @@ is_wrong wrong = true
 is_wrong other = false
 
 -- the lines before the first that ends the dialogue
-abbrev pub before_end : List (List ℕ) → List (List ℕ)
+abbrev pub before_end : List Turn → List Turn
 before_end [] = []
 before_end (line ∷ more) = if is_end (saying_of line) then [] else line ∷ before_end more
 
+-- The lines of a text where they stand. Before the first no process is used.
+abbrev pub turns_in : List ℕ → List Turn
+turns_in text = turns_of None (lines_of_dialogue text)
+
 -- The lines of a text that get a reply.
-abbrev pub asked_lines : List ℕ → List (List ℕ)
-asked_lines text = before_end (lines_of_dialogue text)
+abbrev pub asked_lines : List ℕ → List Turn
+asked_lines text = before_end (turns_in text)
 
 -- one line more is awaited, where it ends the dialogue
 abbrev pub last_wait : List ℕ → List OwnNote
-last_wait text = if list_any (λ line. is_end (saying_of line)) (lines_of_dialogue text) then hear.Awaits ∷ [] else []
+last_wait text = if list_any (λ line. is_end (saying_of line)) (turns_in text) then hear.Awaits ∷ [] else []
 
 -- the known bytes of a sink got these replies, and a speaker these notes
 abbrev pub Gets : {Speaker : Type 0} → Option (List ℕ) → Option (List ℕ) → (Speaker → OwnNote → Speaker) → Speaker → Speaker → List ℕ
@@ -122,7 +134,7 @@ pub record Converses {S : Type 0} (answers : Answers S) (wanted : Bool) (before 
 
 -- What was written and told where a fault ends the replies. Where a reply could not be written, some first part of it was, after the
 -- notes before it. Before another fault one line more was awaited; or none, if no read failed.
-abbrev pub GotAt : {S : Type 0} → Answers S → S → Bool → (List ℕ → List OwnNote → Type 0) → DialogueFault → List (List ℕ) → List ℕ
+abbrev pub GotAt : {S : Type 0} → Answers S → S → Bool → (List ℕ → List OwnNote → Type 0) → DialogueFault → List Turn → List ℕ
     → List OwnNote → Type 0
 GotAt answers state failed Got Write [] replies notes = ⊥
 GotAt {S = S} answers state failed Got Write (line ∷ more) replies notes =
@@ -135,15 +147,15 @@ GotAt answers state failed Got NoMemory later replies notes =
     Got replies (notes ++ hear.Awaits ∷ []) ⊎ ((failed ≡ false) × Got replies notes)
 
 -- These are the lines that were read to their line feeds, of a text of which this is left.
-abbrev pub AreRead : List ℕ → Option (List ℕ) → List (List ℕ) → Type 0
-AreRead text left lines = (read begun : List ℕ) × Consumes (Some text) left read × (lines_of_dialogue read ≡ lines ++ begun ∷ [])
+abbrev pub AreRead : List ℕ → Option (List ℕ) → List Turn → Type 0
+AreRead text left lines = (read begun : List ℕ) × Consumes (Some text) left read × (lines_of_dialogue read ≡ lines_in lines ++ begun ∷ [])
 
 -- A fault ends the dialogue: the lines before it got their replies. Where a read failed, these are all lines that were read, so that no
 -- line waits for its reply while the next is read, and nothing is read after a line that ends the dialogue.
 pub record DialogueStops {S : Type 0} (answers : Answers S) (wanted : Bool) (before : S) (text : List ℕ) (left : Option (List ℕ))
     (failed : Bool) (Got : List ℕ → List OwnNote → Type 0) (fault : DialogueFault) : Type 0 where
-  pub earlier : List (List ℕ)
-  pub later : List (List ℕ)
+  pub earlier : List Turn
+  pub later : List Turn
   pub cut : asked_lines text ≡ earlier ++ later
   pub state : S
   pub replies : List ℕ

@@ -2,16 +2,19 @@
 use Rattle.std.specs.Prelude.{◌≡◌, ◌≢◌, ◌&&◌, ⊤, not, ℕ, Bool, true, false, List, [], ◌∷◌, Option, None, Some, Result, Ok, Err}
 use Rattle.std.specs.Prelude.{String, map, string_bytes}
 use Rattle.std.specs.Borrow.{Bor}
+use Rattle.htl_command.specs.Helps.{IsHelp}
 use Rattle.htl_command.specs.Refusals.{IsUsageWith, RefusesQuestion}
 use Rattle.htl_command.specs.declared.fault.ParseFault.{ParseFault}
 use Rattle.htl_command.specs.declared.fault.ParseFault.TheVariants.{Memory}
 use Rattle.htl_command.specs.declared.question.Job.{Job}
 use Rattle.htl_inputs.specs.declared.fault.RunFault.{RunFault}
 use Rattle.htl_dialogue.specs.Lines.{arguments_of}
-use Rattle.htl_dialogue.specs.Sayings.{Saying, asks_forgotten, is_read, is_readable, meant, saying_of}
-use Rattle.htl_dialogue.specs.Sayings.{nothing, quits, asks, reads, wrong}
+use Rattle.htl_dialogue.specs.Sayings.{Saying, Turn, asks_forgotten, is_readable, meant, saying_of, sort_of, with_process}
+use Rattle.htl_dialogue.specs.Sayings.{nothing, quits, asks, reads, uses, wrong}
 use Rattle.htl_dialogue.specs.declared.note.Note.{Note}
 use Rattle.htl_dialogue.specs.declared.note.Note.TheVariants as hear
+use Rattle.htl_dialogue.specs.declared.sorting.Sort.{Sort}
+use Rattle.htl_dialogue.specs.declared.sorting.Sort.TheVariants as sort
 use Rattle.htl_main.specs.declared.completed.Absence.{Absence}
 use Rattle.htl_main.specs.declared.printing.AnswerText.{AnswerText}
 use Rattle.htl_main.specs.declared.remarks.Remarks.{Remarks}
@@ -40,21 +43,30 @@ first_fault (hear.Reads files (Err refused) ∷ more) = Some refused.fault
 first_fault (hear.Declines fault ∷ more) = Some fault
 first_fault (other ∷ more) = first_fault more
 
--- why arguments are wrong: since they are no question (`true`), or for another reason (`false`)
-abbrev pub IsFaultIn : Bool → List (List ℕ) → ParseFault → Type 0
-IsFaultIn true arguments fault = RefusesQuestion (meant arguments) fault
-IsFaultIn false arguments fault = IsUsageWith ⊤ fault
+-- why arguments of a sort are wrong where this process is used: they ask for no job, or for the help of a word; or the word `read` stands
+-- without files or before an option (`reading` says when), or the word `use` before what is no process (`using` does)
+abbrev pub IsFaultAs : Sort → Option ℕ → List (List ℕ) → ParseFault → Type 0
+IsFaultAs sort.Question process arguments fault = RefusesQuestion (meant (with_process process arguments)) fault
+IsFaultAs sort.Help process arguments fault = IsHelp fault
+IsFaultAs sort.Files process arguments fault = IsUsageWith ⊤ fault
+IsFaultAs sort.Process process arguments fault = IsUsageWith ⊤ fault
+IsFaultAs sort.Farewell process arguments fault = IsUsageWith ⊤ fault
+IsFaultAs sort.Nothing process arguments fault = IsUsageWith ⊤ fault
 
--- why arguments are wrong: they ask for no job, or the word `read` stands without files or before an option (`reading` says when)
-abbrev pub IsFaultBy : List (List ℕ) → ParseFault → Type 0
-IsFaultBy arguments fault = IsFaultIn (not (is_read arguments)) arguments fault
+abbrev pub IsFaultBy : Option ℕ → List (List ℕ) → ParseFault → Type 0
+IsFaultBy process arguments fault = IsFaultAs (sort_of arguments) process arguments fault
+
+-- the same of arguments that count (`true`), and of others
+abbrev pub IsFaultIn : Bool → Option ℕ → List (List ℕ) → ParseFault → Type 0
+IsFaultIn true process arguments fault = IsFaultBy process arguments fault
+IsFaultIn false process arguments fault = IsUsageWith ⊤ fault
 
 -- Why a line is wrong in a dialogue that forgets events, or keeps them. It is not that memory was refused: its arguments are wrong, or it
 -- has none, or it asks what needs events that are forgotten.
-abbrev pub IsFaultOf : Bool → List ℕ → ParseFault → Type 0
-IsFaultOf forgets line fault =
-    (fault ≢ Memory) × IsFaultIn (not (asks_forgotten forgets (saying_of line)) && (is_readable line && not (is_read (arguments_of line))))
-    (arguments_of line) fault
+abbrev pub IsFaultOf : Bool → Turn → ParseFault → Type 0
+IsFaultOf forgets turn fault =
+    (fault ≢ Memory)
+    × IsFaultIn (not (asks_forgotten forgets (saying_of turn)) && is_readable turn.line) turn.process (arguments_of turn.line) fault
 
 -- the note before the reply to a question: why it isn't answered
 abbrev pub declined : Result AnswerText RunFault → List OwnNote
@@ -85,4 +97,5 @@ AreTold has_table HasOutcome HasAbsence wanted (asks job) notes = AreToldOf has_
 AreTold has_table HasOutcome HasAbsence wanted nothing notes = notes ≡ []
 AreTold has_table HasOutcome HasAbsence wanted quits notes = notes ≡ []
 AreTold has_table HasOutcome HasAbsence wanted (reads files) notes = notes ≡ []
+AreTold has_table HasOutcome HasAbsence wanted (uses process) notes = notes ≡ []
 AreTold has_table HasOutcome HasAbsence wanted wrong notes = notes ≡ []

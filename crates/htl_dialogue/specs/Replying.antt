@@ -10,7 +10,7 @@ use Rattle.htl_command.specs.declared.question.Job.{Job}
 use Rattle.htl_inputs.specs.declared.fault.RunFault.{RunFault}
 use Rattle.htl_dialogue.specs.Dialogues.{Answers, IsReplied, is_wrong}
 use Rattle.htl_dialogue.specs.Notes.{AreTold, AreToldOf, IsFaultOf, OwnNote, after_notes, first_fault}
-use Rattle.htl_dialogue.specs.Sayings.{saying}
+use Rattle.htl_dialogue.specs.Sayings.{Turn, saying}
 use Rattle.htl_dialogue.specs.declared.dialogue.Conversed.{Conversed}
 use Rattle.htl_dialogue.specs.declared.dialogue.DialogueFault.{DialogueFault}
 use Rattle.htl_dialogue.specs.declared.dialogue.DialogueFault.TheVariants.{Questions, Write, NoMemory}
@@ -39,13 +39,14 @@ HasFault IsSuch said.Nothing = ⊤
 HasFault IsSuch said.Quits = ⊤
 HasFault IsSuch (said.Asks job) = ⊤
 HasFault IsSuch (said.Reads files) = ⊤
+HasFault IsSuch (said.Uses process) = ⊤
 
 -- where a line is wrong, its fault is such a one, and isn't that memory was refused
 abbrev pub HasReason : (ParseFault → Type 0) → Said → Type 0
 HasReason IsSuch = HasFault (λ fault. (fault ≢ Memory) × IsSuch fault)
 
 -- where the line is wrong in a dialogue that forgets events, or keeps them, its fault is one of this line
-abbrev pub KeepsFault : Bool → List ℕ → Said → Type 0
+abbrev pub KeepsFault : Bool → Turn → Said → Type 0
 KeepsFault forgets line = HasFault (IsFaultOf forgets line)
 
 -- where a line is wrong, its fault is this one

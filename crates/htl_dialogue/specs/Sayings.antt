@@ -1,22 +1,29 @@
--- What a line says (this project's own): a question, or that files are read, or that the dialogue ends, or nothing; or it is wrong.
-use Rattle.std.specs.Prelude.{ℕ, ◌&&◌, ◌||◌, ◌==◌, Bool, true, false, not, List, [], ◌∷◌, codes, if◌then◌else◌, length, map, nat_le}
-use Rattle.std.specs.Prelude.{string_bytes, take}
-use Rattle.std.specs.List.{list_all, list_any, position, remove}
+-- What a line says (this project's own): a question, or that files are read or a process is used, or that the dialogue ends, or nothing;
+-- or it is wrong.
+use Rattle.std.specs.Prelude.{ℕ, ◌&&◌, ◌||◌, ◌==◌, ◌++◌, Bool, true, false, not, List, [], ◌∷◌, Option, None, Some, codes, if◌then◌else◌}
+use Rattle.std.specs.Prelude.{length, map, nat_eq, nat_le, string_bytes, take}
+use Rattle.std.specs.Fmt.{decimal}
+use Rattle.std.specs.List.{insert, list_all, list_any, position, remove, starts_with}
 use Rattle.std.specs.Option.{option_map_or}
 use Rattle.std.specs.Str.{bytes_eq, is_utf8}
 use Rattle.htl_command.specs.Needs.{needs_events}
+use Rattle.htl_command.specs.Processes.{takes_process}
 use Rattle.htl_command.specs.Requests.{asked_in}
+use Rattle.htl_command.specs.Values.{process_in}
 use Rattle.htl_command.specs.declared.question.Job.{Job}
 use Rattle.htl_dialogue.specs.Lines.{arguments_of, ends_quoted}
 use Rattle.htl_dialogue.specs.declared.line.TheConstants.{MAX_LINE_LEN}
 use Rattle.htl_dialogue.specs.declared.saying.Said.{Said}
 use Rattle.htl_dialogue.specs.declared.saying.Said.TheVariants as said
+use Rattle.htl_dialogue.specs.declared.sorting.Sort.{Sort}
+use Rattle.htl_dialogue.specs.declared.sorting.Sort.TheVariants as sort
 
 pub data Saying : Type 0 where
   nothing : Saying
   quits : Saying
   asks : Job → Saying
   reads : List (List ℕ) → Saying
+  uses : Option ℕ → Saying
   wrong : Saying
 
 -- `quit`, or a word that debuggers and shells have for it
@@ -40,6 +47,31 @@ meant arguments = if is_help_sign arguments then codes "help" ∷ [] else argume
 abbrev pub is_read : List (List ℕ) → Bool
 is_read [] = false
 is_read (first ∷ more) = bytes_eq first (codes "read")
+
+-- the first word is `use`
+abbrev pub is_use : List (List ℕ) → Bool
+is_use [] = false
+is_use (first ∷ more) = bytes_eq first (codes "use")
+
+-- a word of a dialogue that is no question
+abbrev pub is_word : List ℕ → Bool
+is_word word = bytes_eq word (codes "read") || (bytes_eq word (codes "use") || is_farewell word)
+
+abbrev pub is_help_option : List ℕ → Bool
+is_help_option word = bytes_eq word (codes "--help") || bytes_eq word (codes "-h")
+
+-- help of such a word is asked for, by `help` before it or by an option behind it
+abbrev pub asks_help : List (List ℕ) → Bool
+asks_help (first ∷ (second ∷ [])) = (bytes_eq first (codes "help") && is_word second) || (is_word first && is_help_option second)
+asks_help arguments = false
+
+-- what arguments are for, by their words
+abbrev pub sort_of : List (List ℕ) → Sort
+sort_of [] = sort.Nothing
+sort_of (first ∷ more) =
+    if is_quit (first ∷ more) then sort.Farewell
+    else (if asks_help (first ∷ more) then sort.Help
+    else (if is_read (first ∷ more) then sort.Files else (if is_use (first ∷ more) then sort.Process else sort.Question)))
 
 -- the argument begins as an option does: `-` alone is the name of a file
 abbrev pub is_option : List ℕ → Bool
@@ -69,24 +101,78 @@ abbrev pub reading : List (List ℕ) → Saying
 reading [] = wrong
 reading (word ∷ more) = if list_any is_option (before_files more) then wrong else reads_some (names_among more)
 
+-- what is said by the name of a process, or by `none`
+abbrev pub using_named : List ℕ → Saying
+using_named name =
+    if bytes_eq name (codes "none") then uses None else option_map_or (λ process. uses (Some process)) (process_in name) wrong
+
+-- what a line says that uses a process, where this one was used before it: the word alone stays with that
+abbrev pub using : Option ℕ → List (List ℕ) → Saying
+using before (word ∷ []) = uses before
+using before (word ∷ (name ∷ [])) = using_named name
+using before arguments = wrong
+
+-- the argument names a process: the option, whose value follows, or the option with its value
+abbrev pub names_process : List ℕ → Bool
+names_process argument = bytes_eq argument (codes "--process") || starts_with nat_eq argument (codes "--process=")
+
+-- the arguments ask about a process, and name none
+abbrev pub lacks_process : List (List ℕ) → Bool
+lacks_process [] = false
+lacks_process (word ∷ more) = takes_process word && not (list_any names_process more)
+
+abbrev pub process_option : ℕ → List ℕ
+process_option process = codes "--process=" ++ decimal process
+
+-- The arguments with what they mean where this process is used: it stands behind the word of a question about a process that names none.
+unfoldable pub with_process : Option ℕ → List (List ℕ) → List (List ℕ)
+with_process None arguments = arguments
+with_process (Some process) arguments = if lacks_process arguments then insert arguments 1 (process_option process) else arguments
+
 -- what a question says
 abbrev pub asking : List (List ℕ) → Saying
 asking arguments = option_map_or (λ job. asks job) (asked_in (meant arguments)) wrong
 
--- what arguments say
-abbrev pub saying_by : List (List ℕ) → Saying
-saying_by [] = nothing
-saying_by (first ∷ more) =
-    if is_quit (first ∷ more) then quits
-    else (if is_read (first ∷ more) then reading (first ∷ more) else asking (first ∷ more))
+-- what arguments of a sort say, where this process is used: those that ask for help of a word ask no question
+abbrev pub saying_as : Sort → Option ℕ → List (List ℕ) → Saying
+saying_as sort.Nothing process arguments = nothing
+saying_as sort.Farewell process arguments = quits
+saying_as sort.Help process arguments = wrong
+saying_as sort.Files process arguments = reading arguments
+saying_as sort.Process process arguments = using process arguments
+saying_as sort.Question process arguments = asking (with_process process arguments)
+
+abbrev pub saying_by : Option ℕ → List (List ℕ) → Saying
+saying_by process arguments = saying_as (sort_of arguments) process arguments
+
+-- A line where it stands in a dialogue: which process is used there, if one is.
+pub record Turn : Type 0 where
+  pub process : Option ℕ
+  pub line : List ℕ
+
+abbrev pub turn : Option ℕ → List ℕ → Turn
+turn process line = record { process = process; line = line }
+
+abbrev pub lines_in : List Turn → List (List ℕ)
+lines_in turns = map (λ t. t.line) turns
 
 -- a line can be read: it isn't too long, each quote is ended, and each argument is a text
 abbrev pub is_readable : List ℕ → Bool
 is_readable line = nat_le (length line) MAX_LINE_LEN && (not (ends_quoted false line) && list_all is_utf8 (arguments_of line))
 
--- What a line says.
-unfoldable pub saying_of : List ℕ → Saying
-saying_of line = if is_readable line then saying_by (arguments_of line) else wrong
+-- What a line says where it stands.
+unfoldable pub saying_of : Turn → Saying
+saying_of turn = if is_readable turn.line then saying_by turn.process (arguments_of turn.line) else wrong
+
+-- the process that is used after what was said
+abbrev pub used : Option ℕ → Saying → Option ℕ
+used before (uses process) = process
+used before other = before
+
+-- Lines one after the other, each with the process that is used there: what the last line before it says that uses one.
+abbrev pub turns_of : Option ℕ → List (List ℕ) → List Turn
+turns_of process [] = []
+turns_of process (line ∷ more) = turn process line ∷ turns_of (used process (saying_of (turn process line))) more
 
 -- the line asks what needs events, and the dialogue forgets them
 abbrev pub asks_forgotten : Bool → Saying → Bool
@@ -99,8 +185,8 @@ abbrev pub heard : Bool → Saying → Saying
 heard forgets said = if asks_forgotten forgets said then wrong else said
 
 -- What a line says in a dialogue that forgets events, or keeps them.
-abbrev pub saying_in : Bool → List ℕ → Saying
-saying_in forgets line = heard forgets (saying_of line)
+abbrev pub saying_in : Bool → Turn → Saying
+saying_in forgets turn = heard forgets (saying_of turn)
 
 -- what a line says, of the program's own type
 abbrev pub saying : Said → Saying
@@ -108,4 +194,5 @@ saying said.Nothing = nothing
 saying said.Quits = quits
 saying (said.Asks job) = asks job
 saying (said.Reads files) = reads (map string_bytes files.items)
+saying (said.Uses process) = uses process
 saying (said.Wrong fault) = wrong

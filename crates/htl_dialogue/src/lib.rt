@@ -3,9 +3,10 @@
 //! answers.
 //!
 //! Files, in reading order: `line.rt` and `reading.rt` (the lines of a source, as they come),
-//! `splitting.rt` (the arguments of a line), `saying.rt` (what a line says), `note.rt` and
-//! `speaker.rt` (what is heard beside the replies, and by whom), `dialogue.rt` (how a dialogue went,
-//! and why it ends early), `laws.rt` (the bound of a line).
+//! `splitting.rt` (the arguments of a line), `sorting.rt` (what they are for), `naming.rt` (the
+//! process that they name), `saying.rt` (what a line says), `note.rt` and `speaker.rt` (what is heard
+//! beside the replies, and by whom), `dialogue.rt` (how a dialogue went, and why it ends early),
+//! `laws.rt` (the bound of a line).
 //!
 //! In `proofs/`, `Conversing` and `Stopping` show how far a dialogue has come, line by line, and
 //! `Simulated` that what is said of one who answers is said of another whose states follow.
@@ -14,9 +15,11 @@
 mod dialogue;
 pub mod laws;
 mod line;
+mod naming;
 mod note;
 mod reading;
 mod saying;
+mod sorting;
 mod speaker;
 mod splitting;
 

@@ -3,20 +3,23 @@
 ghost use Rattle.std.specs.Prelude.{◌≡◌, ◌<◌, ⊤, ℕ, List, IfErr, IfOk, IfSome, Some, false, length, map};
 ghost use Rattle.std.specs.Prelude.{string_bytes};
 ghost use Rattle.std.specs.List.{list_any, position};
+ghost use Rattle.htl_command.specs.Helps.{IsHelp};
 ghost use Rattle.htl_command.specs.Refusals.{IsUsageWith, RefusesQuestion};
 ghost use Rattle.htl_command.specs.Requests.{asked_in};
 ghost use Rattle.htl_dialogue.specs.Reading.{IsLine};
 ghost use Rattle.htl_dialogue.specs.Notes.{IsFaultBy};
 ghost use Rattle.htl_dialogue.specs.Replying.{HasReason, KeepsFault};
 ghost use Rattle.htl_dialogue.specs.Sayings.{asking, asks_forgotten, before_files, ends_options};
-ghost use Rattle.htl_dialogue.specs.Sayings.{is_farewell, is_help_sign, is_option, is_quit, is_read};
-ghost use Rattle.htl_dialogue.specs.Sayings.{meant, names_among, reading, saying, saying_by, saying_in};
-ghost use Rattle.htl_dialogue.specs.Sayings.{saying_of};
+ghost use Rattle.htl_dialogue.specs.Sayings.{is_help_sign, is_option, meant, names_among, reading};
+ghost use Rattle.htl_dialogue.specs.Sayings.{saying, saying_by, saying_in, saying_of, turn, using};
+ghost use Rattle.htl_dialogue.specs.Sayings.{using_named};
 ghost use Rattle.htl_dialogue.specs.Sayings.{wrong as says_wrong};
 
 use crate::line::Line;
+use crate::naming::with_process;
+use crate::sorting::{Sort, sort_of};
 use crate::splitting::{ArgumentFault, arguments};
-use htl_command::{Job, ParseFault, parse_question};
+use htl_command::{Job, ParseFault, parse_process, parse_question};
 use htl_event::NoMemory;
 use std::alloc::Global;
 
@@ -31,19 +34,41 @@ pub enum Said {
     Asks(Job),
     /// Files of these names are to be read.
     Reads(Vec<String>),
+    /// From here on questions that name no process are about this one, if there is one.
+    Uses(Option<u32>),
     /// The line is wrong, for this reason.
     Wrong(ParseFault),
 }
 
-/// What a line says in a dialogue. Where the dialogue forgets events, a question that needs them is
-/// wrong.
-pub fn read_line(alloc: Global, line: &Line, forgets: bool) -> Result<Said, NoMemory>
+impl Said {
+    ghost use Rattle.std.specs.Prelude.{◌≡◌};
+    ghost use Rattle.htl_dialogue.specs.Sayings.{saying, used};
+
+    /// The process that is used after this was said, where this one was used before.
+    pub fn used(&self, before: Option<u32>) -> Option<u32>
+        ensures { result ≡ used before (saying self.now) }
+    {
+        match self {
+            Said::Uses(process) => *process,
+            _ => before,
+        }
+    }
+}
+
+/// What a line says in a dialogue where this process is used. Where the dialogue forgets events, a
+/// question that needs them is wrong.
+pub fn read_line(
+    alloc: Global,
+    line: &Line,
+    process: Option<u32>,
+    forgets: bool,
+) -> Result<Said, NoMemory>
     ensures said { IfOk result (λ said. (bytes : List ℕ) → IsLine bytes line.now
-        → saying said ≡ saying_in forgets bytes) }
+        → saying said ≡ saying_in forgets (turn process bytes)) }
     ensures fault { IfOk result (λ said. (bytes : List ℕ) → IsLine bytes line.now
-        → KeepsFault forgets bytes said) }
+        → KeepsFault forgets (turn process bytes) said) }
 {
-    let said = said_of(alloc, line)?;
+    let said = said_of(alloc, line, process)?;
     if asks_forgotten(&said, forgets) {
         wrong(ParseFault::needs_events(alloc))
     } else {
@@ -63,17 +88,17 @@ fn asks_forgotten(said: &Said, forgets: bool) -> bool
 
 /// What a line says where events are kept.
 #[tactic(auto, unfolding(crate::specs::Sayings::saying_of))]
-fn said_of(alloc: Global, line: &Line) -> Result<Said, NoMemory>
+fn said_of(alloc: Global, line: &Line, process: Option<u32>) -> Result<Said, NoMemory>
     ensures said { IfOk result (λ said. (bytes : List ℕ) → IsLine bytes line.now
-        → saying said ≡ saying_of bytes) }
+        → saying said ≡ saying_of (turn process bytes)) }
     ensures fault { IfOk result (λ said. (bytes : List ℕ) → IsLine bytes line.now
-        → KeepsFault false bytes said) }
+        → KeepsFault false (turn process bytes) said) }
 {
     let Line::Whole(bytes) = line else {
         return wrong(ParseFault::long_line(alloc));
     };
     match arguments(alloc, bytes) {
-        Ok(arguments) => said_by(alloc, arguments),
+        Ok(arguments) => said_by(alloc, arguments, process),
         Err(ArgumentFault::OpenQuote) => wrong(ParseFault::open_quote(alloc)),
         Err(ArgumentFault::NotUtf8) => wrong(ParseFault::no_text(alloc)),
         Err(ArgumentFault::NoMemory) => Err(NoMemory),
@@ -81,26 +106,44 @@ fn said_of(alloc: Global, line: &Line) -> Result<Said, NoMemory>
 }
 
 /// What a line with these arguments says.
-fn said_by(alloc: Global, arguments: Vec<String>) -> Result<Said, NoMemory>
+fn said_by(alloc: Global, arguments: Vec<String>, process: Option<u32>) -> Result<Said, NoMemory>
     ensures said { IfOk result (λ said.
-        saying said ≡ saying_by (map string_bytes arguments.items)) }
-    ensures fault { IfOk result (HasReason (IsFaultBy (map string_bytes arguments.items))) }
+        saying said ≡ saying_by process (map string_bytes arguments.items)) }
+    ensures fault { IfOk result (HasReason (IsFaultBy process (map string_bytes arguments.items))) }
 {
-    if arguments.is_empty() {
-        return Ok(Said::Nothing);
+    match sort_of(&arguments) {
+        Sort::Nothing => Ok(Said::Nothing),
+        Sort::Farewell => Ok(Said::Quits),
+        Sort::Help => wrong(help_of(alloc, &arguments)),
+        Sort::Files => files_of(alloc, arguments),
+        Sort::Process => process_of(alloc, &arguments, process),
+        Sort::Question => {
+            let meant = with_process(alloc, arguments, process)?;
+            said_by_question(alloc, &meant)
+        }
     }
-    if is_quit(&arguments) {
-        return Ok(Said::Quits);
+}
+
+/// The help that arguments ask for.
+fn help_of(alloc: Global, arguments: &[String]) -> ParseFault
+    ensures { IsHelp result }
+{
+    if has_word(arguments, "read") {
+        ParseFault::read_help(alloc)
+    } else if has_word(arguments, "use") {
+        ParseFault::use_help(alloc)
+    } else {
+        ParseFault::quit_help(alloc)
     }
-    if is_read(&arguments) {
-        return files_of(alloc, arguments);
-    }
-    said_by_question(alloc, &arguments)
+}
+
+/// Whether the word is one of the arguments.
+fn has_word(arguments: &[String], word: &str) -> bool {
+    arguments.iter().any(|argument| argument.as_str() == word)
 }
 
 /// The question that the arguments ask, or why they are wrong.
 fn said_by_question(alloc: Global, arguments: &[String]) -> Result<Said, NoMemory>
-    requires some { 0 < length arguments.now }
     ensures said { IfOk result (λ said. saying said ≡ asking (map string_bytes arguments.now)) }
     ensures fault { IfOk result
         (HasReason (RefusesQuestion (meant (map string_bytes arguments.now)))) }
@@ -111,13 +154,30 @@ fn said_by_question(alloc: Global, arguments: &[String]) -> Result<Said, NoMemor
     }
 }
 
-/// Whether the first argument is the word `read`.
-fn is_read(arguments: &[String]) -> bool
-    ensures { result ≡ is_read (map string_bytes arguments.now) }
+/// What a `use` line says, where this process is used before it.
+fn process_of(alloc: Global, arguments: &[String], before: Option<u32>) -> Result<Said, NoMemory>
+    ensures said { IfOk result (λ said.
+        saying said ≡ using before (map string_bytes arguments.now)) }
+    ensures fault { IfOk result (HasReason (IsUsageWith ⊤)) }
 {
-    match arguments.first() {
-        Some(word) => word.as_str() == "read",
-        None => false,
+    match arguments {
+        [_] => Ok(Said::Uses(before)),
+        [_, name] => named_process(alloc, name),
+        _ => wrong(ParseFault::many_processes(alloc)),
+    }
+}
+
+/// What is said by the name of a process, or by `none`.
+fn named_process(alloc: Global, name: &str) -> Result<Said, NoMemory>
+    ensures said { IfOk result (λ said. saying said ≡ using_named name.now) }
+    ensures fault { IfOk result (HasReason (IsUsageWith ⊤)) }
+{
+    if name == "none" {
+        return Ok(Said::Uses(None));
+    }
+    match parse_process(name) {
+        Some(process) => Ok(Said::Uses(Some(process))),
+        None => wrong(ParseFault::no_process(alloc, name)),
     }
 }
 
@@ -192,23 +252,6 @@ fn is_option(argument: &str) -> bool
     ensures { result ≡ is_option argument.now }
 {
     matches!(argument.as_bytes(), [b'-', _, ..])
-}
-
-/// Whether the arguments are a word alone that ends the dialogue.
-fn is_quit(arguments: &[String]) -> bool
-    ensures { result ≡ is_quit (map string_bytes arguments.now) }
-{
-    match arguments {
-        [word] => is_farewell(word),
-        _ => false,
-    }
-}
-
-/// Whether the word is `quit`, `exit` or `q`.
-fn is_farewell(word: &str) -> bool
-    ensures { result ≡ is_farewell word.now }
-{
-    word == "quit" || word == "exit" || word == "q"
 }
 
 /// The job that the arguments ask for.

@@ -242,6 +242,62 @@ read segments=1 new=0 complete_to=7 gaps=0
 }
 
 #[test]
+fn a_process_is_used_in_a_dialogue(rt: HostRuntime) {
+    let line = Line {
+        words: &["ask", "first", "second"],
+        input: "\
+use
+use 4
+bad
+bad --process 5
+use 5
+use
+bad --top 1
+use five
+use 4 5
+bad
+use none
+bad
+bad --process 4
+help use
+",
+        status: 2,
+        printed: "\
+using process=none
+
+using process=4
+
+bad process=4 count=1
+BAD REF handle=0x45 times=1
+  0x0000000000000030
+
+bad process=5 count=0
+
+using process=5
+
+using process=5
+
+bad process=5 count=0
+
+
+
+bad process=5 count=0
+
+using process=none
+
+
+bad process=4 count=1
+BAD REF handle=0x45 times=1
+  0x0000000000000030
+
+
+",
+        ..LINE
+    };
+    is_obeyed(&rt, rt.alloc(), &line);
+}
+
+#[test]
 fn files_are_folded_in_a_dialogue(rt: HostRuntime) {
     let line = Line {
         words: &["ask", "--fold", "--symbols", "symbols", "first", "second"],

@@ -5,7 +5,7 @@ use Rattle.std.proofs.KnownBytes.{prepend_known-nil}
 use Rattle.std.proofs.lemmas.Result.{err_from_is_err_and}
 use Rattle.htl_device.specs.declared.whole.TheConstants.{MAX_READS}
 use Rattle.htl_dialogue.specs.Dialogues.{AreRead, is_end}
-use Rattle.htl_dialogue.specs.Sayings.{saying}
+use Rattle.htl_dialogue.specs.Sayings.{saying, turn}
 use Rattle.htl_dialogue.proofs.Conversing.{begins, ended, replied, replied_last}
 use Rattle.htl_dialogue.proofs.Stopping.{all_read, before_read, read_failed, stopped, stopped_between, too_many, unreplied}
 use Rattle.htl_ask.specs.Loads.{is_state}
@@ -41,10 +41,10 @@ loop-line-preserved g c =
       wants = c.reply.ensures.same ∙ same;
       asked = line_so_far inv.asked
           (record { found = c.in_ok-next.ensures.ok; says = rw alike at c.in_ok-said.ensures.said; keeps = rw alike at c.in_ok-said.ensures.fault })
-          goes_on c.reply.ensures.asked c.if-next.false;
+          goes_on c.reply.ensures.asked c.used-process.result c.used-process.ensures c.if-next.false;
       so_far = λ text known. replied (inv.so_far text known)
           (record { found = c.in_ok-next.ensures.ok; says = rw alike at c.in_ok-said.ensures.said; keeps = rw alike at c.in_ok-said.ensures.fault }) goes_on
-          (record {
+          c.used-process.ensures (record {
             waiting = c.hears.new.self;
             waited = c.hears.ensures.told;
             line = c.in_ok-line.line;
@@ -57,7 +57,7 @@ loop-line-preserved g c =
 pub reply-requires-clause-asks : goal.reply-requires-clause-asks
 reply-requires-clause-asks g c =
     let next = c.in_ok-next.ensures.ok in
-    λ lifetimes outlive. of_form (is_state c.loop-line.kept) c.in_ok-said.said next.bytes
+    λ lifetimes outlive. of_form (is_state c.loop-line.kept) c.in_ok-said.said (turn c.loop-line.process next.bytes)
     (rw c.forgets.ensures at c.in_ok-said.ensures.said next.bytes next.line)
 
 pub returns-then-next-clause-ok : goal.returns-then-next-clause-ok

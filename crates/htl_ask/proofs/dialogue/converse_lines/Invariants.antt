@@ -16,9 +16,9 @@ invariant-loop-line g l = record {
   form : is_state l.kept ≡ is_state l.initial.kept;
   wants : g.S.Speaker.wants_notes l.speaker ≡ g.S.Speaker.wants_notes l.initial.speaker;
   asked : Asks (change (g.W.World.state l.initial.world) (g.W.World.state l.world)) (AsksSoFar (is_state l.initial.kept)
-      (g.Q.Source.state l.initial.questions).remaining (prepend_known l.held (g.Q.Source.state l.questions).remaining));
+      (g.Q.Source.state l.initial.questions).remaining l.process (prepend_known l.held (g.Q.Source.state l.questions).remaining));
   so_far : (text : List ℕ) → (g.Q.Source.state l.initial.questions).remaining ≡ Some text
       → Progress (answers_from (g.W.World.state l.initial.world).known l.fn.files.dialogue.now.setting (is_state l.initial.kept) l.fn.has_table)
       (g.S.Speaker.wants_notes l.initial.speaker) g.S.Speaker.told l.initial.kept text (g.O.Sink.state l.initial.out).contents l.initial.speaker
-      (prepend_known l.held (g.Q.Source.state l.questions).remaining) l.kept (g.O.Sink.state l.out).contents l.speaker l.conversed l._line;
+      l.process (prepend_known l.held (g.Q.Source.state l.questions).remaining) l.kept (g.O.Sink.state l.out).contents l.speaker l.conversed l._line;
 }

@@ -3,7 +3,7 @@ use Rattle.std.proofs.Common.{◌≡◌, ◌∙◌, ℕ, List, [], ◌∷◌, Ok
 use Rattle.std.specs.Prelude.{Result}
 use Rattle.std.proofs.KnownBytes.{Appends-nil}
 use Rattle.std.proofs.lemmas.Result.{err_from_is_err_and}
-use Rattle.htl_dialogue.specs.Dialogues.{reading_reply}
+use Rattle.htl_dialogue.specs.Dialogues.{reading_reply, using_reply}
 use Rattle.htl_dialogue.specs.Notes.{first_fault}
 use Rattle.htl_dialogue.specs.Replying.{fault_of}
 use Rattle.htl_dialogue.specs.declared.note.Note.TheVariants as hear
@@ -28,8 +28,8 @@ returns-in-Nothing-clause-ok g c =
         told_late = refl;
         written = Appends-nil (g.O.Sink.state c.args.out.now).contents;
         all = refl;
-        wrong = c.fine.ensures.wrong;
-        first = c.fine.ensures.first;
+        wrong = c.fine-in-Nothing.ensures.wrong;
+        first = c.fine-in-Nothing.ensures.first;
       })
       | inr is ↦ rw is (record {
         reply = [];
@@ -39,8 +39,8 @@ returns-in-Nothing-clause-ok g c =
         told_late = refl;
         written = Appends-nil (g.O.Sink.state c.args.out.now).contents;
         all = refl;
-        wrong = c.fine.ensures.wrong;
-        first = c.fine.ensures.first;
+        wrong = c.fine-in-Nothing.ensures.wrong;
+        first = c.fine-in-Nothing.ensures.first;
       })
     ]
 
@@ -144,3 +144,45 @@ returns-in_ok-write-in-Reads-clause-asked g c = rw c.in-Reads.is (rw c.deref.ens
 
 pub returns-in_err-write-in-Reads-clause-asked : goal.returns-in_err-write-in-Reads-clause-asked
 returns-in_err-write-in-Reads-clause-asked g c = rw c.in-Reads.is (rw c.deref.ensures.value at c.read.ensures.asked)
+
+pub returns-in_ok-write-in-Uses-clause-ok : goal.returns-in_ok-write-in-Uses-clause-ok
+returns-in_ok-write-in-Uses-clause-ok g c =
+    rw (c.in-Uses.is) (record {
+      reply = using_reply c.in-Uses.process;
+      early = [];
+      late = [];
+      replied = (refl, refl, refl);
+      told_late = refl;
+      written = rw (c.as_bytes-in-Uses.ensures.value, c.in_ok-text-in-Uses.ensures) at c.in_ok-write-in-Uses.ensures.ok;
+      all = refl;
+      wrong = c.fine.ensures.wrong;
+      first = c.fine.ensures.first;
+    })
+
+pub returns-in_err-write-in-Uses-clause-err : goal.returns-in_err-write-in-Uses-clause-err
+returns-in_err-write-in-Uses-clause-err g c =
+    let p = err_from_is_err_and c.from_residual-in_err-write-in-Uses.result c.from_residual-in_err-write-in-Uses.ensures.1 in
+    let failed = rw (c.as_bytes-in-Uses.ensures.value, c.in_ok-text-in-Uses.ensures) at c.in_err-write-in-Uses.ensures.err in
+    rw (p.1, p.2, failed.0, c.in-Uses.is) (
+      failed.1,
+      record {
+        after = c.args.kept.now;
+        reply = using_reply c.in-Uses.process;
+        early = [];
+        replied = (refl, refl, refl);
+        written = failed.2;
+        all = refl;
+      },
+    )
+
+pub returns-in_err-text-in-Uses-clause-asked : goal.returns-in_err-text-in-Uses-clause-asked
+returns-in_err-text-in-Uses-clause-asked g c =
+    asks_nothing (g.W.World.state c.args.world.now) (saying c.args.said.now) (rw c.in-Uses.is refl)
+
+pub returns-in_ok-write-in-Uses-clause-asked : goal.returns-in_ok-write-in-Uses-clause-asked
+returns-in_ok-write-in-Uses-clause-asked g c =
+    asks_nothing (g.W.World.state c.args.world.now) (saying c.args.said.now) (rw c.in-Uses.is refl)
+
+pub returns-in_err-write-in-Uses-clause-asked : goal.returns-in_err-write-in-Uses-clause-asked
+returns-in_err-write-in-Uses-clause-asked g c =
+    asks_nothing (g.W.World.state c.args.world.now) (saying c.args.said.now) (rw c.in-Uses.is refl)

@@ -1,7 +1,9 @@
 -- Of what is said alike whether events are forgotten or kept, the fault is the same.
 use Rattle.htl_dialogue.proofs.Hearing.{fault_stays}
+use Rattle.htl_dialogue.specs.Sayings.{turn}
 use Rattle.htl_dialogue.proofs.saying.read_line.Goals as goal
 
 pub returns-else-asks_forgotten-clause-fault : goal.returns-else-asks_forgotten-clause-fault
 returns-else-asks_forgotten-clause-fault c =
-    λ bytes is. fault_stays c.args.forgets bytes c.in_ok-said.said (c.in_ok-said.ensures.said bytes is) (c.in_ok-said.ensures.fault bytes is)
+    λ bytes is. fault_stays c.args.forgets (turn c.args.process bytes) c.in_ok-said.said
+    (c.in_ok-said.ensures.said bytes is) (c.in_ok-said.ensures.fault bytes is)

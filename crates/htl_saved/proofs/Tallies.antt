@@ -6,13 +6,12 @@ use Rattle.htl_event.specs.declared.slot.Count.{Count}
 use Rattle.htl_event.specs.Members.{IsStrictOrder}
 use Rattle.htl_event.proofs.Members.{Lists-same}
 use Rattle.htl_event.proofs.Orders.{strict_from_total}
-use Rattle.htl_tree.specs.Trees.{Tree, IsTree, ByStackAndSlot, ListsRowsOf}
+use Rattle.htl_tree.specs.Trees.{Tree, IsTree, ByStackAndSlot, ListsRowsOf, by_stack}
 use Rattle.htl_tree.specs.HasSlot.{has_slot}
 use Rattle.htl_tree.specs.Nodes.{picked}
 use Rattle.htl_tree.specs.declared.slots.Slots.TheVariants.{All}
 use Rattle.htl_tree.proofs.Between.{lists_rows_of}
 use Rattle.htl_tree.proofs.TreesAsLists.{key_total}
-use Rattle.htl_saved.specs.Tables.{by_stack}
 
 -- a count as a tree lists it, and as its tally has it
 abbrev pub Listed : Type 0

@@ -43,7 +43,3 @@ pub record IsOrdered (table : List (List ℕ)) : Type 0 where
 -- the table has each of these stacks
 abbrev pub HasAll : List (List ℕ) → List (List ℕ) → Type 0
 HasAll table stacks = AllByRecursion (Contains table) stacks
-
--- a count that a tree lists, as its tally has it
-abbrev pub by_stack : (Slot × List ℕ) × Count → (List ℕ × Slot) × Count
-by_stack row = ((row.0.1, row.0.0), row.1)

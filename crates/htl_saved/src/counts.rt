@@ -1,7 +1,8 @@
 //! Counts: the rows of a tree.
 
 ghost use Rattle.std.specs.Prelude.{◌≡◌, map, IfOk};
-ghost use Rattle.htl_saved.specs.Tables.{IsOrdered, HasAll, by_stack, count_row};
+ghost use Rattle.htl_tree.specs.Trees.{by_stack};
+ghost use Rattle.htl_saved.specs.Tables.{IsOrdered, HasAll, count_row};
 
 use crate::place::place_of;
 use crate::tally::counts_of;

@@ -1,7 +1,7 @@
 //! The counts of a tree.
 
 ghost use Rattle.std.specs.Prelude.{◌≡◌, map, IfOk};
-ghost use Rattle.htl_saved.specs.Tables.{by_stack};
+ghost use Rattle.htl_tree.specs.Trees.{by_stack};
 
 use htl_event::{Count, NoMemory, SharedStack, Slot};
 use htl_tree::{Slots, StackTree};

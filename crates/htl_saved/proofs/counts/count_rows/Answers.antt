@@ -1,7 +1,8 @@
 -- The counts that the tree lists are its tally: the table has their stacks, and their rows are those of the tally.
 use Rattle.std.proofs.Common.{◌≡◌, List, map, sym, ap, ◌∙◌, subst}
 use Rattle.std.proofs.lemmas.Result.{IfOk-weaker}
-use Rattle.htl_saved.specs.Tables.{HasAll, count_row, by_stack}
+use Rattle.htl_tree.specs.Trees.{by_stack}
+use Rattle.htl_saved.specs.Tables.{HasAll, count_row}
 use Rattle.htl_saved.proofs.Tallies.{Listed, Counted, map_after}
 use Rattle.htl_saved.proofs.counts.count_rows.Goals as goal
 

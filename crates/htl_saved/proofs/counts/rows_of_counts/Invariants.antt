@@ -1,6 +1,7 @@
 -- The counts so far have their rows.
 use Rattle.std.proofs.Common.{◌≡◌, map, take}
-use Rattle.htl_saved.specs.Tables.{count_row, by_stack}
+use Rattle.htl_tree.specs.Trees.{by_stack}
+use Rattle.htl_saved.specs.Tables.{count_row}
 use Rattle.htl_saved.proofs.Tallies.{Listed}
 use Rattle.htl_saved.proofs.counts.rows_of_counts.Given as goal
 

@@ -1,7 +1,7 @@
 -- The stacks of the part are those of its tally, which the tree lists, and those of its latest events.
 use Rattle.std.proofs.Common.{◌≡◌, ◌++◌, ℕ, List, map, ap, ◌∙◌, append_assoc}
 use Rattle.htl_event.specs.Events.{Event}
-use Rattle.htl_saved.specs.Tables.{by_stack}
+use Rattle.htl_tree.specs.Trees.{by_stack}
 use Rattle.htl_saved.proofs.Tallies.{Listed, Counted, map_after}
 use Rattle.htl_saved.proofs.table.push_stacks.Goals as goal
 

@@ -9,3 +9,7 @@ pub mod StatesTold
 pub mod BoundsTried
 pub mod ToldBack
 pub mod RowsWithStacks
+pub mod Written
+pub mod RowsFit
+pub mod FewRows
+pub mod WellFormedRows

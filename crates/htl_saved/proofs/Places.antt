@@ -8,7 +8,7 @@ use Rattle.std.specs.Cmp.{unsigned_Decides, tied_itself}
 use Rattle.std.specs.Cmp.Lexicographic.{pointwise, pointwise_decides}
 use Rattle.std.specs.declared.cmp.Ordering.TheVariants.{Less, Equal, Greater}
 use Rattle.std.proofs.lemmas.Bool.{cases_Bool, cases_lt}
-use Rattle.htl_event.specs.Members.{IsRising}
+use Rattle.htl_event.specs.Members.{IsRising, IsStrictOrder}
 use Rattle.htl_event.specs.Stacks.{stack_cmp}
 use Rattle.htl_event.specs.OrderLaws.{stack_total, stack_ties}
 use Rattle.htl_event.proofs.Members.{Contains-here, Contains-there, Contains-nil, Contains-cases, at_member}
@@ -106,3 +106,40 @@ not_parted table stack i parted here =
       | inl below ↦ let clash : Less ≡ Equal = sym (parted.0 k stack (omega arith) below) ∙ tied in absurd (cc)
       | inr above ↦ let clash : Greater ≡ Equal = sym (parted.1 k stack above here.1) ∙ tied in absurd (cc)
     ]
+
+-- a stack that the table has has a place in it
+pub place_below : (table : List (List ℕ)) (t : List ℕ) → Contains table t → place_in table t < length table
+place_below [] t here = absurd (Contains-nil t here)
+place_below (s ∷ table) t here =
+    elim (cases_Bool (pointwise nat_eq s t)) [
+      | inl same ↦ omega (arith, place_here s table t same)
+      | inr other ↦ elim (Contains-cases s table t here) [
+        | inl is ↦ let clash : true ≡ false = sym (is_same s t is) ∙ other in absurd (cc)
+        | inr there ↦ omega (arith, place_there s table t other, place_below table t there)
+      ]
+    ]
+
+-- of two stacks that a table in order has, the one that comes first has the lower place
+pub place_rises : (table : List (List ℕ)) → IsRising InStackOrder table → (s t : List ℕ) → Contains table s → Contains table t
+    → InStackOrder s t → place_in table s < place_in table t
+place_rises table rising s t here there before =
+    elim (cases_lt (place_in table s) (place_in table t)) [
+      | inl lt ↦ lt
+      | inr le ↦ absurd (elim (cases_lt (place_in table t) (place_in table s)) [
+        | inl gt ↦
+            let at : InStackOrder (get_or table (place_in table t) []) (get_or table (place_in table s) []) =
+            rising_at table rising (place_in table t) (place_in table s) [] gt (place_below table s here) in
+            let back : InStackOrder t s =
+            subst (λ (z : List ℕ). InStackOrder z s) (at_place table [] t there)
+            (subst (InStackOrder (get_or table (place_in table t) [])) (at_place table [] s here) at) in
+            order.irreflexive s (order.transitive s t s before back)
+        | inr ge ↦
+            let places : place_in table s ≡ place_in table t = omega (arith, le, ge) in
+            let same : s ≡ t =
+            sym (at_place table [] s here) ∙ ap (λ (n : ℕ). get_or table n []) places ∙ at_place table [] t there in
+            order.irreflexive t (subst (λ (z : List ℕ). InStackOrder z t) same before)
+      ])
+    ]
+  where
+    order : IsStrictOrder InStackOrder
+    order = strict_from_total stack_total

@@ -95,11 +95,11 @@ rows_each before Fits P each last [] fit = tt
 rows_each before Fits P each last (row ∷ rows) fit = (each row fit.0, rows_each before Fits P each (Some row) rows fit.2)
 
 module _ {X Y : Type 0} (f : X → Y) where
-  all_map : (P : Y → Type 0) (xs : List X) → AllByRecursion (λ x. P (f x)) xs → AllByRecursion P (map f xs)
+  pub all_map : (P : Y → Type 0) (xs : List X) → AllByRecursion (λ x. P (f x)) xs → AllByRecursion P (map f xs)
   all_map P [] h = tt
   all_map P (x ∷ xs) h = (h.0, all_map P xs h.1)
 
-  rising_map : (R : Y → Y → Type 0) (xs : List X) → IsRising (λ x y. R (f x) (f y)) xs → IsRising R (map f xs)
+  pub rising_map : (R : Y → Y → Type 0) (xs : List X) → IsRising (λ x y. R (f x) (f y)) xs → IsRising R (map f xs)
   rising_map R [] h = tt
   rising_map R (x ∷ xs) h = (all_map (R (f x)) xs h.0, rising_map R xs h.1)
 

@@ -24,7 +24,7 @@ by_stack_and_slot : IsStrictOrder (ByStackAndSlot {X = Count})
 by_stack_and_slot = strict_from_total (on_total (λ (row : Listed). (row.0.1, row.0.0)) key_total)
 
 -- all rows that are picked of a tree, with the stack before the slot, are the tree
-all_picked : (t : Tree) → map by_stack (picked (has_slot All) t) ≡ t
+pub all_picked : (t : Tree) → map by_stack (picked (has_slot All) t) ≡ t
 all_picked [] = refl
 all_picked (row ∷ t) = ap (λ (rows : Tree). row ∷ rows) (all_picked t)
 

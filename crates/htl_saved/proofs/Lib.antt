@@ -13,3 +13,4 @@ pub mod Written
 pub mod RowsFit
 pub mod FewRows
 pub mod WellFormedRows
+pub mod LoadedAgain

@@ -25,7 +25,7 @@ use Rattle.htl_taken.specs.Numbers.{Numbers, numbers_at, front_at, loose_at}
 use Rattle.htl_taken.specs.Rising.{Rises}
 use Rattle.htl_taken.specs.declared.TheConstants.{MAX_FRONT}
 use Rattle.htl_taken.proofs.Rising.{length-Rises, Rises-member}
-use Rattle.htl_tree.specs.Trees.{Tree, IsTree, HasTally, ByStackAndSlot, key_cmp, count_at, total_count}
+use Rattle.htl_tree.specs.Trees.{Tree, IsTree, HasTally, by_stack, ByStackAndSlot, key_cmp, count_at, total_count}
 use Rattle.htl_tree.specs.HasSlot.{has_slot}
 use Rattle.htl_tree.specs.Nodes.{picked}
 use Rattle.htl_tree.specs.declared.slots.Slots.TheVariants.{All}
@@ -42,7 +42,7 @@ use Rattle.htl_state.specs.Format.{spelling}
 use Rattle.htl_state.specs.Reading.{counts, latest, moments, held, stacks, setting}
 use Rattle.htl_state.specs.Rows.{Part, State}
 use Rattle.htl_state.specs.WellFormed.{RowsFit, SlotFits, StackFits, CountFits, LatestFits, MomentFits, SegmentFits, PartFits, PartsFit, WellFormed}
-use Rattle.htl_saved.specs.Tables.{InStackOrder, HasAll, by_stack, place_in, count_row, latest_row}
+use Rattle.htl_saved.specs.Tables.{InStackOrder, HasAll, place_in, count_row, latest_row}
 use Rattle.htl_saved.specs.AnalystRows.{AreRowsOf, HasTables, IsKept, part_rows, stacks_of, rows_at, no_rows}
 use Rattle.htl_saved.specs.Laws.{IsPlain, ArePlain, AreWellFormed}
 use Rattle.htl_saved.proofs.Places.{place_below}

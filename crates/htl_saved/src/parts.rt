@@ -3,8 +3,8 @@
 ghost use Rattle.std.specs.Prelude.{◌≡◌, ◌<◌, ℕ, length, IfOk};
 ghost use Rattle.std.specs.List.{flat_map};
 ghost use Rattle.htl_taken.specs.Numbers.{front_at};
-ghost use Rattle.htl_analyst.specs.States.{part_at};
-ghost use Rattle.htl_saved.specs.AnalystRows.{stacks_of, part_rows, rows_at};
+ghost use Rattle.htl_analyst.specs.States.{part_at, folded_at};
+ghost use Rattle.htl_saved.specs.AnalystRows.{stacks_of, part_rows, rows_at, HasTables};
 ghost use Rattle.htl_saved.specs.Tables.{IsOrdered, HasAll};
 
 use crate::counts::count_rows;
@@ -28,6 +28,8 @@ pub(crate) fn all_parts<A: Allocator + Clone>(
     ensures each { IfOk result (λ parts. (p : ℕ) → p < analyst.now.processors
         → rows_at parts.items p ≡ part_rows table.now (front_at analyst.now.taken p)
         (part_at analyst.now.parts p)) }
+    ensures tables { IfOk result (λ _. (p : ℕ) → p < analyst.now.processors
+        → HasTables (folded_at analyst.now.parts p)) }
 {
     let kept = analyst.parts();
     let mut parts = Vec::new(alloc);
@@ -49,10 +51,14 @@ fn rows_of_part<A: Allocator + Clone>(
     requires ordered { IsOrdered table.now }
     requires here { HasAll table.now (stacks_of part.now) }
     requires kept { part.now ≡ part_at analyst.now.parts processor }
-    ensures { IfOk result (λ rows. rows ≡ part_rows table.now
+    ensures rows { IfOk result (λ rows. rows ≡ part_rows table.now
         (front_at analyst.now.taken processor) part.now) }
+    ensures tables { IfOk result (λ _. HasTables part.now.folded) }
 {
-    let counts = count_rows(alloc, table, answers::Part::tree(part))?;
+    let tree = answers::Part::tree(part);
+    // For the proof: what every tree is, is known with its total.
+    let _total = tree.total();
+    let counts = count_rows(alloc, table, tree)?;
     let latest = latest_rows(alloc, table, answers::Part::latest(part).rows())?;
     Ok(PartRows {
         front: analyst.front(processor),

@@ -2,7 +2,7 @@
 
 ghost use Rattle.std.specs.Prelude.{◌≡◌, ◌<◌, ◌≤◌, ◌^◌, length, Err, IfOk};
 ghost use Rattle.htl_state.specs.Rows.{State};
-ghost use Rattle.htl_saved.specs.AnalystRows.{AreRowsOf};
+ghost use Rattle.htl_saved.specs.AnalystRows.{AreRowsOf, IsKept};
 
 use crate::fault::SaveFault;
 use crate::parts::all_parts;
@@ -24,6 +24,7 @@ pub fn rows_of<A: Allocator + Clone>(
 ) -> Result<StateRows, SaveFault>
     ensures rows { IfOk result (λ rows. AreRowsOf analyst.now rows) }
     ensures few { IfOk result (λ rows. length rows.stacks ≤ 2 ^ 32) }
+    ensures kept { IfOk result (λ _. IsKept analyst.now) }
     // The analyst has more stacks than rows can name.
     ensures many { result ≡ Err SaveFault.Stacks → (rows : State)
         → AreRowsOf analyst.now rows → 2 ^ 32 < length rows.stacks }

@@ -2,7 +2,7 @@
 
 ghost use Rattle.std.specs.Prelude.{◌≡◌, ◌<◌, ◌^◌, length, Err, IfOk};
 ghost use Rattle.htl_state.specs.Rows.{State};
-ghost use Rattle.htl_saved.specs.AnalystRows.{AreRowsOf, IsSaved};
+ghost use Rattle.htl_saved.specs.AnalystRows.{AreRowsOf, IsKept, IsSaved};
 
 use crate::fault::SaveFault;
 use crate::rows::rows_of;
@@ -13,6 +13,7 @@ use std::alloc::{Allocator, Global};
 /// The state of the analyst as bytes in the format HLA1. The rows are dropped once they are written.
 pub fn save<A: Allocator + Clone>(alloc: Global, analyst: &Analyst<A>) -> Result<Vec<u8>, SaveFault>
     ensures saved { IfOk result (λ bytes. IsSaved analyst.now bytes.items) }
+    ensures kept { IfOk result (λ _. IsKept analyst.now) }
     // The analyst has more stacks than rows can name.
     ensures many { result ≡ Err SaveFault.Stacks → (rows : State)
         → AreRowsOf analyst.now rows → 2 ^ 32 < length rows.stacks }

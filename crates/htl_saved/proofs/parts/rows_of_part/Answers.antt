@@ -10,7 +10,7 @@ use Rattle.htl_saved.proofs.parts.rows_of_part.Goals as goal
 
 pub count_rows-requires-clause-here : goal.count_rows-requires-clause-here
 count_rows-requires-clause-here g c =
-    subst (λ (tree : Tree). HasAll c.args.table.now (map (λ (row : Counted). row.0.0) tree)) (sym c.tree.ensures)
+    subst (λ (tree : Tree). HasAll c.args.table.now (map (λ (row : Counted). row.0.0) tree)) (sym c.tree-tree.ensures)
     (all_left (Contains c.args.table.now) (map (λ (row : Counted). row.0.0) c.args.part.now.folded.tree)
     (map (λ (e : Event). e.stack) c.args.part.now.folded.latest) c.requires.here)
 

@@ -1,6 +1,5 @@
 -- No list of a state has more rows than its spelling has bytes.
-use Rattle.std.proofs.Common.{◌≡◌, ℕ, zero, suc, ◌+◌, ◌<◌, ◌≤◌, ◌^◌, List, [], ◌∷◌, ◌++◌, length, get_or, sym, ap, arith, subst}
-use Rattle.std.specs.Prelude.{codes}
+use Rattle.std.proofs.Common.{ℕ, zero, suc, ◌+◌, ◌<◌, ◌≤◌, List, [], ◌∷◌, ◌++◌, length, get_or, arith}
 use Rattle.std.specs.List.{flat_map}
 use Rattle.std.proofs.lemmas.List.{length-append}
 use Rattle.htl_segment.specs.Numbers.{bytes_of}
@@ -35,19 +34,15 @@ some_front n x rest some = omega (arith, length-append (bytes_of n x) rest, leng
 some_count : (row : CountRow) → 0 < length (count_bytes row)
 unfolding count_bytes
 some_count row =
-    let all = bytes_of 8 row.count.minus in
-    omega (arith, length-append (bytes_of 4 row.stack ++ slot_bytes row.slot ++ bytes_of 8 row.count.plus) all, length-bytes_of 8 row.count.minus)
+    let front = bytes_of 4 row.stack ++ slot_bytes row.slot ++ bytes_of 8 row.count.plus in
+    omega (arith, length-append front (bytes_of 8 row.count.minus), length-bytes_of 8 row.count.minus)
 
 some_latest : (row : LatestRow) → 0 < length (latest_bytes row)
 unfolding latest_bytes
 some_latest row =
-    omega (
-      arith,
-      length-append
-          (bytes_of 8 row.sequence ++ bytes_of 4 (kind_code row.kind) ++ bytes_of 4 row.process ++ bytes_of 4 row.thread ++ bytes_of 4 row.handle)
-          (bytes_of 4 row.stack),
-      length-bytes_of 4 row.stack,
-    )
+    let times = bytes_of 8 row.sequence ++ bytes_of 4 (kind_code row.kind) in
+    let front = times ++ bytes_of 4 row.process ++ bytes_of 4 row.thread ++ bytes_of 4 row.handle in
+    omega (arith, length-append front (bytes_of 4 row.stack), length-bytes_of 4 row.stack)
 
 some_moment : (row : ℕ × ℕ) → 0 < length (moment_bytes row)
 unfolding moment_bytes

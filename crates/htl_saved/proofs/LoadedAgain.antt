@@ -1,10 +1,8 @@
 -- Bytes that were saved of a standing state are loaded as it, unless memory is refused.
-use Rattle.std.proofs.Common.{◌≡◌, ℕ, ◌+◌, ◌*◌, ◌<◌, ◌≤◌, ◌^◌, List, length, refl, sym, ◌∙◌, ap, arith, subst, inl, inr}
-use Rattle.std.specs.Prelude.{Ok, Err, ◌⊎◌}
-use Rattle.htl_segment.specs.Traces.{Trace}
+use Rattle.std.proofs.Common.{◌≡◌, ℕ, ◌<◌, ◌^◌, List, length, refl, sym, ◌∙◌, ap, arith, subst, inl, inr}
 use Rattle.htl_analyst.specs.States.{State as Analyst}
-use Rattle.htl_analyst.specs.Right.{IsState, IsStanding}
-use Rattle.htl_analyst.specs.Restored.{Fold, fold_at, CanRestore, RestoreRefused}
+use Rattle.htl_analyst.specs.Right.{IsState}
+use Rattle.htl_analyst.specs.Restored.{Fold, CanRestore, RestoreRefused}
 use Rattle.htl_analyst.specs.declared.fault.RestoreFault.{RestoreFault}
 use Rattle.htl_analyst.specs.declared.fault.RestoreFault.TheVariants.{Processors, Counts, Events, NoMemory}
 use Rattle.htl_analyst.proofs.Restores.{made_again}
@@ -15,9 +13,8 @@ use Rattle.htl_state.specs.Rows.{State}
 use Rattle.htl_state.specs.WellFormed.{WellFormed, Spells}
 use Rattle.htl_saved.specs.declared.fault.LoadFault.{LoadFault}
 use Rattle.htl_saved.specs.declared.fault.LoadFault.TheVariants.{Format, Bounds}
-use Rattle.htl_saved.specs.AnalystRows.{IsKept, IsSaved}
 use Rattle.htl_saved.specs.Laws.{IsPlainState, IsWantOfMemory, AreLoadedAs, AreLoadedAgain}
-use Rattle.htl_saved.specs.Loads.{IsLoaded, LoadRefused}
+use Rattle.htl_saved.specs.Loads.{LoadRefused}
 use Rattle.htl_saved.specs.Restored.{state_told, folds_told}
 use Rattle.htl_saved.proofs.StatesTold.{folds_of_told}
 use Rattle.htl_saved.proofs.ToldBack.{tell_itself}

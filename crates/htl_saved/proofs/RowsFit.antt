@@ -1,6 +1,6 @@
 -- Rows that rise in the order of their keys fit one after the other, as the format asks.
-use Rattle.std.proofs.Common.{◌≡◌, ℕ, ◌+◌, ◌<◌, ◌≤◌, ◌^◌, List, [], ◌∷◌, length, map, Bool, true, ◌&&◌, ◌||◌, ◌==◌, nat_lt, Option, Some, None}
-use Rattle.std.proofs.Common.{refl, sym, ◌∙◌, ap, arith, subst, inl, inr}
+use Rattle.std.proofs.Common.{◌≡◌, ℕ, ◌+◌, ◌<◌, ◌≤◌, List, [], ◌∷◌, map, Bool, true, ◌&&◌, ◌==◌, nat_lt, Some, None}
+use Rattle.std.proofs.Common.{refl, ap, arith, inl, inr}
 use Rattle.std.specs.Prelude.{Contains, ◌⊎◌}
 use Rattle.std.specs.List.{AllByRecursion}
 use Rattle.std.specs.Ordering.{is_lt, nat_cmp, ordering_then}
@@ -90,9 +90,9 @@ latest_before table x y less =
     elim (either_less (nat_cmp x.process y.process) (nat_cmp b d) less) [
       | inl first ↦ or_left (nat_lt x.process y.process) later (lt-ltb x.process y.process (less_is x.process y.process first))
       | inr second ↦ or_right (nat_lt x.process y.process) later (
-        and_from (x.process == y.process) (nat_lt b d) (eq-eqb x.process y.process (equal_is x.process y.process second.0))
-            (lt-ltb b d (less_is b d second.1))
-      )
+          and_from (x.process == y.process) (nat_lt b d) (eq-eqb x.process y.process (equal_is x.process y.process second.0))
+          (lt-ltb b d (less_is b d second.1))
+          )
     ]
 
 -- ---- held segments

@@ -1,16 +1,16 @@
 -- The rows of a standing state are well-formed.
-use Rattle.std.proofs.Common.{◌≡◌, ◌≢◌, ℕ, zero, suc, ◌+◌, ◌*◌, ◌<◌, ◌≤◌, ◌^◌, List, [], ◌∷◌, length, map, get_or, Bool, true, nat_lt}
-use Rattle.std.proofs.Common.{Option, Some, None, MatchOption, refl, sym, ◌∙◌, ap, arith, subst, inl, inr}
-use Rattle.std.specs.Prelude.{Contains, ◌⊎◌}
-use Rattle.std.specs.List.{AllByRecursion, flat_map, sum_by}
-use Rattle.std.proofs.lemmas.List.{length-map, get_or_default}
+use Rattle.std.proofs.Common.{◌≡◌, ℕ, suc, ◌+◌, ◌<◌, ◌≤◌, ◌^◌, List, [], ◌∷◌, length, map, get_or, true}
+use Rattle.std.proofs.Common.{Some, None, refl, sym, ◌∙◌, ap, arith, subst, inl, inr}
+use Rattle.std.specs.Prelude.{Contains}
+use Rattle.std.specs.List.{AllByRecursion, flat_map}
+use Rattle.std.proofs.lemmas.List.{get_or_default}
 use Rattle.std.proofs.lemmas.List.Elements.{Contains-get_or, Contains-append_cases}
 use Rattle.std.proofs.lemmas.List.Sums.{sum_by-cons}
 use Rattle.std.specs.Ordering.{is_lt}
 use Rattle.std.specs.declared.cmp.Ordering.TheVariants.{Less}
 use Rattle.std.proofs.lemmas.Bool.{lt-ltb, cases_lt}
 use Rattle.htl_event.specs.Events.{Event}
-use Rattle.htl_event.specs.Handles.{LatestIs, IsLatest, IsGreatestSequence, IsOf, IsMark, IsLastExit, opens_or_closes}
+use Rattle.htl_event.specs.Handles.{LatestIs, IsLatest, IsGreatestSequence, IsOf, opens_or_closes}
 use Rattle.htl_event.specs.Members.{IsRising, Lists}
 use Rattle.htl_event.specs.Slots.{base_of}
 use Rattle.htl_event.specs.Tallies.{total_of, IsPositive, tally}
@@ -25,32 +25,32 @@ use Rattle.htl_taken.specs.Numbers.{Numbers, numbers_at, front_at, loose_at}
 use Rattle.htl_taken.specs.Rising.{Rises}
 use Rattle.htl_taken.specs.declared.TheConstants.{MAX_FRONT}
 use Rattle.htl_taken.proofs.Rising.{length-Rises, Rises-member}
-use Rattle.htl_tree.specs.Trees.{Tree, IsTree, HasTally, by_stack, ByStackAndSlot, key_cmp, count_at, total_count}
+use Rattle.htl_tree.specs.Trees.{Tree, IsTree, by_stack, key_cmp, count_at, total_count}
 use Rattle.htl_tree.specs.HasSlot.{has_slot}
 use Rattle.htl_tree.specs.Nodes.{picked}
 use Rattle.htl_tree.specs.declared.slots.Slots.TheVariants.{All}
 use Rattle.htl_tree.proofs.Between.{lists_rows_of}
 use Rattle.htl_tables.specs.Keys.{ByKey}
-use Rattle.htl_tables.specs.Latest.{event_at, HasEvent}
+use Rattle.htl_tables.specs.Latest.{event_at}
 use Rattle.htl_tables.specs.Greatest.{sequence_at, HasLowerProcess, HasSequence}
 use Rattle.htl_analyst.specs.States.{Part as Kept, Folded, no_part, part_at, folded_at, State as Analyst}
-use Rattle.htl_analyst.specs.Right.{IsOwned, IsPart, IsRight, IsStanding, IsRightAt, IsFolded, run_events}
-use Rattle.htl_state.specs.declared.rows.CountRow.{CountRow}
-use Rattle.htl_state.specs.declared.rows.LatestRow.{LatestRow}
+use Rattle.htl_analyst.specs.Right.{IsOwned, IsPart, IsRight, IsFolded, run_events}
 use Rattle.htl_state.specs.declared.rows.Setting.{Setting}
 use Rattle.htl_state.specs.Format.{spelling}
 use Rattle.htl_state.specs.Reading.{counts, latest, moments, held, stacks, setting}
 use Rattle.htl_state.specs.Rows.{Part, State}
-use Rattle.htl_state.specs.WellFormed.{RowsFit, SlotFits, StackFits, CountFits, LatestFits, MomentFits, SegmentFits, PartFits, PartsFit, WellFormed}
+use Rattle.htl_state.specs.WellFormed.{RowsFit, SlotFits, StackFits, CountFits, LatestFits, MomentFits, SegmentFits}
+use Rattle.htl_state.specs.WellFormed.{PartFits, PartsFit, WellFormed}
 use Rattle.htl_saved.specs.Tables.{InStackOrder, HasAll, place_in, count_row, latest_row}
 use Rattle.htl_saved.specs.AnalystRows.{AreRowsOf, HasTables, IsKept, part_rows, stacks_of, rows_at, no_rows}
 use Rattle.htl_saved.specs.Laws.{IsPlain, ArePlain, AreWellFormed}
 use Rattle.htl_saved.proofs.Places.{place_below}
 use Rattle.htl_saved.proofs.RowOrders.{all_map, rising_map}
-use Rattle.htl_saved.proofs.Tallies.{Listed, Counted, all_picked}
+use Rattle.htl_saved.proofs.Tallies.{Counted, all_picked}
 use Rattle.htl_saved.proofs.TablesOf.{has_part, table_has_all}
-use Rattle.htl_saved.proofs.Written.{IsWritten, written, stack_written, base_written, plain_written, counted_fits, greatest_fits, process_fits}
-use Rattle.htl_saved.proofs.RowsFit.{fit_rows, rising_from, count_before, latest_before, held_from, held_rising}
+use Rattle.htl_saved.proofs.Written.{IsWritten, written, stack_written, base_written, plain_written}
+use Rattle.htl_saved.proofs.Written.{counted_fits, greatest_fits, process_fits}
+use Rattle.htl_saved.proofs.RowsFit.{fit_rows, rising_from, count_before, latest_before, held_rising}
 use Rattle.htl_saved.proofs.FewRows.{HasFew, few_stacks, few_at}
 
 -- ---- a tree
@@ -77,6 +77,23 @@ count_most (x ∷ t) row here =
       | inl is ↦ let same : total_of x.1 ≡ total_of row.1 = ap (λ (r : Counted). total_of r.1) is in omega (arith, sum, same)
       | inr there ↦ omega (arith, sum, count_most t row there)
     ]
+
+-- ---- the stacks of a part, which a table has
+
+abbrev counted_stacks : Tree → List (List ℕ)
+counted_stacks tree = map (λ (row : Counted). row.0.0) tree
+
+abbrev latest_stacks : List Event → List (List ℕ)
+latest_stacks events = map (λ (e : Event). e.stack) events
+
+module _ (table : List (List ℕ)) where
+  counted_in : (tree : Tree) → HasAll table (counted_stacks tree) → (row : Counted) → Contains tree row → Contains table row.0.0
+  counted_in tree has row here =
+      at_member (Contains table) (counted_stacks tree) row.0.0 has (Contains-map (λ (r : Counted). r.0.0) tree row here)
+
+  latest_in : (events : List Event) → HasAll table (latest_stacks events) → (e : Event) → Contains events e → Contains table e.stack
+  latest_in events has e here =
+      at_member (Contains table) (latest_stacks events) e.stack has (Contains-map (λ (x : Event). x.stack) events e here)
 
 -- ---- what was folded of events
 
@@ -134,12 +151,10 @@ module _ (f : Folded) (events : List Event) (is : HasTables f) (folded : IsFolde
 
   module _ (table : List (List ℕ)) (rising : IsRising InStackOrder table) (few : length table ≤ 2 ^ 32) (st : Setting)
       (len : st.stacks ≡ length table) (most : total_count f.tree < 2 ^ 64) where
-    count_row_fits : HasAll table (map (λ (row : Counted). row.0.0) f.tree) → (row : Counted) → Contains f.tree row
+    count_row_fits : HasAll table (counted_stacks f.tree) → (row : Counted) → Contains f.tree row
         → CountFits st (count_row table row)
     count_row_fits has row here =
-        let in_table : Contains table row.0.0 =
-        at_member (Contains table) (map (λ (r : Counted). r.0.0) f.tree) row.0.0 has (Contains-map (λ (r : Counted). r.0.0) f.tree row here) in
-        let place : place_in table row.0.0 < length table = place_below table row.0.0 in_table in
+        let place : place_in table row.0.0 < length table = place_below table row.0.0 (counted_in table f.tree has row here) in
         let total = count_most f.tree row here in
         let some = (count_there f.tree is.tree row here).1 in
         record {
@@ -151,7 +166,7 @@ module _ (f : Folded) (events : List Event) (is : HasTables f) (folded : IsFolde
           some = λ none. omega (arith, some, none.0, none.1);
         }
 
-    pub counts_fit : HasAll table (map (λ (row : Counted). row.0.0) f.tree)
+    pub counts_fit : HasAll table (counted_stacks f.tree)
         → RowsFit counts.is_before (CountFits st) None (map (count_row table) f.tree)
     counts_fit has =
         fit_rows counts.is_before (CountFits st) (map (count_row table) f.tree)
@@ -160,15 +175,12 @@ module _ (f : Folded) (events : List Event) (is : HasTables f) (folded : IsFolde
         (rising_map (count_row table) (λ x y. counts.is_before x y ≡ true) f.tree
         (rising_from (λ (row : Counted). Contains table row.0.0) (λ (x y : Counted). key_cmp x.0 y.0 ≡ Less)
         (λ (x y : Counted). counts.is_before (count_row table x) (count_row table y) ≡ true) (count_before table rising) f.tree
-        (each_member (λ (row : Counted). Contains table row.0.0) f.tree (λ row here.
-        at_member (Contains table) (map (λ (r : Counted). r.0.0) f.tree) row.0.0 has (Contains-map (λ (r : Counted). r.0.0) f.tree row here)))
+        (each_member (λ (row : Counted). Contains table row.0.0) f.tree (counted_in table f.tree has))
         (tree_rising f.tree is.tree)))
 
-    latest_row_fits : HasAll table (map (λ (e : Event). e.stack) f.latest) → (e : Event) → Contains f.latest e → LatestFits st (latest_row table e)
+    latest_row_fits : HasAll table (latest_stacks f.latest) → (e : Event) → Contains f.latest e → LatestFits st (latest_row table e)
     latest_row_fits has e here =
-        let in_table : Contains table e.stack =
-        at_member (Contains table) (map (λ (x : Event). x.stack) f.latest) e.stack has (Contains-map (λ (x : Event). x.stack) f.latest e here) in
-        let place : place_in table e.stack < length table = place_below table e.stack in_table in
+        let place : place_in table e.stack < length table = place_below table e.stack (latest_in table f.latest has e here) in
         let w = latest_there e here in
         let range = w.0.fits.in_range in
         let later = w.0.some in
@@ -184,7 +196,7 @@ module _ (f : Folded) (events : List Event) (is : HasTables f) (folded : IsFolde
           known = omega (arith, place, len);
         }
 
-    pub latest_fit : HasAll table (map (λ (e : Event). e.stack) f.latest)
+    pub latest_fit : HasAll table (latest_stacks f.latest)
         → RowsFit latest.is_before (LatestFits st) None (map (latest_row table) f.latest)
     latest_fit has =
         fit_rows latest.is_before (LatestFits st) (map (latest_row table) f.latest)
@@ -199,7 +211,7 @@ module _ (f : Folded) (events : List Event) (is : HasTables f) (folded : IsFolde
 part_stacks : (k : Kept) (events : List Event) → HasTables k.folded → IsFolded k.folded events
     → ((e : Event) → Contains events e → IsWritten e) → (s : List ℕ) → Contains (stacks_of k) s → StackFits s
 part_stacks k events is folded all s here =
-    elim (Contains-append_cases (map (λ (row : Counted). row.0.0) k.folded.tree) (map (λ (e : Event). e.stack) k.folded.latest) s here) [
+    elim (Contains-append_cases (counted_stacks k.folded.tree) (latest_stacks k.folded.latest) s here) [
       | inl counted ↦
           let row = Contains-from_map (λ (r : Counted). r.0.0) k.folded.tree s counted in
           subst StackFits row.2 (count_fits k.folded events is folded all row.0 row.1).1
@@ -273,6 +285,7 @@ module _ (T : Trace) (a : Analyst) (right : IsRight a T) (keeps : IsKept a) wher
         (subst (λ (m : ℕ). IsPart m a.processors p q k) (sym are.trace_id) (right.state.each p lt)) in
         let top : q.front ≤ MAX_FRONT = (let l = length-Rises q.front MAX_FRONT q.loose is.proper.rises in omega (arith, l)) in
         let all = written_at p in
+        let tables = keeps.tables p lt in
         let folded = (right.each p lt).folded in
         let has : HasAll rows.stacks (stacks_of k) =
         has_part rows.stacks a.parts k (table_has_all a.parts rows.stacks are.stacks)
@@ -282,22 +295,22 @@ module _ (T : Trace) (a : Analyst) (right : IsRight a T) (keeps : IsKept a) wher
         let made : Part = part_rows rows.stacks q.front k in
         let same : rows_at rows.parts p ≡ made = are.parts p lt in
         let less : HasFew (length (spelling rows)) made = subst (HasFew (length (spelling rows))) same count in
-        let in_tree = all_left (Contains rows.stacks) (map (λ (row : Counted). row.0.0) k.folded.tree) (map (λ (e : Event). e.stack) k.folded.latest) has in
-        let in_latest = all_right (Contains rows.stacks) (map (λ (row : Counted). row.0.0) k.folded.tree) (map (λ (e : Event). e.stack) k.folded.latest) has in
+        let in_tree = all_left (Contains rows.stacks) (counted_stacks k.folded.tree) (latest_stacks k.folded.latest) has in
+        let in_latest = all_right (Contains rows.stacks) (counted_stacks k.folded.tree) (latest_stacks k.folded.latest) has in
         subst (PartFits id n p (length rows.stacks)) (sym same) (record {
           front = omega (arith, top);
-          last_sequence = last_fits k.folded (events_at p) (keeps.tables p lt) folded all;
+          last_sequence = last_fits k.folded (events_at p) tables folded all;
           events = omega (arith, is.bounded.events, top);
           counts = record {
             few = omega (arith, less.counts, small);
-            each = counts_fit k.folded (events_at p) (keeps.tables p lt) folded all rows.stacks are.stacks.rising few st refl total in_tree;
+            each = counts_fit k.folded (events_at p) tables folded all rows.stacks are.stacks.rising few st refl total in_tree;
           };
           latest = record {
             few = omega (arith, less.latest, small);
-            each = latest_fit k.folded (events_at p) (keeps.tables p lt) folded all rows.stacks are.stacks.rising few st refl total in_latest;
+            each = latest_fit k.folded (events_at p) tables folded all rows.stacks are.stacks.rising few st refl total in_latest;
           };
-          marks = record { few = omega (arith, less.marks, small); each = marks_fit k.folded (events_at p) (keeps.tables p lt) folded all };
-          exits = record { few = omega (arith, less.exits, small); each = exits_fit k.folded (events_at p) (keeps.tables p lt) folded all };
+          marks = record { few = omega (arith, less.marks, small); each = marks_fit k.folded (events_at p) tables folded all };
+          exits = record { few = omega (arith, less.exits, small); each = exits_fit k.folded (events_at p) tables folded all };
           held = record { few = omega (arith, less.held, small); each = held_fit id n p (length rows.stacks) q k is (least p) };
         })
 
@@ -322,12 +335,13 @@ module _ (T : Trace) (a : Analyst) (right : IsRight a T) (keeps : IsKept a) wher
         few = (let s = few_stacks rows in omega (arith, s, small));
         each = fit_rows stacks.is_before StackFits rows.stacks
             (each_member StackFits rows.stacks (λ s here. stacks_fit s ((are.stacks.members s).0 here)))
-            (rising_from (λ (s : List ℕ). Unit {0}) InStackOrder (λ s t. stacks.is_before s t ≡ true) (λ s t x y less. ap is_lt less) rows.stacks
-            (each_member (λ (s : List ℕ). Unit {0}) rows.stacks (λ s h. tt)) are.stacks.rising);
+            (rising_from (λ (s : List ℕ). Unit {0}) InStackOrder (λ s t. stacks.is_before s t ≡ true) (λ s t x y less. ap is_lt less)
+            rows.stacks (each_member (λ (s : List ℕ). Unit {0}) rows.stacks (λ s h. tt)) are.stacks.rising);
       };
       parts = parts_fit rows.parts 0 (λ i lt.
-          let at : 0 + i ≡ i = omega arith in
-          subst (λ (m : ℕ). PartFits rows.trace_id (length rows.parts) m (length rows.stacks) (rows_at rows.parts i)) (sym at) (part_fits_at i lt));
+          let at : i ≡ 0 + i = omega arith in
+          subst (λ (m : ℕ). PartFits rows.trace_id (length rows.parts) m (length rows.stacks) (rows_at rows.parts i)) at
+          (part_fits_at i lt));
       small = small;
     }
 

@@ -1,16 +1,16 @@
 -- What the format says of the events of segments holds of whatever is folded of them.
-use Rattle.std.proofs.Common.{◌≡◌, ◌≢◌, ℕ, zero, suc, ◌+◌, ◌<◌, ◌≤◌, ◌^◌, ◌&&◌, List, [], ◌∷◌, length, Bool, true, false, cond, Option, Some, None, MatchOption}
-use Rattle.std.proofs.Common.{refl, sym, ◌∙◌, ap, arith, subst, inl, inr, eqb, not}
-use Rattle.std.specs.Prelude.{Contains, ◌⊎◌, count_by, slice_index, nat_eq}
+use Rattle.std.proofs.Common.{◌≡◌, ◌≢◌, ℕ, zero, suc, ◌+◌, ◌<◌, ◌^◌, ◌&&◌, List, [], ◌∷◌, Bool, true, cond}
+use Rattle.std.proofs.Common.{sym, ◌∙◌, ap, arith, subst, inl, inr, eqb, not}
+use Rattle.std.specs.Prelude.{Contains, count_by}
 use Rattle.std.specs.List.{AllByRecursion}
 use Rattle.std.specs.Cmp.{unsigned_Decides}
-use Rattle.std.specs.Cmp.Lexicographic.{pointwise, pointwise_decides}
+use Rattle.std.specs.Cmp.Lexicographic.{pointwise_decides}
 use Rattle.std.proofs.lemmas.Bool.{cases_Bool, cases_lt, and_parts, eqb-true, eq-eqb, false≢true}
 use Rattle.std.proofs.lemmas.List.Sums.{sum_by-cons}
 use Rattle.htl_event.specs.Events.{Event}
 use Rattle.htl_event.specs.Handles.{opens_or_closes, IsGreatestSequence, IsOf}
 use Rattle.htl_event.specs.Slots.{base_of, same_slot, same_sign, slot_by_kind, is_slot, is_counted}
-use Rattle.htl_event.specs.Tallies.{tally, has_stack, total_of, IsPositive}
+use Rattle.htl_event.specs.Tallies.{tally, has_stack, IsPositive}
 use Rattle.htl_event.specs.declared.kind.Kind.{Kind}
 use Rattle.htl_event.specs.declared.kind.Kind.TheVariants.{Opened, Closed, BadRef, Snapshot, Ref, Deref, Exited}
 use Rattle.htl_event.specs.declared.slot.Slot.{Slot}
@@ -40,7 +40,8 @@ event_fits v last (x ∷ xs) fit e h =
     elim (Contains-cases x xs e h) [ inl is ↦ subst (EventFits v) is fit.0 | inr there ↦ event_fits v x.sequence xs fit.2 e there ]
 
 -- each event of a trace's segments is one that a segment has
-pub written : (T : Trace) → AllByRecursion Fits T.segments → (S : ℕ → ℕ → Bool) (e : Event) → Contains (events_of S T.segments) e → IsWritten e
+pub written : (T : Trace) → AllByRecursion Fits T.segments → (S : ℕ → ℕ → Bool) (e : Event) → Contains (events_of S T.segments) e
+    → IsWritten e
 written T fit S e here =
     let r = (members_agree S T.segments e).0 here in
     let fits : Fits r.0 = at_member Fits T.segments r.0 fit r.1 in

@@ -17,14 +17,15 @@ pub fn rows_tell_their_own_state()
     ensures { TellItself }
 {}
 
-/// Rows of a standing analyst are well-formed: what `save` writes of it, `decode` reads.
+/// A state that is right about a trace is plain, and rows of a standing one are well-formed: what
+/// `save` writes of it, `decode` reads.
 pub fn rows_are_well_formed()
     ensures plain { ArePlain }
     ensures well_formed { AreWellFormed }
 {}
 
-/// What is saved of a standing analyst is loaded as it, unless memory is refused. Compact an analyst
-/// before it is saved: then it is a standing one.
+/// What is saved of a standing analyst is loaded as the same, unless memory is refused. An analyst is
+/// standing once it is compacted.
 pub fn saved_is_loaded_again()
     ensures { AreLoadedAgain }
 {}

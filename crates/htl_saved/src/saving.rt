@@ -11,6 +11,9 @@ use htl_state::encode;
 use std::alloc::{Allocator, Global};
 
 /// The state of the analyst as bytes in the format HLA1. The rows are dropped once they are written.
+///
+/// Compact the analyst before. Where it isn't, it may hold a segment at its front, and `load` refuses
+/// such bytes.
 pub fn save<A: Allocator + Clone>(alloc: Global, analyst: &Analyst<A>) -> Result<Vec<u8>, SaveFault>
     ensures saved { IfOk result (λ bytes. IsSaved analyst.now bytes.items) }
     ensures kept { IfOk result (λ _. IsKept analyst.now) }

@@ -2,25 +2,30 @@
 
 ghost use Rattle.std.specs.Prelude.{◌≡◌, ◌↔◌, ◌⊎◌, IsTrue};
 ghost use Rattle.htl_inputs.specs.declared.fault.RunFault.TheVariants as runs;
-ghost use Rattle.allocation_trials.specs.Refusals.{IsOutOfMemory};
+ghost use Rattle.allocation_trials.specs.Refusals.{IsOutOfMemory, LacksMemory};
 ghost use Rattle.htl_analyst.specs.declared.fault.AnalystFault.TheVariants as analysts;
 ghost use Rattle.htl_analyst.specs.declared.fault.MergeFault.TheVariants as merges;
+ghost use Rattle.htl_analyst.specs.declared.fault.RestoreFault.TheVariants as restores;
 ghost use Rattle.htl_analyst.specs.declared.fault.TakeFault.TheVariants as takes;
 ghost use Rattle.htl_case.specs.declared.fault.CaseFault.TheVariants as cases;
 ghost use Rattle.htl_case.specs.declared.fault.PlayFault.TheVariants as plays;
 ghost use Rattle.htl_exchange.specs.declared.fault.StartFault.TheVariants as starts;
 ghost use Rattle.htl_exchange.specs.declared.fault.SurveyFault.TheVariants as surveys;
 ghost use Rattle.htl_samples.specs.declared.fault.SampleFault.TheVariants as samples;
+ghost use Rattle.htl_saved.specs.declared.fault.SaveFault.TheVariants as saves;
 ghost use Rattle.htl_segment.specs.declared.fault.Fault.TheVariants as segments;
 ghost use Rattle.htl_segment.specs.declared.hexadecimal.HexFault.TheVariants as digits;
+ghost use Rattle.htl_state.specs.declared.fault.Fault.TheVariants as states;
 
-use htl_analyst::{AnalystFault, MergeFault, TakeFault};
+use htl_analyst::{AnalystFault, MergeFault, RestoreFault, TakeFault};
 use htl_case::{CaseFault, PlayFault};
 use htl_event::NoMemory;
 use htl_exchange::{StartFault, SurveyFault};
 use htl_main::{Refused, RunFault};
 use htl_samples::SampleFault;
+use htl_saved::{LoadFault, SaveFault};
 use htl_segment::{Fault, HexFault};
+use htl_state::{Fault as StateFault, StateError};
 use std::alloc::{AllocError, AllocFailed};
 
 /// Why a call gives no answer.
@@ -142,6 +147,41 @@ impl From<MergeFault> for Refusal {
 
     fn from(fault: MergeFault) -> Refusal {
         Refusal::of(fault == MergeFault::NoMemory)
+    }
+}
+
+impl From<RestoreFault> for Refusal {
+    ghost from_gives = { λ fault refusal. IsOutOfMemory refusal ↔ (fault ≡ restores.NoMemory) };
+
+    fn from(fault: RestoreFault) -> Refusal {
+        Refusal::of(fault == RestoreFault::NoMemory)
+    }
+}
+
+impl From<StateError> for Refusal {
+    ghost from_gives = { λ error refusal. IsOutOfMemory refusal ↔ (error.fault ≡ states.NoMemory) };
+
+    fn from(error: StateError) -> Refusal {
+        Refusal::of(error.fault == StateFault::NoMemory)
+    }
+}
+
+impl From<SaveFault> for Refusal {
+    ghost from_gives = { λ fault refusal. IsOutOfMemory refusal ↔ (fault ≡ saves.NoMemory) };
+
+    fn from(fault: SaveFault) -> Refusal {
+        Refusal::of(fault == SaveFault::NoMemory)
+    }
+}
+
+impl From<LoadFault> for Refusal {
+    ghost from_gives = { λ fault refusal. IsOutOfMemory refusal ↔ LacksMemory fault };
+
+    fn from(fault: LoadFault) -> Refusal {
+        match fault {
+            LoadFault::Format(error) => Refusal::from(error),
+            LoadFault::Bounds(fault) => Refusal::from(fault),
+        }
     }
 }
 

@@ -97,7 +97,7 @@ fn analyst_of(alloc: Global, folded: &[(u16, u32)], held: &[(u16, u32)]) -> Resu
     Ok(analyst)
 }
 
-fn analyst(alloc: Global) -> Result<Own, Refusal> {
+pub fn analyst(alloc: Global) -> Result<Own, Refusal> {
     analyst_of(alloc, &FOLDED, &HELD)
 }
 

@@ -1,9 +1,9 @@
 //! Refuses the allocations of each call that takes memory. `allocation_trials` says what is tried.
 //!
 //! First come the calls on what an analyst's state is made of: segments, trees, tables and sets;
-//! and then those on analysts, their states as bytes, cases and exchanges, and runs and foldings over bytes. Each file of
-//! calls begins with their table. The calls of which the program is made are tried as whole runs of
-//! it (`.ci/refused-allocations`).
+//! and then those on analysts, their states as bytes, cases and exchanges, and runs and foldings
+//! over bytes. Each file of calls begins with their table. The calls of which the program is made
+//! are tried as whole runs of it (`.ci/refused-allocations`).
 #![tactic(auto)]
 
 mod analysts;

@@ -15,8 +15,11 @@ fn saved(alloc: Global, analyst: &Analyst<Global>) -> Result<Equal<Vec<u8>>, Ref
     Equal::of(save(alloc, analyst))
 }
 
+/// The bytes of an analyst that was compacted: the format has held segments above the front alone.
 fn state(alloc: Global) -> Result<Vec<u8>, Refusal> {
-    answered(save(alloc, &analyst(alloc)?))
+    let mut analyst = analyst(alloc)?;
+    analyst.compact()?;
+    answered(save(alloc, &analyst))
 }
 
 fn loaded(alloc: Global, bytes: &Vec<u8>) -> Result<Analyst<Global>, Refusal> {

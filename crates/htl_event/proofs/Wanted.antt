@@ -1,8 +1,8 @@
--- An answer about a process or an object follows from its own events alone, in whatever order they are.
+-- An answer about a process, a handle or an object follows from its own events alone, in whatever order they are.
 use Rattle.std.proofs.Common.{IsPermutation, ◌≡◌, ℕ, ◌+◌, ◌<◌, Bool, true, false, cond, List, [], ◌∷◌, map, Option, Some, None}
 use Rattle.std.proofs.Common.{refl, sym, ap, ◌∙◌, subst, inl, inr, ◌&&◌, arith}
-use Rattle.std.specs.Prelude.{Contains, filter, count_by, nat_le, if◌then◌else◌, ◌↔◌}
-use Rattle.std.proofs.lemmas.Bool.{cases_Bool, eqb-true, eq-eqb, and_parts}
+use Rattle.std.specs.Prelude.{Contains, filter, count_by, nat_le, if◌then◌else◌, ◌==◌, ◌↔◌}
+use Rattle.std.proofs.lemmas.Bool.{cases_Bool, eqb-true, eq-eqb, and_from, and_parts}
 use Rattle.std.proofs.lemmas.List.Sorted.{Contains-permutation, IsPermutation-sym}
 use Rattle.std.proofs.lemmas.List.Sums.{sum_by-cons}
 use Rattle.htl_event.specs.Events.{Event}
@@ -27,9 +27,9 @@ use Rattle.htl_event.specs.Sites.{Site, CountsSince, AreOpenAnywhere, IsSites}
 use Rattle.htl_event.proofs.Counts.{count_where-IsPermutation, same_rows}
 use Rattle.htl_event.proofs.Members.{filter-pass, filter-skip, Contains-filter, Contains-from_filter, Contains-map, Contains-from_map}
 use Rattle.htl_event.specs.declared.interest.Interest.{Interest}
-use Rattle.htl_event.specs.declared.interest.Interest.TheVariants.{Process, OpenHandles, AllHandles, Object}
+use Rattle.htl_event.specs.declared.interest.Interest.TheVariants.{Process, Handle, OpenHandles, AllHandles, Object}
 use Rattle.htl_event.specs.Interests.{tracks_handles, wants, needs_stack, without_stack, as_needed, wanted}
-use Rattle.htl_event.specs.Interests.{HaveSameOpenHandles, ProcessNeedsItsOwn, ObjectNeedsItsOwn, SitesNeedHandles}
+use Rattle.htl_event.specs.Interests.{HaveSameOpenHandles, ListingNeedsItsHandle, ProcessNeedsItsOwn, ObjectNeedsItsOwn, SitesNeedHandles}
 
 -- ---- sets of events that tell the same of a process's handles
 
@@ -404,6 +404,23 @@ process_needs_its_own p es own moved =
           ∙ count_where-IsPermutation (has_stack row.1) (filter (wants (Process p)) es) own here (Bad p row.0) in
           (λ h. (h.0 ∙ ap (λ (c : Count). c.plus) counts, h.1), λ h. (h.0 ∙ ap (λ (c : Count). c.plus) (sym counts), h.1)));
     }
+
+-- the listing of a handle needs its own events alone
+pub listing_needs_its_handle : (process handle : ℕ) (events own : List Event)
+    → IsPermutation (wanted (Handle process (base_of handle)) events) own → ListingNeedsItsHandle process handle events own
+listing_needs_its_handle p handle es own moved rows =
+    let asked = Handle p (base_of handle) in
+    let A = Contains es in
+    let B = Contains own in
+    lists_same (λ e. A e × IsOfHandle p (base_of handle) e) (λ e. B e × IsOfHandle p (base_of handle) e) rows (λ e. (
+      λ h.
+          let of = and_from (e.process == p) (base_of e.handle == base_of handle) (eq-eqb e.process p h.1.owner)
+          (eq-eqb (base_of e.handle) (base_of handle) h.1.handle) in
+          (in_own asked es own moved e of h.0, h.1),
+      λ h.
+          let (x, there, is) = from_own asked es own moved e h.0 in
+          (subst A is there, h.1),
+    ))
 
 -- answers about an object need its own events alone
 pub object_needs_its_own : (object : ℕ) (events own : List Event) → IsPermutation (wanted (Object object) events) own

@@ -2,7 +2,7 @@
 use Rattle.std.specs.Prelude.{◌≡◌, ℕ, Bool, true, false, ◌&&◌, ◌==◌, if◌then◌else◌, List, [], length, Option, ◌↔◌, Contains, filter, map}
 use Rattle.htl_event.specs.Events.{Event}
 use Rattle.htl_event.specs.declared.interest.Interest.{Interest}
-use Rattle.htl_event.specs.declared.interest.Interest.TheVariants.{Process, OpenHandles, AllHandles, Object, Tag, AllEvents}
+use Rattle.htl_event.specs.declared.interest.Interest.TheVariants.{Process, Handle, OpenHandles, AllHandles, Object, Tag, AllEvents}
 use Rattle.htl_event.specs.declared.kind.Kind.{Kind}
 use Rattle.htl_event.specs.declared.kind.Kind.TheVariants.{Opened, Closed, Snapshot, Ref, Deref, Exited}
 use Rattle.htl_event.specs.declared.growth.Point.{Point}
@@ -17,6 +17,7 @@ use Rattle.htl_event.specs.Balances.{Balance, has_tag, AreBalances, AreTagStacks
 use Rattle.htl_event.specs.Summaries.{IsProcesses, IsNumberOfObjects, IsUnbalanced}
 use Rattle.htl_event.specs.declared.since.Since.{Since}
 use Rattle.htl_event.specs.Sites.{Site, IsSites}
+use Rattle.htl_event.specs.Slots.{base_of}
 
 -- what tells which handles are open: opens and closes, exits, which close all handles of their process, and snapshots
 abbrev pub tracks_handles : Kind → Bool
@@ -34,6 +35,7 @@ names_object other = false
 -- the event is one of those that are asked about
 abbrev pub wants : Interest → Event → Bool
 wants (Process process) e = e.process == process
+wants (Handle process base) e = e.process == process && base_of e.handle == base
 wants (OpenHandles process) e = e.process == process && tracks_handles e.kind
 wants AllHandles e = tracks_handles e.kind
 wants (Object object) e = e.object == object
@@ -88,6 +90,11 @@ pub record ProcessNeedsItsOwn (process : ℕ) (events own : List Event) : Type 0
       (handle : ℕ) (rows : List Event) → IsListing (Contains events) process handle rows
       ↔ IsListing (Contains own) process handle rows
   pub bad : (rows : List (ℕ × List ℕ × ℕ)) → IsBad events process rows ↔ IsBad own process rows
+
+-- the listing of a handle over all events is the one over its own events, in whatever order
+abbrev pub ListingNeedsItsHandle : ℕ → ℕ → List Event → List Event → Type 0
+ListingNeedsItsHandle process handle events own =
+    (rows : List Event) → IsListing (Contains events) process handle rows ↔ IsListing (Contains own) process handle rows
 
 -- the sites of the events are those of what tells of open handles, in whatever order
 abbrev pub SitesNeedHandles : List Event → List Event → Type 0

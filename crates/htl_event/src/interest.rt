@@ -8,6 +8,8 @@ use crate::kind::Kind;
 pub enum Interest {
     /// A process: the events that came in it.
     Process(u32),
+    /// A base handle of a process: the process's events that name it.
+    Handle { process: u32, base: u32 },
     /// The open handles of a process: its opens, closes, snapshots and exits. Only opens need their
     /// stacks.
     OpenHandles(u32),
@@ -32,7 +34,10 @@ impl Interest {
     {
         match self {
             Interest::OpenHandles(_) | Interest::AllHandles => matches!(kind, Kind::Opened),
-            Interest::Process(_) | Interest::Object(_) | Interest::Tag(_) => true,
+            Interest::Process(_)
+            | Interest::Handle { .. }
+            | Interest::Object(_)
+            | Interest::Tag(_) => true,
             Interest::AllEvents => false,
         }
     }

@@ -5,12 +5,13 @@ ghost use Rattle.std.specs.List.Sorted.{IsPermutation};
 ghost use Rattle.htl_event.specs.Balances.{BalancesAreDetermined};
 ghost use Rattle.htl_event.specs.Events.{Event};
 ghost use Rattle.htl_event.specs.Interests.{HaveSameOpenHandles, ProcessNeedsItsOwn};
-ghost use Rattle.htl_event.specs.Interests.{ObjectNeedsItsOwn, SitesNeedHandles};
+ghost use Rattle.htl_event.specs.Interests.{ListingNeedsItsHandle, ObjectNeedsItsOwn, SitesNeedHandles};
 ghost use Rattle.htl_event.specs.Interests.{SummaryNeedsNoStack, wanted};
 ghost use Rattle.htl_event.specs.Interests.{BalancesNeedNoStack, StacksNeedTheirTag};
 ghost use Rattle.htl_event.specs.Laws.{HaveSame, HandlesAreDetermined};
 ghost use Rattle.htl_event.specs.Laws.{CountsAreDetermined, CountsAddUp, IsUnion};
 ghost use Rattle.htl_event.specs.Laws.{LaterOfBoth, PrefixTallyIsSum, BalanceIsSum};
+ghost use Rattle.htl_event.specs.Slots.{base_of};
 ghost use Rattle.htl_event.specs.Summaries.{SummariesAreDetermined};
 
 use crate::interest::Interest;
@@ -60,14 +61,17 @@ pub fn balance_is_sum()
     ensures { BalanceIsSum }
 {}
 
-/// An answer about a process or an object over all events is the one over its own events alone, in
-/// whatever order these are. An answer about a process's open handles needs its opens, closes,
-/// snapshots and exits alone, and the stacks of opens, and sites need those of all processes. A
-/// summary needs all events, but none of their stacks.
+/// An answer about a process, a handle or an object over all events is the one over its own events
+/// alone, in whatever order these are. An answer about a process's open handles needs its opens,
+/// closes, snapshots and exits alone, and the stacks of opens, and sites need those of all
+/// processes. A summary needs all events, but none of their stacks.
 pub fn answers_need_what_is_wanted()
     ensures process { (process : ℕ) (events own : List Event)
         → IsPermutation (wanted (Interest.Process process) events) own
         → ProcessNeedsItsOwn process events own }
+    ensures handle { (process handle : ℕ) (events own : List Event)
+        → IsPermutation (wanted (Interest.Handle process (base_of handle)) events) own
+        → ListingNeedsItsHandle process handle events own }
     ensures open_handles { (process : ℕ) (events own : List Event)
         → IsPermutation (wanted (Interest.OpenHandles process) events) own
         → HaveSameOpenHandles process events own }

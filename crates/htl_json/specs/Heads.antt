@@ -2,8 +2,7 @@
 use Rattle.std.specs.Prelude.{◌++◌, ◌∷◌, [], ℕ, List, Option, Some, None, codes, if◌then◌else◌}
 use Rattle.htl_event.specs.Slots.{base_of}
 use Rattle.json.specs.Json.{Json, string}
-use Rattle.htl_question.specs.Questions.{is_since_snapshots, subject_of}
-use Rattle.htl_question.specs.Words.{word_of}
+use Rattle.htl_question.specs.Questions.{is_since_snapshots, subject_of, word_of}
 use Rattle.htl_question.specs.declared.answer.Totals.{Totals}
 use Rattle.htl_question.specs.declared.question.Question.{Question}
 use Rattle.htl_question.specs.declared.subject.Subject.{Subject}

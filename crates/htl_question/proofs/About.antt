@@ -11,25 +11,21 @@ use Rattle.htl_question.specs.Questions.{Serves, is_of_all_handles, is_of_open_h
 use Rattle.htl_question.specs.declared.question.Question.{Question}
 use Rattle.htl_question.specs.declared.question.Question.TheVariants as questions
 use Rattle.htl_question.specs.declared.subject.Subject.{Subject}
-use Rattle.htl_question.specs.declared.subject.Subject.TheVariants.{Process, Object, Tag, TagOfAll, Handle}
+use Rattle.htl_question.specs.declared.subject.Subject.TheVariants.{Process, Object, Tag, Handle}
 
 -- a subject doesn't see stacks
 pub unseen_stack : (subject : Option Subject) (e : Event) → is_about subject (without_stack e) ≡ is_about subject e
 unseen_stack None e = refl
 unseen_stack (Some (Process p)) e = refl
-unseen_stack (Some (Object o)) e = refl
-unseen_stack (Some (Tag o tag)) e = refl
-unseen_stack (Some (TagOfAll tag)) e = refl
-unseen_stack (Some (Handle p handle)) e = refl
+unseen_stack (Some subject) e = refl
 
 -- an event of the subject is among all that tell of it
 pub about_is_wanted : (subject : Option Subject) (e : Event) → is_about subject e ≡ true → wants (interest_in subject) e ≡ true
 about_is_wanted None e is = refl
-about_is_wanted (Some (Process p)) e is = is
 about_is_wanted (Some (Object o)) e is = (and_parts (names_object e.kind) _ is).1
 about_is_wanted (Some (Tag o tag)) e is = (and_parts _ _ (and_parts (names_object e.kind) _ is).1).0
-about_is_wanted (Some (TagOfAll tag)) e is = is
-about_is_wanted (Some (Handle p handle)) e is = (and_parts _ _ (and_parts (names_handle e.kind) _ is).1).0
+about_is_wanted (Some (Handle p handle)) e is = (and_parts (names_handle e.kind) _ is).1
+about_is_wanted (Some subject) e is = is
 
 -- ---- where only open handles are wanted
 
@@ -62,10 +58,7 @@ of_process question is other = absurd (cc is)
 never_open : (subject : Option Subject) (p : ℕ) → interest_in subject ≡ interests.OpenHandles p → ⊥
 never_open None p is = cc is
 never_open (Some (Process q)) p is = cc is
-never_open (Some (Object o)) p is = cc is
-never_open (Some (Tag o tag)) p is = cc is
-never_open (Some (TagOfAll tag)) p is = cc is
-never_open (Some (Handle q handle)) p is = cc is
+never_open (Some subject) p is = cc is
 
 -- the events that a question needs, by whether it is of open handles
 served : (question : Question) (is : Bool) → is_of_open_handles question ≡ is → (interest : Interest) → Serves question interest

@@ -72,8 +72,7 @@ impl Question {
     ghost use Rattle.std.specs.Prelude.{◌≡◌};
     ghost use Rattle.htl_question.specs.Questions.{asks_since, interest_of, is_of_all_handles};
     ghost use Rattle.htl_question.specs.Questions.{is_of_events, is_of_open_handles};
-    ghost use Rattle.htl_question.specs.Questions.{is_since_snapshots, subject_of, widest};
-    ghost use Rattle.htl_question.specs.Words.{word_of};
+    ghost use Rattle.htl_question.specs.Questions.{is_since_snapshots, subject_of, widest, word_of};
 
     /// The word that names the question in a command, and in the first line of its answer.
     pub fn word(self) -> &'static str

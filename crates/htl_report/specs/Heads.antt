@@ -3,8 +3,7 @@ use Rattle.std.specs.Prelude.{◌++◌, [], ℕ, List, Option, Some, None, codes
 use Rattle.std.specs.Fmt.{decimal}
 use Rattle.htl_event.specs.Slots.{base_of}
 use Rattle.htl_numbers.specs.Written.{hex}
-use Rattle.htl_question.specs.Questions.{is_since_snapshots, subject_of}
-use Rattle.htl_question.specs.Words.{word_of}
+use Rattle.htl_question.specs.Questions.{is_since_snapshots, subject_of, word_of}
 use Rattle.htl_question.specs.declared.question.Question.{Question}
 use Rattle.htl_question.specs.declared.subject.Subject.{Subject}
 use Rattle.htl_question.specs.declared.subject.Subject.TheVariants.{Process, Object, Tag, TagOfAll, Handle}

@@ -1,20 +1,13 @@
 -- Whether the symbols have a name for any address that an answer shows (this project's own): a table of another build has none.
-use Rattle.std.specs.Prelude.{◌&&◌, [], not, true, ℕ, Bool, List, Option, Some, None, flat_map, is_some}
+use Rattle.std.specs.Prelude.{◌&&◌, [], not, true, ℕ, Bool, List, Option, Some, None, is_some}
 use Rattle.std.specs.List.{list_any}
-use Rattle.htl_question.specs.Rows.{Listed, opens, listing, bad, leaks, sites, stacks, tag_stacks}
+use Rattle.htl_question.specs.Rows.{Listed}
 use Rattle.htl_symbols.specs.Ranges.{Range, resolved}
-use Rattle.htl_report.specs.Rows.{first_rows}
+use Rattle.htl_report.specs.Texts.{of_stacks}
 
 -- the frames of the rows that are printed
 abbrev pub shown_addresses : Option ℕ → Listed → List ℕ
-shown_addresses top (opens rows) = flat_map (λ e. e.stack) (first_rows top rows)
-shown_addresses top (listing rows) = flat_map (λ e. e.stack) (first_rows top rows)
-shown_addresses top (bad rows) = flat_map (λ row. row.1) (first_rows top rows)
-shown_addresses top (leaks rows) = flat_map (λ row. row.0) (first_rows top rows)
-shown_addresses top (sites rows) = flat_map (λ site. site.stack) (first_rows top rows)
-shown_addresses top (stacks rows) = flat_map (λ row. row.0) (first_rows top rows)
-shown_addresses top (tag_stacks rows) = flat_map (λ row. row.by) (first_rows top rows)
-shown_addresses top without_stacks = []
+shown_addresses = of_stacks (λ stack. stack)
 
 -- the addresses of a row's stack, if it has one
 abbrev pub addresses_of : Option (List ℕ) → List ℕ

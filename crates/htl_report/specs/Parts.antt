@@ -17,10 +17,6 @@ until_part (Some moment) = codes " until=" ++ decimal moment
 unfoldable pub count_part : Option ℕ → ℕ → List ℕ
 count_part until count = until_part until ++ (codes " count=" ++ (decimal count ++ line_feed))
 
--- how many objects: of all in a first line, and of a tag or a stack in its line
-unfoldable pub objects_part : ℕ → List ℕ
-objects_part objects = codes " objects=" ++ decimal objects
-
 -- references and dereferences
 unfoldable pub counts : Count → List ℕ
 counts c = codes "refs=" ++ (decimal c.plus ++ (codes " derefs=" ++ decimal c.minus))

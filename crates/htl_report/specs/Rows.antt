@@ -11,7 +11,7 @@ use Rattle.htl_event.specs.declared.slot.Count.{Count}
 use Rattle.htl_numbers.specs.Written.{hex}
 use Rattle.htl_symbols.specs.Ranges.{Range}
 use Rattle.htl_report.specs.Addresses.{line_feed, stack_lines}
-use Rattle.htl_report.specs.Parts.{counts, objects_part, shown_tag}
+use Rattle.htl_report.specs.Parts.{counts, shown_tag}
 
 -- all rows, or only the first ones where a number of rows is given; the answer's first line still counts all
 abbrev pub first_rows : {R : Type 0} → Option ℕ → List R → List R
@@ -65,6 +65,10 @@ site_line handles processes =
 -- a stack, with these numbers
 abbrev pub site_lines : List Range → Site → List ℕ
 site_lines symbols site = site_line site.handles site.processes ++ stack_lines symbols site.stack
+
+-- how many objects: of all in a first line, and of a tag or a stack in its line
+unfoldable pub objects_part : ℕ → List ℕ
+objects_part objects = codes " objects=" ++ decimal objects
 
 -- how often a stack referenced and dereferenced
 abbrev pub stack_part : Count → List ℕ

@@ -1,14 +1,16 @@
-//! The text of an answer.
+//! The text of an answer, and whether it shows addresses without a name for any.
 
 ghost use Rattle.std.specs.Prelude.{◌≡◌, ◌++◌, IfOk, OnOk, string_bytes};
 ghost use Rattle.htl_question.specs.Rows.{listed};
+ghost use Rattle.htl_report.specs.Names.{none_named, shown_addresses};
 ghost use Rattle.htl_report.specs.Rows.{with_stack};
 ghost use Rattle.htl_report.specs.Texts.{list_text, rows_text, text_of};
 
-use crate::counts::{Balances, Leaks, Points, Sites, Stacks, TagStacks, Tags};
+use crate::counts::{Balances, Leaks, Points, Sites, Stacks, TagStacks, Tags, write_objects};
 use crate::events::{Bad, Listing, Opens};
 use crate::heads::write_head;
-use crate::parts::{write_count, write_objects};
+use crate::names::have_no_name;
+use crate::parts::write_count;
 use crate::rows::{Form, first_rows, write_rows};
 use crate::summary::write_summary;
 use htl_event::NoMemory;
@@ -36,6 +38,23 @@ pub fn text(
     write_head(&mut out, answer.question, answer.since)?;
     write_answer(alloc, &mut out, &answer.rows, symbols, until, top)?;
     Ok(out.into_bytes())
+}
+
+/// Whether the rows of the answer that are printed, at most `top`, have addresses, and the symbols
+/// have a name for none of these.
+pub fn shows_no_name(answer: &Answer, symbols: &Symbols, top: Option<u32>) -> bool
+    ensures { result ≡ none_named symbols.now (shown_addresses top answer.now.rows) }
+{
+    match &answer.rows {
+        Rows::Opens(rows) => have_no_name::<Opens>(first_rows(top, rows), symbols),
+        Rows::Listing(rows) => have_no_name::<Listing>(first_rows(top, rows), symbols),
+        Rows::Bad(rows) => have_no_name::<Bad>(first_rows(top, rows), symbols),
+        Rows::Leaks(rows) => have_no_name::<Leaks>(first_rows(top, rows), symbols),
+        Rows::Sites(rows) => have_no_name::<Sites>(first_rows(top, rows), symbols),
+        Rows::Stacks(rows) => have_no_name::<Stacks>(first_rows(top, rows), symbols),
+        Rows::TagStacks(rows) => have_no_name::<TagStacks>(first_rows(top, rows), symbols),
+        Rows::Tags(_) | Rows::Balances { .. } | Rows::Points(_) | Rows::Summary { .. } => false,
+    }
 }
 
 /// Writes the numbers of the first line, and the lines of the rows.

@@ -3,10 +3,10 @@
 
 ghost use Rattle.std.specs.Prelude.{◌≡◌, ◌++◌, None, OnOk, Some, string_bytes};
 ghost use Rattle.htl_report.specs.Rows.{balance, balance_part, balance_row, leak_line, point_line};
-ghost use Rattle.htl_report.specs.Rows.{site_line, stack_line, stack_part, tag_row};
+ghost use Rattle.htl_report.specs.Rows.{objects_part, site_line, stack_line, stack_part, tag_row};
 ghost use Rattle.htl_report.specs.Rows.{tag_stack_line};
 
-use crate::parts::{write_counts, write_objects, write_tag};
+use crate::parts::{write_counts, write_tag};
 use crate::rows::Form;
 use htl_event::{Balance, Count, Point, SharedStack, Site};
 use std::alloc::AllocError;
@@ -158,6 +158,15 @@ impl Form for Points {
     fn stack(_point: &Point) -> Option<&SharedStack> {
         None
     }
+}
+
+/// Writes a number of objects: of all in a first line, or of a tag or a stack in its line.
+#[tactic(auto, unfolding(crate::specs::Rows::objects_part))]
+pub(crate) fn write_objects(out: &mut String, objects: u64) -> Result<(), AllocError>
+    ensures { OnOk result (string_bytes out.new
+        ≡ string_bytes out.old ++ objects_part objects) }
+{
+    write!(out, " objects={objects}")
 }
 
 /// Writes the numbers of a stack, without the end of the line.

@@ -1,36 +1,15 @@
-//! Whether the addresses that an answer shows have names.
+//! Whether the addresses that rows show have names, whatever their form.
 
 ghost use Rattle.std.specs.Prelude.{◌≡◌, flat_map, option_map};
 ghost use Rattle.htl_report.specs.Names.{addresses_of, has_some, is_named, none_named};
-ghost use Rattle.htl_report.specs.Names.{shown_addresses};
 ghost use Rattle.std.specs.List.{list_any};
 
-use crate::counts::{Leaks, Sites, Stacks, TagStacks};
-use crate::events::{Bad, Listing, Opens};
-use crate::rows::{Form, first_rows};
+use crate::rows::Form;
 use htl_event::SharedStack;
-use htl_question::{Answer, Rows};
 use htl_symbols::Symbols;
 
-/// Whether the rows of the answer that are printed, at most `top`, have addresses, and the symbols
-/// have a name for none of these.
-pub fn shows_no_name(answer: &Answer, symbols: &Symbols, top: Option<u32>) -> bool
-    ensures { result ≡ none_named symbols.now (shown_addresses top answer.now.rows) }
-{
-    match &answer.rows {
-        Rows::Opens(rows) => have_no_name::<Opens>(first_rows(top, rows), symbols),
-        Rows::Listing(rows) => have_no_name::<Listing>(first_rows(top, rows), symbols),
-        Rows::Bad(rows) => have_no_name::<Bad>(first_rows(top, rows), symbols),
-        Rows::Leaks(rows) => have_no_name::<Leaks>(first_rows(top, rows), symbols),
-        Rows::Sites(rows) => have_no_name::<Sites>(first_rows(top, rows), symbols),
-        Rows::Stacks(rows) => have_no_name::<Stacks>(first_rows(top, rows), symbols),
-        Rows::TagStacks(rows) => have_no_name::<TagStacks>(first_rows(top, rows), symbols),
-        Rows::Tags(_) | Rows::Balances { .. } | Rows::Points(_) | Rows::Summary { .. } => false,
-    }
-}
-
 /// Whether the rows have addresses, and the symbols have a name for none of these.
-fn have_no_name<F: Form>(rows: &[F::Row], symbols: &Symbols) -> bool
+pub(crate) fn have_no_name<F: Form>(rows: &[F::Row], symbols: &Symbols) -> bool
     ensures { result ≡ none_named symbols.now
         (flat_map (λ row. addresses_of (F.stack_of row)) rows.now) }
 {

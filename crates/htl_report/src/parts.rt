@@ -1,7 +1,7 @@
 //! Parts of lines that several kinds of answers print.
 
 ghost use Rattle.std.specs.Prelude.{◌≡◌, ◌++◌, ◌<◌, OnOk, string_bytes};
-ghost use Rattle.htl_report.specs.Parts.{count_part, counts, object_part, objects_part};
+ghost use Rattle.htl_report.specs.Parts.{count_part, counts, object_part};
 ghost use Rattle.htl_report.specs.Parts.{shown_byte, shown_tag, until_part};
 
 use htl_event::Count;
@@ -42,15 +42,6 @@ pub(crate) fn write_count(
 {
     write_until(out, until)?;
     writeln!(out, " count={count}")
-}
-
-/// Writes a number of objects.
-#[tactic(auto, unfolding(crate::specs::Parts::objects_part))]
-pub(crate) fn write_objects(out: &mut String, objects: u64) -> Result<(), AllocError>
-    ensures { OnOk result (string_bytes out.new
-        ≡ string_bytes out.old ++ objects_part objects) }
-{
-    write!(out, " objects={objects}")
 }
 
 /// Writes the numbers of references and dereferences.

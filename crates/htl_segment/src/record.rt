@@ -87,6 +87,9 @@ impl Record<'_> {
     {
         match interest {
             Interest::Process(process) => self.process == process,
+            Interest::Handle { process, base: own } => {
+                self.process == process && base(self.handle) == own
+            }
             Interest::OpenHandles(process) => {
                 self.process == process && self.kind.tracks_handles()
             }

@@ -1,21 +1,30 @@
--- Balances in the order of their keys are added up from the first on: one joins the sum before it, or begins the next sum.
-use Rattle.std.proofs.Common.{◌≡◌, ℕ, suc, ◌+◌, Bool, true, false, cond, List, [], ◌∷◌, get_or}
+-- Balances in the order of their keys are added up from the first on. Each key has one row then, which says what all its balances come to.
+use Rattle.std.proofs.Common.{◌≡◌, ◌≢◌, ℕ, suc, ◌+◌, ◌<◌, ◌≤◌, ◌^◌, Bool, true, false, cond, List, [], ◌∷◌, get_or, Option, Some, None}
 use Rattle.std.proofs.Common.{refl, sym, ap, subst, ◌∙◌, arith, inl, inr, ◌⊎◌}
 use Rattle.std.specs.Prelude.{Contains}
+use Rattle.std.specs.List.{sum_by, filter_map}
 use Rattle.std.specs.List.Retain.{DedupsFrom, IsDeduped}
 use Rattle.std.specs.List.Sorted.{IsPermutation, IsSortedByKey}
-use Rattle.std.specs.Cmp.{IsTotalOrder}
+use Rattle.std.specs.Cmp.{IsTotalOrder, tied_itself}
 use Rattle.std.specs.Ordering.{is_eq, is_lt, ordering_reverse}
 use Rattle.std.specs.declared.cmp.Ordering.{Ordering}
 use Rattle.std.specs.declared.cmp.Ordering.TheVariants.{Less, Equal, Greater}
-use Rattle.std.proofs.lemmas.Bool.{false≢true}
+use Rattle.std.proofs.lemmas.Bool.{cases_Bool, cases_lt, false≢true}
 use Rattle.std.proofs.lemmas.List.Sorted.{Contains-permutation, IsPermutation-sym, sum_by-IsPermutation}
 use Rattle.std.proofs.lemmas.List.Sums.{sum_by-cons}
 use Rattle.htl_event.specs.Tallies.{total_of, IsPositive}
+use Rattle.htl_event.specs.declared.slot.Count.{Count}
+use Rattle.htl_event.specs.Members.{IsRising}
 use Rattle.htl_event.proofs.Members.{Contains-here, Contains-there, Contains-cases, Contains-nil, each_member}
 use Rattle.htl_lemmas.proofs.Tests.{equal}
+use Rattle.htl_answers.proofs.FilterMaps.{Contains-from_filter_map}
+use Rattle.htl_answers.proofs.NumberSums.{amount, sum_upto, sum_filter_map}
 use Rattle.htl_event.specs.declared.balance.Balance.{Balance}
 use Rattle.htl_summary.specs.Balancing.{plus_balance, AddsUp, at_key, ByKey, Fit, AreAdded, IsAdded}
+use Rattle.htl_summary.proofs.Counting.{sum_where_one}
+use Rattle.htl_summary.proofs.Placed.{rising_members}
+
+-- ---- rows of each key made one
 
 module _ {K : Type 0} {cmp : K → K → Ordering} (o : IsTotalOrder cmp) where
   abbrev Row : Type 0
@@ -187,3 +196,100 @@ module _ {K : Type 0} {cmp : K → K → Ordering} (o : IsTotalOrder cmp) where
     numbers = λ number adds k. of_moved.numbers number adds k ∙ sum_by-IsPermutation (at_key cmp k number) rows moved is;
     positive = λ each. of_moved.positive (λ r h. each r (Contains-permutation moved rows r (IsPermutation-sym rows moved is) h));
   }
+
+-- ---- balances that are made of something else, of which each counts
+
+amount_upto : {X : Type 0} (f : X → ℕ) (o : Option X) (n : ℕ) → ((x : X) → o ≡ Some x → f x ≤ n) → amount f o ≤ n
+amount_upto f None n upto = omega arith
+amount_upto f (Some x) n upto = upto x refl
+
+module _ {X K : Type 0} (row_of : X → Option (Balance K)) (count_of : X → Count)
+    (made : (x : X) (row : Balance K) → row_of x ≡ Some row → (row.count ≡ count_of x) × (row.objects ≤ 1))
+    (xs : List X) (counted : (x : X) → Contains xs x → IsPositive (count_of x)) where
+  abbrev total : X → ℕ
+  total x = total_of (count_of x)
+
+  -- where all add up to less than 2 ^ 64, their balances can be added up
+  pub given_fit : sum_by total xs < 2 ^ 64 → Fit (filter_map row_of xs)
+  given_fit lt =
+      let counts = sum_filter_map (λ (row : Balance K). total_of row.count) row_of xs in
+      let numbers = sum_filter_map (λ (row : Balance K). row.objects) row_of xs in
+      let few = sum_upto (λ (x : X). amount (λ (row : Balance K). total_of row.count) (row_of x)) total xs (λ x h.
+      amount_upto (λ (row : Balance K). total_of row.count) (row_of x) (total x) (λ row e.
+      subst (λ (c : Count). total_of c ≤ total x) (sym (made x row e).0) (omega arith))) in
+      let little = sum_upto (λ (x : X). amount (λ (row : Balance K). row.objects) (row_of x)) total xs (λ x h.
+      amount_upto (λ (row : Balance K). row.objects) (row_of x) (total x) (λ row e.
+      let some = counted x h in let most = (made x row e).1 in omega (arith, some, most))) in
+      record { counts = omega (arith, lt, counts, few); objects = omega (arith, lt, numbers, little) }
+
+  -- and each of these counts
+  pub given_positive : (row : Balance K) → Contains (filter_map row_of xs) row → IsPositive row.count
+  given_positive row h =
+      let from = Contains-from_filter_map row_of xs row h in subst IsPositive (sym (made from.0 row from.2).0) (counted from.0 from.1)
+
+-- ---- the row of a key
+
+abbrev pub plus_of : {K : Type 0} → Balance K → ℕ
+plus_of row = row.count.plus
+
+abbrev pub minus_of : {K : Type 0} → Balance K → ℕ
+minus_of row = row.count.minus
+
+abbrev pub objects_of : {K : Type 0} → Balance K → ℕ
+objects_of row = row.objects
+
+module _ {K : Type 0} {cmp : K → K → Ordering} (o : IsTotalOrder cmp) (proper : (x y : K) → cmp x y ≡ Equal → x ≡ y) where
+  key_is : (k j : K) → is_eq (cmp k j) ≡ true → k ≡ j
+  key_is k j tied = proper k j (equal (cmp k j) tied)
+
+  -- a key that comes before another isn't that
+  pub apart : (k j : K) → cmp k j ≡ Less → k ≢ j
+  apart k j less e =
+      let tied : cmp k j ≡ Equal = ap (λ (x : K). cmp k x) (sym e) ∙ tied_itself o k in
+      cc
+
+  module _ (number : Balance K → ℕ) where
+    -- a row has the sum at its key
+    once : (rows : List (Balance K)) → IsRising (ByKey cmp) rows → (row : Balance K) → Contains rows row
+        → sum_by (at_key cmp row.by number) rows ≡ number row
+    once rows rising row h =
+        sum_where_one (λ (r : Balance K). is_eq (cmp row.by r.by)) number rows
+        (rising_members (ByKey cmp) _ rows (λ a b in_a in_b before of_a of_b.
+        apart a.by b.by before (sym (key_is row.by a.by of_a) ∙ key_is row.by b.by of_b)) rising) row h
+        (ap is_eq (tied_itself o row.by))
+
+    -- where the sum at a key isn't zero, the key has a row
+    found : (k : K) (rows : List (Balance K)) → 0 < sum_by (at_key cmp k number) rows → (row : Balance K) × Contains rows row × (row.by ≡ k)
+    found k [] some = absurd (omega (arith, some))
+    found k (r ∷ rows) some =
+        let both = sum_by-cons (at_key cmp k number) r rows in
+        elim (cases_Bool (is_eq (cmp k r.by))) [
+          | inl is ↦ (r, Contains-here r rows, sym (key_is k r.by is))
+          | inr not ↦
+              let head : at_key cmp k number r ≡ 0 = ap (λ b. cond b (number r) 0) not in
+              let there = found k rows (omega (arith, both, head, some)) in
+              (there.0, Contains-there r rows there.0 there.1, there.2)
+        ]
+
+  module _ (given rows : List (Balance K)) (added : AreAdded cmp given rows)
+      (counted : (row : Balance K) → Contains given row → IsPositive row.count) (used : K → Count) (number : K → ℕ)
+      (refs : (k : K) → sum_by (at_key cmp k plus_of) given ≡ (used k).plus)
+      (derefs : (k : K) → sum_by (at_key cmp k minus_of) given ≡ (used k).minus)
+      (objects : (k : K) → sum_by (at_key cmp k objects_of) given ≡ number k) where
+    -- a row says what its key was used for, and of how many objects
+    pub row_is : (row : Balance K) → Contains rows row → (row.count ≡ used row.by) × IsPositive row.count × (row.objects ≡ number row.by)
+    row_is row h =
+        let plus = sym (once plus_of rows added.rising row h) ∙ added.numbers plus_of (λ a b. refl) row.by ∙ refs row.by in
+        let minus = sym (once minus_of rows added.rising row h) ∙ added.numbers minus_of (λ a b. refl) row.by ∙ derefs row.by in (
+          λ i. record { plus = plus i; minus = minus i },
+          added.positive counted row h,
+          sym (once objects_of rows added.rising row h) ∙ added.numbers objects_of (λ a b. refl) row.by ∙ objects row.by,
+        )
+
+    -- and a key that was used has a row
+    pub key_has_row : (k : K) → IsPositive (used k) → (row : Balance K) × Contains rows row × (row.by ≡ k)
+    key_has_row k some =
+        elim (cases_lt 0 (used k).plus) [
+          | inl plus ↦ found plus_of k rows (rw (added.numbers plus_of (λ a b. refl) k ∙ refs k) plus)
+          | inr none ↦ found minus_of k rows (rw (added.numbers minus_of (λ a b. refl) k ∙ derefs k) (omega (arith, none, some)))
+        ]

@@ -1,7 +1,7 @@
--- How many elements of a list pass a test, where none does, all do, or some do, and where each passes one of several.
+-- How many elements of a list pass a test, and what those have, where none does, one does, all do or some do, and where each passes one of several.
 use Rattle.std.proofs.Common.{◌≡◌, ℕ, ◌<◌, Bool, true, false, cond, List, [], ◌∷◌, length, refl, ap, ◌∙◌, arith, inl, inr}
 use Rattle.std.specs.Prelude.{Contains, count_by}
-use Rattle.std.proofs.lemmas.Bool.{cases_Bool, both_ways}
+use Rattle.std.proofs.lemmas.Bool.{cases_Bool}
 use Rattle.std.specs.List.{sum_by}
 use Rattle.std.proofs.lemmas.List.Sums.{sum_by-cons}
 use Rattle.htl_event.proofs.Members.{Contains-here, Contains-there, Contains-cases, Contains-nil, at_member}
@@ -18,13 +18,45 @@ module _ {X : Type 0} (p : X → Bool) where
   nothing : (x : X) → p x ≡ false → one_if x ≡ 0
   nothing x fails = ap (λ b. cond b 1 0) fails
 
+  module _ (f : X → ℕ) where
+    abbrev where_it_passes : X → ℕ
+    where_it_passes x = cond (p x) (f x) 0
+
+    -- what those have that pass, where none does
+    pub sum_where_none : (xs : List X) → ((x : X) → Contains xs x → p x ≡ false) → sum_by where_it_passes xs ≡ 0
+    sum_where_none [] none = refl
+    sum_where_none (x ∷ xs) none =
+        let split = sum_by-cons where_it_passes x xs in
+        let here : where_it_passes x ≡ 0 = ap (λ (b : Bool). cond b (f x) 0) (none x (Contains-here x xs)) in
+        let others = sum_where_none xs (λ y h. none y (Contains-there x xs y h)) in
+        omega (arith, split, here, others)
+
+    -- and where one passes and no other does
+    pub sum_where_one : (xs : List X) → IsRising (λ a b. p a ≡ true → p b ≡ true → ⊥) xs → (x : X) → Contains xs x → p x ≡ true
+        → sum_by where_it_passes xs ≡ f x
+    sum_where_one [] apart x h holds = absurd (Contains-nil x h)
+    sum_where_one (y ∷ ys) apart x h holds =
+        let split = sum_by-cons where_it_passes y ys in
+        elim (Contains-cases y ys x h) [
+          | inl is ↦
+              let passes = ap p is ∙ holds in
+              let here : where_it_passes y ≡ f x = ap (λ (b : Bool). cond b (f y) 0) passes ∙ ap f is in
+              let others = sum_where_none ys (λ z there. elim (cases_Bool (p z)) [
+                | inl also ↦ absurd (at_member (λ b. p y ≡ true → p b ≡ true → ⊥) ys z apart.0 there passes also)
+                | inr fails ↦ fails
+              ]) in
+              omega (arith, split, here, others)
+          | inr there ↦
+              let others = sum_where_one ys apart.1 x there holds in
+              let here : where_it_passes y ≡ 0 = elim (cases_Bool (p y)) [
+                | inl passes ↦ absurd (at_member (λ b. p y ≡ true → p b ≡ true → ⊥) ys x apart.0 there passes holds)
+                | inr fails ↦ ap (λ (b : Bool). cond b (f y) 0) fails
+              ] in
+              omega (arith, split, here, others)
+        ]
+
   pub count_none : (xs : List X) → ((x : X) → Contains xs x → p x ≡ false) → count_by p xs ≡ 0
-  count_none [] none = refl
-  count_none (x ∷ xs) none =
-      let split = sum_by-cons one_if x xs in
-      let here = nothing x (none x (Contains-here x xs)) in
-      let others = count_none xs (λ y h. none y (Contains-there x xs y h)) in
-      omega (arith, split, here, others)
+  count_none = sum_where_none (λ x. 1)
 
   pub count_all : (xs : List X) → ((x : X) → Contains xs x → p x ≡ true) → count_by p xs ≡ length xs
   count_all [] all = refl
@@ -60,25 +92,7 @@ module _ {X : Type 0} (p : X → Bool) where
   -- one is counted where one passes and no other does
   pub count_one : (xs : List X) → IsRising (λ a b. p a ≡ true → p b ≡ true → ⊥) xs → (x : X) → Contains xs x → p x ≡ true
       → count_by p xs ≡ 1
-  count_one [] apart x h holds = absurd (Contains-nil x h)
-  count_one (y ∷ ys) apart x h holds =
-      let split = sum_by-cons one_if y ys in
-      elim (cases_Bool (p y)) [
-        | inl passes ↦
-            let here = one y passes in
-            let others = count_none ys (λ z there. elim (cases_Bool (p z)) [
-              | inl also ↦ absurd (at_member (λ b. p y ≡ true → p b ≡ true → ⊥) ys z apart.0 there passes also)
-              | inr fails ↦ fails
-            ]) in
-            omega (arith, split, here, others)
-        | inr fails ↦ elim (Contains-cases y ys x h) [
-          | inl is ↦ absurd (both_ways (p y) fails (ap p is ∙ holds))
-          | inr there ↦
-              let here = nothing y fails in
-              let others = count_one ys apart.1 x there holds in
-              omega (arith, split, here, others)
-        ]
-      ]
+  count_one = sum_where_one (λ x. 1)
 
 -- where each element has one of the keys, the sum of how many have each key is their number
 pub sum_of_keys : {K X : Type 0} (has : K → X → Bool) (ks : List K) (xs : List X)

@@ -12,13 +12,8 @@ pub mod SiteRows
 pub mod SiteLaws
 pub mod Fitting
 pub mod AddedBalances
-pub mod BalanceKeys
-pub mod TagSums
 pub mod TagRows
-pub mod StackSums
 pub mod StackRows
-pub mod BalanceSums
 pub mod ListedSums
-pub mod BalancePairs
-pub mod ComputedBalances
+pub mod BalanceLaws
 pub mod RowsBalances

@@ -5,7 +5,7 @@ ghost use Rattle.htl_event.specs.Events.{Event};
 ghost use Rattle.htl_summary.specs.BalanceLaws.{BalancesAddUp, TagIsSumOfObjects};
 
 /// The references and dereferences under a tag are the sum of its balances on all objects.
-#[tactic(auto, using(crate::proofs::BalanceSums::tag_is_sum_of_objects))]
+#[tactic(auto, using(crate::proofs::BalanceLaws::tag_is_sum_of_objects))]
 pub fn tag_is_sum_of_objects()
     ensures { TagIsSumOfObjects }
 {}

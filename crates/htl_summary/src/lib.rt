@@ -10,16 +10,14 @@
 //! from the rows of the one tree of all parts (`htl_answers::whole_tree`).
 //!
 //! Files, in reading order: `summarizing.rt`, `by_process.rt` and `by_object.rt` (the answers: both,
-//! about processes and about objects), `by_stack.rt` (sites), `balancing.rt` and `stacking.rt` (the
-//! balances of tags, and of the stacks of a tag), `tables.rt` (the tables of all parts), `usage.rt`
-//! and `tags.rt` (the rows of a process and of an object that a slot gives), `rows.rt` (adds these up
-//! for each owner), `adding.rt` (adds up the balances of each tag or stack), `ranking.rt` (rows in
-//! order, the greatest number first), `laws.rt` and `balance_laws.rt` (what sites and balances have to
-//! do with other answers). In `proofs/`, `ProcessRows`, `ObjectRows`, `SiteRows`, `TagRows` and
-//! `StackRows` show that rows are those of the definitions.
+//! about processes and about objects), `by_stack.rt` (sites), `balancing.rt` (the balances of tags,
+//! and of the stacks of a tag), `tables.rt` (the tables of all parts), `usage.rt` and `tags.rt` (the
+//! rows of a process and of an object that a slot gives), `rows.rt` (adds these up for each owner),
+//! `ranking.rt` (rows in order, the greatest number first), `laws.rt` and `balance_laws.rt` (what sites
+//! and balances have to do with other answers). In `proofs/`, `ProcessRows`, `ObjectRows`, `SiteRows`,
+//! `TagRows` and `StackRows` show that rows are those of the definitions.
 #![tactic(auto)]
 
-mod adding;
 pub mod balance_laws;
 mod balancing;
 mod by_object;
@@ -28,15 +26,13 @@ mod by_stack;
 pub mod laws;
 mod ranking;
 mod rows;
-mod stacking;
 mod summarizing;
 mod tables;
 mod tags;
 mod usage;
 
-pub use balancing::{TagBalances, tag_balances};
+pub use balancing::{TagBalances, tag_balances, tag_stacks};
 pub use by_object::{Objects, balances};
 pub use by_process::processes;
 pub use by_stack::sites;
-pub use stacking::tag_stacks;
 pub use summarizing::{Summary, summarize};

@@ -65,7 +65,7 @@ pub fn traces_are_collections()
 {}
 
 /// An analyst is made again of what it has folded and what it holds: `Analyst::of_parts` refuses
-/// its folds for want of memory alone, and `take` takes each held segment after it as a new one.
+/// its folds only if memory is refused, and `take` takes each held segment after it as a new one.
 pub fn analysts_are_made_again()
     ensures { AreMadeAgain }
 {}

@@ -1,6 +1,8 @@
 -- For the clauses of private functions: how far a dump of bytes came, and how many inputs were cut so far.
 use Rattle.std.specs.Prelude.{◌≡◌, ◌<◌, ◌+◌, ⊤, ℕ, Bool, true, false, List, ◌++◌, length, All, Option, Some, None}
+use Rattle.std.specs.Prelude.{Result, IfSome, MatchResult}
 use Rattle.std.specs.Io.KnownBytes.{Appends, Consumes}
+use Rattle.htl_device.specs.States.{SourceState}
 use Rattle.htl_command.specs.declared.question.InputForm.{InputForm}
 use Rattle.htl_segment.specs.Content.{Content, Fits}
 use Rattle.htl_segment.specs.Bundles.{bundle, IsRest, Splits}
@@ -12,12 +14,19 @@ use Rattle.htl_inputs.specs.Ends.{IsInput}
 use Rattle.htl_inputs.specs.declared.cuts.CutInputs.{CutInputs}
 use Rattle.htl_inputs.specs.declared.fault.RunFault.{RunFault}
 use Rattle.htl_inputs.specs.declared.fault.RunFault.TheVariants.{Segment, Memory, Write}
-use Rattle.htl_convert.specs.Dumps.{AreWritten, texts_of}
+use Rattle.htl_convert.specs.Dumps.{AreWritten, InputStops, texts_of}
 
 -- the texts of an input's segments were written, and it ends within one more or not
 abbrev pub DumpsInput : InputForm → List ℕ → Option EarlyEnd → Option (List ℕ) → Option (List ℕ) → Type 0
 DumpsInput form input end old new =
     (segments : List Content) × IsInput form input segments end × Appends old new (texts_of segments)
+
+-- How the dump of the source at a place ends, where its bytes are known: with the texts of its segments, or before its end.
+abbrev pub EndsInput : InputForm → ℕ → SourceState → SourceState → Option (List ℕ) → Option (List ℕ)
+    → Result (Option EarlyEnd) RunFault → Type 0
+EndsInput form place old new before after result =
+    MatchResult result (λ end. IfSome old.remaining (λ bytes. DumpsInput form bytes end before after))
+    (λ fault. IfSome old.remaining (λ bytes. InputStops form new.remaining new.ended place bytes before after fault))
 
 -- the texts of segments at the front of the bytes were written, and the rest is left
 pub record FrontDumped (bytes rest : List ℕ) (old new : Option (List ℕ)) : Type 0 where

@@ -2,7 +2,7 @@
 
 ghost use Rattle.std.specs.Prelude.{◌≡◌, ◌⊎◌, ◌+◌, ◌*◌, ◌-◌, ◌<◌, ◌≤◌, ◌^◌};
 ghost use Rattle.std.specs.Prelude.{ℕ, Bool, List, Option, Err, false, true, drop};
-ghost use Rattle.std.specs.Prelude.{length, map, IfErr, IfOk, IfSome, MatchResult, OnOk};
+ghost use Rattle.std.specs.Prelude.{length, map, IfErr, IfOk, MatchResult, OnOk};
 ghost use Rattle.std.specs.Io.KnownBytes.{Appends};
 ghost use Rattle.htl_device.specs.Devices.{AppendsPrefix};
 ghost use Rattle.htl_segment.specs.Bundles.{bundle, IsRest};
@@ -13,8 +13,8 @@ ghost use Rattle.htl_device.specs.States.{AreOpen, IsOpen};
 ghost use Rattle.htl_inputs.specs.Ends.{IsEnd, IsEndRefused, IsSegmentOf};
 ghost use Rattle.htl_inputs.specs.Inputs.{SameDigits};
 ghost use Rattle.htl_inputs.specs.Reads.{FailsOnly, IsRead, NamesOnly, NeverRead};
-ghost use Rattle.htl_convert.specs.Dumping.{DumpsInput, FrontDumped, FrontStops, OthersFit};
-ghost use Rattle.htl_convert.specs.Dumping.{WholeStops, with_input};
+ghost use Rattle.htl_convert.specs.Dumping.{DumpsInput, EndsInput, FrontDumped, FrontStops};
+ghost use Rattle.htl_convert.specs.Dumping.{OthersFit, WholeStops, with_input};
 ghost use Rattle.htl_convert.specs.Dumps.{InputStops, IsDumpedFrom, is_failed_write};
 
 use htl_command::InputForm;
@@ -82,11 +82,8 @@ fn dump_input<R: Source, W: Sink>(
 ) -> Result<Option<EarlyEnd>, RunFault>
     requires ready { IsOpen (R.state source.old) }
     requires out { (W.state out.old).failed ≡ false }
-    ensures ok { IfOk result (λ end. IfSome (R.state source.old).remaining (λ bytes.
-        DumpsInput form bytes end (W.state out.old).contents (W.state out.new).contents)) }
-    ensures stops { IfErr result (λ fault. IfSome (R.state source.old).remaining (λ bytes.
-        InputStops form (R.state source.new).remaining (R.state source.new).ended place bytes
-        (W.state out.old).contents (W.state out.new).contents fault)) }
+    ensures dumped { EndsInput form place (R.state source.old) (R.state source.new)
+        (W.state out.old).contents (W.state out.new).contents result }
     ensures failed { (W.state out.new).failed ≡ is_failed_write result }
     ensures reading { IsRead form.hex MAX_READS place (R.state source.old)
         (R.state source.new) result }
@@ -161,11 +158,8 @@ fn dump_within<R: Source, W: Sink>(
     requires whole { length buffer.old ≡ MIN_READ_LEN }
     requires few { most * MAX_READ_LEN < 2 ^ 64 }
     requires bytes { form.hex ≡ false }
-    ensures ok { IfOk result (λ end. IfSome (R.state source.old).remaining (λ bytes.
-        DumpsInput form bytes end (W.state out.old).contents (W.state out.new).contents)) }
-    ensures stops { IfErr result (λ fault. IfSome (R.state source.old).remaining (λ bytes.
-        InputStops form (R.state source.new).remaining (R.state source.new).ended place bytes
-        (W.state out.old).contents (W.state out.new).contents fault)) }
+    ensures dumped { EndsInput form place (R.state source.old) (R.state source.new)
+        (W.state out.old).contents (W.state out.new).contents result }
     ensures failed { (W.state out.new).failed ≡ is_failed_write result }
     ensures ended { OnOk result ((R.state source.new).ended ≡ true) }
     ensures reported { (R.state source.new).failed ≡ true → result ≡ Err (RunFault.Read place) }

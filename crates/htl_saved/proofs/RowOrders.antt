@@ -1,39 +1,38 @@
 -- Rows that fit are those of a tree and of tables: they rise, and what they name is there.
-use Rattle.std.proofs.Common.{◌≡◌, ◌≢◌, ℕ, ◌+◌, ◌<◌, ◌≤◌, ◌^◌, ◌*◌, List, [], ◌∷◌, length, map, Bool, true, false, ◌&&◌, ◌||◌, ◌==◌, nat_lt}
+use Rattle.std.proofs.Common.{◌≡◌, ◌≢◌, ℕ, ◌+◌, ◌<◌, ◌^◌, List, [], ◌∷◌, length, map, Bool, true, false, ◌&&◌, ◌||◌, ◌==◌, nat_lt}
 use Rattle.std.proofs.Common.{Option, Some, None, T, refl, sym, ◌∙◌, ap, arith, subst, inl, inr}
-use Rattle.std.specs.Prelude.{Contains, ◌⊎◌}
+use Rattle.std.specs.Prelude.{◌⊎◌}
 use Rattle.std.specs.List.{AllByRecursion, sum_by}
 use Rattle.std.specs.Ordering.{is_lt, nat_cmp, ordering_then}
 use Rattle.std.specs.Cmp.{nat_cmp_total, tied_itself}
 use Rattle.std.specs.FinMap.Entries.{below_all}
 use Rattle.std.specs.declared.cmp.Ordering.{Ordering}
-use Rattle.std.specs.declared.cmp.Ordering.TheVariants.{Less, Equal, Greater}
-use Rattle.std.proofs.lemmas.Bool.{cases_Bool, cases_lt}
+use Rattle.std.specs.declared.cmp.Ordering.TheVariants.{Less, Equal}
+use Rattle.std.proofs.lemmas.Bool.{and_parts, cases_lt, eqb-true, ltb-true}
 use Rattle.std.proofs.lemmas.Bool.Decides.{nat_tests}
 use Rattle.std.proofs.lemmas.List.Sums.{sum_by-cons}
 use Rattle.htl_lemmas.proofs.Tests.{both}
 use Rattle.htl_event.specs.Events.{Event}
 use Rattle.htl_event.specs.Slots.{base_of}
-use Rattle.htl_event.specs.declared.slot.Slot.{Slot}
 use Rattle.htl_event.specs.declared.slot.Count.{Count}
 use Rattle.htl_event.specs.Members.{IsRising}
 use Rattle.htl_event.specs.OrderLaws.{stack_total}
 use Rattle.htl_event.specs.SlotOrder.{slot_cmp}
 use Rattle.htl_event.specs.Stacks.{stack_cmp}
 use Rattle.htl_event.specs.Tallies.{total_of, IsPositive}
+use Rattle.htl_event.proofs.ComputedCounts.{is_lt-Less}
 use Rattle.htl_event.proofs.Members.{at_member}
 use Rattle.htl_sorted.specs.Entries.{IsSorted, Each, entries}
 use Rattle.htl_tree.specs.Trees.{ByStackAndSlot, total_count}
 use Rattle.htl_tree.proofs.TreesAsLists.{key_total as tree_key_total}
-use Rattle.htl_tables.specs.Keys.{key_cmp, key_of, keyed, ByKey}
+use Rattle.htl_tables.specs.Keys.{key_cmp, key_of, ByKey}
 use Rattle.htl_tables.specs.Greatest.{sequences}
 use Rattle.htl_tables.proofs.KeyOrder.{key_total}
-use Rattle.htl_analyst.specs.Right.{IsWithin}
 use Rattle.htl_state.specs.declared.rows.CountRow.{CountRow}
 use Rattle.htl_state.specs.declared.rows.LatestRow.{LatestRow}
 use Rattle.htl_state.specs.declared.rows.Setting.{Setting}
 use Rattle.htl_state.specs.Rows.{Part}
-use Rattle.htl_state.specs.Reading.{follows, stacks, counts, latest, moments, setting}
+use Rattle.htl_state.specs.Reading.{stacks, counts, latest, moments, setting}
 use Rattle.htl_state.specs.WellFormed.{RowsFit, ListFits, StackFits, CountFits, LatestFits, MomentFits, PartFits}
 use Rattle.htl_analyst.specs.Restored.{IsBounded}
 use Rattle.htl_tables.specs.Tables.{IsEventTable, IsSequenceTable}
@@ -44,28 +43,13 @@ use Rattle.htl_saved.proofs.Places.{rising_at}
 
 -- ---- tests
 
-is_less : (o : Ordering) → is_lt o ≡ true → o ≡ Less
-is_less Less e = refl
-is_less Equal e = cc
-is_less Greater e = cc
-
-both_true : (a b : Bool) → (a && b) ≡ true → (a ≡ true) × (b ≡ true)
-both_true true b e = (refl, e)
-both_true false b e = cc
-
-pub lt_true : (n m : ℕ) → nat_lt n m ≡ true → n < m
-lt_true n m e = grind (arith, nat_tests)
-
-eq_true : (n m : ℕ) → (n == m) ≡ true → n ≡ m
-eq_true n m e = grind (arith, nat_tests)
-
 cmp_less : (n m : ℕ) → n < m → nat_cmp n m ≡ Less
 cmp_less n m lt = grind (arith, nat_tests)
 
 -- the first of two tests, or, where it fails, both others
 or_both : (a b c : Bool) → (a || (b && c)) ≡ true → (a ≡ true) ⊎ ((b ≡ true) × (c ≡ true))
 or_both true b c e = inl refl
-or_both false b c e = inr (both_true b c e)
+or_both false b c e = inr (and_parts b c e)
 
 -- ---- rows that fit rise
 
@@ -123,7 +107,7 @@ module _ {Row K X : Type 0} (key : Row → K) (value : Row → X) (R : K → K �
 
 pub table_rising : (table : List (List ℕ)) → ListFits stacks StackFits table → IsRising InStackOrder table
 table_rising table fit =
-    rows_rising stacks.is_before StackFits InStackOrder stack_total.trans (λ x y a b e. is_less (stack_cmp x y) e) None table fit.each
+    rows_rising stacks.is_before StackFits InStackOrder stack_total.trans (λ x y a b e. is_lt-Less (stack_cmp x y) e) None table fit.each
 
 -- ---- counts
 
@@ -138,13 +122,13 @@ module _ (table : List (List ℕ)) (rising : IsRising InStackOrder table) (st : 
       elim (or_both (nat_lt x.stack y.stack) (x.stack == y.stack) (is_lt (slot_cmp x.slot y.slot)) e) [
         | inl first ↦
             let less : stack_cmp s t ≡ Less =
-            rising_at table rising x.stack y.stack [] (lt_true x.stack y.stack first) (omega (arith, fits_y.known, len)) in
+            rising_at table rising x.stack y.stack [] (ltb-true x.stack y.stack first) (omega (arith, fits_y.known, len)) in
             ap (λ (r : Ordering). ordering_then r (slot_cmp x.slot y.slot)) less
         | inr second ↦
-            let place : x.stack ≡ y.stack = eq_true x.stack y.stack second.0 in
+            let place : x.stack ≡ y.stack = eqb-true x.stack y.stack second.0 in
             let same : stack_cmp s t ≡ Equal =
             ap (λ (n : ℕ). stack_cmp (stack_at table n) t) place ∙ tied_itself stack_total t in
-            ap (λ (r : Ordering). ordering_then r (slot_cmp x.slot y.slot)) same ∙ is_less (slot_cmp x.slot y.slot) second.1
+            ap (λ (r : Ordering). ordering_then r (slot_cmp x.slot y.slot)) same ∙ is_lt-Less (slot_cmp x.slot y.slot) second.1
       ]
 
   positive : (c : Count) → ((c.plus ≡ 0) × (c.minus ≡ 0) → ⊥) → IsPositive c
@@ -177,11 +161,11 @@ module _ (table : List (List ℕ)) (rising : IsRising InStackOrder table) (st : 
       let d = base_of y.handle in
       elim (or_both (nat_lt x.process y.process) (x.process == y.process) (nat_lt b d) e) [
         | inl first ↦
-            ap (λ (r : Ordering). ordering_then r (nat_cmp b d)) (cmp_less x.process y.process (lt_true x.process y.process first))
+            ap (λ (r : Ordering). ordering_then r (nat_cmp b d)) (cmp_less x.process y.process (ltb-true x.process y.process first))
         | inr second ↦
             let same : nat_cmp x.process y.process ≡ Equal =
-            ap (λ (n : ℕ). nat_cmp n y.process) (eq_true x.process y.process second.0) ∙ tied_itself nat_cmp_total y.process in
-            ap (λ (r : Ordering). ordering_then r (nat_cmp b d)) same ∙ cmp_less b d (lt_true b d second.1)
+            ap (λ (n : ℕ). nat_cmp n y.process) (eqb-true x.process y.process second.0) ∙ tied_itself nat_cmp_total y.process in
+            ap (λ (r : Ordering). ordering_then r (nat_cmp b d)) same ∙ cmp_less b d (ltb-true b d second.1)
       ]
 
   latest_told : (rows : List LatestRow) → RowsFit latest.is_before (LatestFits st) None rows → IsEventTable (map (event_of table) rows)
@@ -207,7 +191,7 @@ moments_told rows fit = record {
   sorted = sorted_rows (λ (row : ℕ × ℕ). row.0) (λ (row : ℕ × ℕ). row.1) nat_cmp rows
       (rows_rising moments.is_before MomentFits (λ a b. nat_cmp a.0 b.0 ≡ Less)
       (λ x y z. nat_cmp_total.trans x.0 y.0 z.0)
-      (λ x y a b e. cmp_less x.0 y.0 (lt_true x.0 y.0 e)) None rows fit);
+      (λ x y a b e. cmp_less x.0 y.0 (ltb-true x.0 y.0 e)) None rows fit);
   positive = each_positive None rows fit;
 }
 

@@ -1,5 +1,5 @@
 -- Rows that rise in the order of their keys fit one after the other, as the format asks.
-use Rattle.std.proofs.Common.{◌≡◌, ℕ, ◌+◌, ◌<◌, ◌≤◌, List, [], ◌∷◌, map, Bool, true, ◌&&◌, ◌==◌, nat_lt, Some, None}
+use Rattle.std.proofs.Common.{◌≡◌, ℕ, ◌+◌, ◌≤◌, List, [], ◌∷◌, map, Bool, true, ◌&&◌, ◌==◌, nat_lt, Some, None}
 use Rattle.std.proofs.Common.{refl, ap, arith, inl, inr}
 use Rattle.std.specs.Prelude.{Contains, ◌⊎◌}
 use Rattle.std.specs.List.{AllByRecursion}
@@ -8,6 +8,7 @@ use Rattle.std.specs.declared.cmp.Ordering.{Ordering}
 use Rattle.std.specs.declared.cmp.Ordering.TheVariants.{Less, Equal, Greater}
 use Rattle.std.proofs.lemmas.Bool.{lt-ltb, eq-eqb, and_from, or_left, or_right}
 use Rattle.std.proofs.lemmas.Bool.Decides.{nat_tests}
+use Rattle.htl_lemmas.proofs.Tests.{lower}
 use Rattle.htl_event.specs.Events.{Event}
 use Rattle.htl_event.specs.Slots.{base_of}
 use Rattle.htl_event.specs.Members.{IsRising}
@@ -57,9 +58,6 @@ either_less Less q e = inl refl
 either_less Equal q e = inr (refl, e)
 either_less Greater q e = cc
 
-less_is : (n m : ℕ) → nat_cmp n m ≡ Less → n < m
-less_is n m e = grind (arith, nat_tests)
-
 equal_is : (n m : ℕ) → nat_cmp n m ≡ Equal → n ≡ m
 equal_is n m e = grind (arith, nat_tests)
 
@@ -88,10 +86,10 @@ latest_before table x y less =
     let d = base_of y.handle in
     let later = x.process == y.process && nat_lt b d in
     elim (either_less (nat_cmp x.process y.process) (nat_cmp b d) less) [
-      | inl first ↦ or_left (nat_lt x.process y.process) later (lt-ltb x.process y.process (less_is x.process y.process first))
+      | inl first ↦ or_left (nat_lt x.process y.process) later (lt-ltb x.process y.process (lower x.process y.process first))
       | inr second ↦ or_right (nat_lt x.process y.process) later (
           and_from (x.process == y.process) (nat_lt b d) (eq-eqb x.process y.process (equal_is x.process y.process second.0))
-          (lt-ltb b d (less_is b d second.1))
+          (lt-ltb b d (lower b d second.1))
           )
     ]
 

@@ -1,8 +1,8 @@
 -- What well-formed rows tell is a state, unless they break its bounds, and its folds and held segments are those of the rows.
-use Rattle.std.proofs.Common.{◌≡◌, ℕ, zero, suc, ◌+◌, ◌<◌, ◌≤◌, ◌^◌, List, [], ◌∷◌, ◌++◌, length, map, get_or, true, nat_lt}
+use Rattle.std.proofs.Common.{◌≡◌, ℕ, zero, suc, ◌+◌, ◌<◌, ◌≤◌, List, [], ◌∷◌, ◌++◌, length, map, get_or, true}
 use Rattle.std.proofs.Common.{Option, Some, None, refl, sym, ◌∙◌, ap, arith, subst}
-use Rattle.std.specs.Prelude.{Contains}
-use Rattle.std.specs.List.{AllByRecursion, flat_map}
+use Rattle.std.specs.List.{flat_map}
+use Rattle.std.proofs.lemmas.Bool.{ltb-true}
 use Rattle.std.proofs.lemmas.List.{length-map, get_or-map, get_or_default}
 use Rattle.htl_segment.specs.Content.{Content}
 use Rattle.htl_taken.specs.Numbers.{Numbers, no_numbers, numbers_at}
@@ -14,13 +14,13 @@ use Rattle.htl_state.specs.declared.rows.Setting.{Setting}
 use Rattle.htl_state.specs.Rows.{Part, State}
 use Rattle.htl_state.specs.Reading.{follows, held, setting}
 use Rattle.htl_state.specs.WellFormed.{RowsFit, SegmentFits, PartFits, PartsFit, WellFormed}
-use Rattle.htl_analyst.specs.Restored.{Fold, no_fold, fold_at, AreFoldsOf, CanRestore, IsBounded, AreNew}
+use Rattle.htl_analyst.specs.Restored.{Fold, no_fold, AreFoldsOf, CanRestore, IsBounded, AreNew}
 use Rattle.htl_analyst.specs.Restored.{held_segments, of_folds, with_segments, RestoreRefused}
 use Rattle.htl_analyst.specs.declared.fault.RestoreFault.{RestoreFault}
 use Rattle.htl_analyst.specs.Laws.{IsMadeAgain, AreMadeAgain}
 use Rattle.htl_saved.specs.AnalystRows.{no_rows, rows_at}
 use Rattle.htl_saved.specs.Restored.{fold_told, folds_told, numbers_told, kept_told, state_told, IsFoldable, AreFoldable}
-use Rattle.htl_saved.proofs.RowOrders.{foldable, lt_true, rows_each, table_rising}
+use Rattle.htl_saved.proofs.RowOrders.{foldable, rows_each, table_rising}
 
 -- ---- a processor
 
@@ -41,7 +41,7 @@ module _ (st : Setting) where
   rises_told low last [] start most fit = most
   rises_told low last (s ∷ rows) start most fit = (
     start s fit.0 fit.1,
-    rises_told (s.number + 1) (Some s) rows (λ t f e. let above : s.number < t.number = lt_true s.number t.number e in omega (arith, above))
+    rises_told (s.number + 1) (Some s) rows (λ t f e. let above : s.number < t.number = ltb-true s.number t.number e in omega (arith, above))
         (omega (arith, fit.0.fits.number)) fit.2,
   )
 

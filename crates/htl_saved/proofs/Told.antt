@@ -1,5 +1,5 @@
 -- Rows tell the state: with the stacks of the table in the place of their numbers they are the tallies and the latest events.
-use Rattle.std.proofs.Common.{◌≡◌, ℕ, ◌<◌, List, [], ◌∷◌, length, map, get_or, refl, sym, ◌∙◌, ap, arith, ext_get_or}
+use Rattle.std.proofs.Common.{◌≡◌, ℕ, ◌<◌, List, [], ◌∷◌, length, map, refl, sym, ◌∙◌, ap, arith, ext_get_or}
 use Rattle.std.specs.Prelude.{Contains}
 use Rattle.std.specs.List.{AllByRecursion}
 use Rattle.std.proofs.lemmas.List.Elements.{Contains-get_or}
@@ -12,8 +12,6 @@ use Rattle.htl_tables.specs.Greatest.{sequence_at}
 use Rattle.htl_taken.specs.Numbers.{Numbers, no_numbers, numbers_at, front_at}
 use Rattle.htl_analyst.specs.States.{Part as Kept, no_part, part_at, State as Analyst}
 use Rattle.htl_analyst.specs.Same.{IsSame, IsSamePart}
-use Rattle.htl_state.specs.declared.rows.CountRow.{CountRow}
-use Rattle.htl_state.specs.declared.rows.LatestRow.{LatestRow}
 use Rattle.htl_state.specs.Rows.{Part, State}
 use Rattle.htl_saved.specs.Tables.{HasAll, count_row, latest_row}
 use Rattle.htl_saved.specs.AnalystRows.{AreRowsOf, part_rows, stacks_of}

@@ -6,11 +6,10 @@ use Rattle.std.proofs.lemmas.List.{length-map, get_or-map}
 use Rattle.std.proofs.lemmas.List.Elements.{Contains-get_or}
 use Rattle.htl_event.specs.Events.{Event}
 use Rattle.htl_event.proofs.Members.{all_left, all_right}
-use Rattle.htl_segment.specs.Content.{Content}
 use Rattle.htl_tree.specs.Trees.{Tree}
 use Rattle.htl_taken.specs.Numbers.{Numbers, no_numbers, numbers_at, front_at}
 use Rattle.htl_analyst.specs.States.{Part as Kept, part as kept, folded, no_part, part_at, State as Analyst, state as analyst}
-use Rattle.htl_state.specs.Rows.{Part, State}
+use Rattle.htl_state.specs.Rows.{State}
 use Rattle.htl_saved.specs.Tables.{HasAll}
 use Rattle.htl_saved.specs.AnalystRows.{AreRowsOf, part_rows, stacks_of, no_rows, rows_at}
 use Rattle.htl_saved.specs.Restored.{numbers_told, kept_told, state_told}

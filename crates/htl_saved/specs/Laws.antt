@@ -54,7 +54,7 @@ abbrev pub IsWantOfMemory : LoadFault → Type 0
 IsWantOfMemory (Format error) = error.fault ≡ faults.NoMemory
 IsWantOfMemory (Bounds fault) = fault ≡ restores.NoMemory
 
--- whatever the bytes are loaded as is this state, and only for want of memory are they refused
+-- whatever the bytes are loaded as is this state, and they are refused only if memory is
 pub record AreLoadedAs (a : Analyst) (bytes : List ℕ) : Type 0 where
   pub loaded : (b : Analyst) → IsLoaded bytes b → b ≡ a
   pub refused : (fault : LoadFault) → LoadRefused bytes fault → IsWantOfMemory fault

@@ -1,9 +1,12 @@
 //! Why no rows are made of an analyst, and no analyst of bytes.
 
+ghost use Rattle.std.specs.Prelude.{◌≡◌};
+ghost use Rattle.htl_saved.specs.declared.fault.SaveFault.TheVariants as saves;
+ghost use Rattle.htl_saved.specs.declared.fault.LoadFault.TheVariants as loads;
+
 use htl_analyst::RestoreFault;
 use htl_event::NoMemory;
 use htl_state::StateError;
-use std::alloc::{AllocError, AllocFailed};
 use thiserror::Error;
 
 /// Why no rows are made of an analyst.
@@ -17,39 +20,6 @@ pub enum SaveFault {
     NoMemory,
 }
 
-impl From<NoMemory> for SaveFault {
-    ghost use Rattle.std.specs.Prelude.{◌≡◌};
-    ghost use Rattle.htl_saved.specs.declared.fault.SaveFault.TheVariants as faults;
-
-    ghost from_gives = { λ _ fault. fault ≡ faults.NoMemory };
-
-    fn from(_refused: NoMemory) -> SaveFault {
-        SaveFault::NoMemory
-    }
-}
-
-impl From<AllocError> for SaveFault {
-    ghost use Rattle.std.specs.Prelude.{◌≡◌};
-    ghost use Rattle.htl_saved.specs.declared.fault.SaveFault.TheVariants as faults;
-
-    ghost from_gives = { λ _ fault. fault ≡ faults.NoMemory };
-
-    fn from(_refused: AllocError) -> SaveFault {
-        SaveFault::NoMemory
-    }
-}
-
-impl<T: Drop> From<AllocFailed<T>> for SaveFault {
-    ghost use Rattle.std.specs.Prelude.{◌≡◌};
-    ghost use Rattle.htl_saved.specs.declared.fault.SaveFault.TheVariants as faults;
-
-    ghost from_gives = { λ _ fault. fault ≡ faults.NoMemory };
-
-    fn from(_refused: AllocFailed<T>) -> SaveFault {
-        SaveFault::NoMemory
-    }
-}
-
 /// Why no analyst is made of bytes.
 #[derive(Clone, Copy, Debug, PartialEq, Eq)]
 pub enum LoadFault {
@@ -60,9 +30,6 @@ pub enum LoadFault {
 }
 
 impl From<StateError> for LoadFault {
-    ghost use Rattle.std.specs.Prelude.{◌≡◌};
-    ghost use Rattle.htl_saved.specs.declared.fault.LoadFault.TheVariants as loads;
-
     ghost from_gives = { λ error fault. fault ≡ loads.Format error };
 
     fn from(error: StateError) -> LoadFault {
@@ -71,12 +38,18 @@ impl From<StateError> for LoadFault {
 }
 
 impl From<RestoreFault> for LoadFault {
-    ghost use Rattle.std.specs.Prelude.{◌≡◌};
-    ghost use Rattle.htl_saved.specs.declared.fault.LoadFault.TheVariants as loads;
-
     ghost from_gives = { λ refused fault. fault ≡ loads.Bounds refused };
 
     fn from(refused: RestoreFault) -> LoadFault {
         LoadFault::Bounds(refused)
+    }
+}
+
+impl<R: Into<NoMemory>> From<R> for SaveFault {
+    ghost from_gives = { λ _ fault. fault ≡ saves.NoMemory };
+
+    fn from(refused: R) -> SaveFault {
+        let NoMemory = refused.into();
+        SaveFault::NoMemory
     }
 }

@@ -2,10 +2,10 @@
 
 ghost use Rattle.std.specs.Prelude.{◌≡◌, ◌<◌, length, map, Contains, IfOk};
 ghost use Rattle.htl_tables.specs.Tables.{IsEventTable, IsSequenceTable};
-ghost use Rattle.htl_tree.specs.Trees.{IsTally};
+ghost use Rattle.htl_tree.specs.Trees.{IsTally, by_stack};
 ghost use Rattle.htl_state.specs.declared.rows.CountRow.{CountRow as Counted};
 ghost use Rattle.htl_state.specs.declared.rows.LatestRow.{LatestRow as Latter};
-ghost use Rattle.htl_saved.specs.Restored.{counted, listed, event_of};
+ghost use Rattle.htl_saved.specs.Restored.{listed, event_of};
 
 use htl_event::{Count, NoMemory, SharedEvent, SharedStack, Slot};
 use htl_state::{CountRow, LatestRow};
@@ -13,26 +13,8 @@ use htl_tables::{EventKind, Greatest, Latest};
 use htl_tree::{StackTree, TallyFault};
 use std::alloc::Global;
 
-/// The tree of the counts, whose stacks the table has.
-pub(crate) fn tree_of(
-    alloc: Global,
-    table: &[SharedStack],
-    rows: &[CountRow],
-) -> Result<StackTree<Global>, NoMemory>
-    requires here { (row : Counted) → Contains rows.now row → row.stack < length table.now }
-    requires tally { IsTally (map (listed table.now) rows.now) }
-    ensures { IfOk result (λ tree. tree ≡ map (counted table.now) rows.now) }
-{
-    let counts = counts_of_rows(alloc, table, rows)?;
-    match StackTree::of_rows(alloc, &counts) {
-        Ok(tree) => Ok(tree),
-        Err(TallyFault::NoMemory) => Err(NoMemory),
-        Err(TallyFault::NoTally) => unreachable!(),
-    }
-}
-
-/// What the rows count, each with its stack.
-fn counts_of_rows(
+/// What the rows count, each with its stack, which the table has.
+pub(crate) fn counts_of_rows(
     alloc: Global,
     table: &[SharedStack],
     rows: &[CountRow],
@@ -48,25 +30,24 @@ fn counts_of_rows(
     Ok(counts)
 }
 
-/// The table of the latest events, whose stacks the table has.
-pub(crate) fn latest_of(
+/// The tree of the counts.
+pub(crate) fn tree_of(
     alloc: Global,
-    table: &[SharedStack],
-    rows: &[LatestRow],
-) -> Result<Latest<Global>, NoMemory>
-    requires here { (row : Latter) → Contains rows.now row → row.stack < length table.now }
-    requires table { IsEventTable (map (event_of table.now) rows.now) }
-    ensures { IfOk result (λ latest. latest ≡ map (event_of table.now) rows.now) }
+    counts: &[((Slot, SharedStack), Count)],
+) -> Result<StackTree<Global>, NoMemory>
+    requires { IsTally counts.now }
+    ensures { IfOk result (λ tree. tree ≡ map by_stack counts.now) }
 {
-    let events = events_of_rows(alloc, table, rows)?;
-    match Latest::of_rows(events) {
-        Ok(latest) => Ok(latest),
-        Err(_) => unreachable!(),
+    match StackTree::of_rows(alloc, counts) {
+        Ok(tree) => Ok(tree),
+        Err(TallyFault::NoMemory) => Err(NoMemory),
+        Err(TallyFault::NoTally) => unreachable!(),
     }
 }
 
-/// The events of the rows, each with its stack. An open or a close has no object and no tag.
-fn events_of_rows(
+/// The events of the rows, each with its stack, which the table has. An open or a close has no object
+/// and no tag.
+pub(crate) fn events_of_rows(
     alloc: Global,
     table: &[SharedStack],
     rows: &[LatestRow],
@@ -89,6 +70,17 @@ fn events_of_rows(
         })?;
     }
     Ok(events)
+}
+
+/// The table of the latest events.
+pub(crate) fn latest_of(events: Vec<SharedEvent>) -> Latest<Global>
+    requires { IsEventTable events.items }
+    ensures { result ≡ events.items }
+{
+    match Latest::of_rows(events) {
+        Ok(latest) => latest,
+        Err(_) => unreachable!(),
+    }
 }
 
 /// The table of the greatest sequences.

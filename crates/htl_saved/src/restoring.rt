@@ -8,7 +8,7 @@ ghost use Rattle.htl_saved.specs.Restored.{fold_told, folds_told, state_told};
 ghost use Rattle.htl_saved.specs.Restored.{IsFoldable, AreFoldable};
 
 use crate::bounds::check_bounds;
-use crate::from_rows::{greatest_of, latest_of, tree_of};
+use crate::from_rows::{counts_of_rows, events_of_rows, greatest_of, latest_of, tree_of};
 use crate::holding::take_held;
 use htl_analyst::{Analyst, FoldedPart, RestoreFault};
 use htl_event::{NoMemory, SharedStack};
@@ -56,10 +56,13 @@ fn folded_part(
     requires { IsFoldable table.now part.now }
     ensures { IfOk result (λ fold. fold_of fold ≡ fold_told table.now part.now) }
 {
+    let counts = counts_of_rows(alloc, table, &part.counts)?;
+    let tree = tree_of(alloc, &counts)?;
+    let events = events_of_rows(alloc, table, &part.latest)?;
     Ok(FoldedPart {
         front: part.front,
-        tree: tree_of(alloc, table, &part.counts)?,
-        latest: latest_of(alloc, table, &part.latest)?,
+        tree,
+        latest: latest_of(events),
         marks: greatest_of(alloc, &part.marks)?,
         exits: greatest_of(alloc, &part.exits)?,
         last_sequence: part.last_sequence,

@@ -57,7 +57,7 @@ record SlotAgain (b : List ℕ) (slot : Slot) (rest : List ℕ) : Type 0 where
   slot_is : slot_of (number 4 4 b) (number 8 8 b) (drop 16 b) ≡ Some slot
   rest_is : drop 20 b ≡ rest
 
-three : (a b c rest : List ℕ) → (a ++ b ++ c) ++ rest ≡ a ++ (b ++ (c ++ rest))
+pub three : (a b c rest : List ℕ) → (a ++ b ++ c) ++ rest ≡ a ++ (b ++ (c ++ rest))
 three a b c rest = simp append_assoc
 
 length-three : (kind name : ℕ) (last : List ℕ) → length last ≡ 4 → length (bytes_of 4 kind ++ bytes_of 8 name ++ last) ≡ 16

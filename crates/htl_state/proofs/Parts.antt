@@ -20,7 +20,7 @@ use Rattle.htl_state.specs.WellFormed.{CountFits, LatestFits, MomentFits, Segmen
 use Rattle.htl_state.proofs.Readings.{two_steps, went_on, ok_is}
 use Rattle.htl_state.proofs.Lists.{IsBytes-tail, list_sound, list_complete}
 use Rattle.htl_state.proofs.Moments.{moments_exact}
-use Rattle.htl_state.proofs.Counts.{counts_exact}
+use Rattle.htl_state.proofs.Counts.{counts_exact, three}
 use Rattle.htl_state.proofs.LatestRows.{latest_exact}
 use Rattle.htl_state.proofs.Held.{held_exact}
 
@@ -43,9 +43,6 @@ abbrev from_latest : Setting → List ℕ → List CountRow → List ℕ → Rea
 from_latest s b tree b1 = and_then (list_in latest s b1) (from_marks s b tree)
 
 -- ---- pieces, and what follows them, grouped in two ways
-
-three : (a b c rest : List ℕ) → (a ++ b ++ c) ++ rest ≡ a ++ (b ++ (c ++ rest))
-three a b c rest = simp append_assoc
 
 six : (a b c d e f rest : List ℕ) → (a ++ b ++ c ++ d ++ e ++ f) ++ rest ≡ a ++ (b ++ (c ++ (d ++ (e ++ (f ++ rest)))))
 six a b c d e f rest = simp append_assoc

@@ -6,7 +6,7 @@ ghost use Rattle.htl_state.specs.Format.{slot_bytes};
 ghost use Rattle.htl_state.specs.Reading.{count_of, slot_of};
 
 use crate::fault::Fault;
-use crate::row::{Row, behind};
+use crate::row::{Row, RowRead, behind};
 use crate::rows::{CountRow, Setting};
 use htl_event::{Count, NoMemory, Slot};
 use htl_segment::{push_u32, push_u64, u32_at, u64_at};
@@ -30,11 +30,7 @@ impl Row for CountRow {
     }
 
     #[tactic(auto, unfolding(crate::specs::Reading::count_in))]
-    fn read<'a>(
-        _alloc: Global,
-        setting: Setting,
-        bytes: &'a [u8],
-    ) -> Result<Option<(CountRow, &'a [u8])>, NoMemory> {
+    fn read<'a>(_alloc: Global, setting: Setting, bytes: &'a [u8]) -> RowRead<'a, CountRow> {
         if bytes.len() < COUNT_LEN {
             return Ok(None);
         }

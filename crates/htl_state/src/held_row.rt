@@ -3,7 +3,7 @@ ghost use Rattle.std.specs.Prelude.{◌≡◌, Some, None, MatchOption};
 ghost use Rattle.htl_state.specs.Reading.{is_of, segment_of};
 
 use crate::fault::Fault;
-use crate::row::{Row, behind};
+use crate::row::{Row, RowRead, behind};
 use crate::rows::Setting;
 use htl_event::NoMemory;
 use htl_segment::{Fault as SegmentFault, Segment, decode, encode};
@@ -23,11 +23,7 @@ impl Row for Segment {
     }
 
     #[tactic(auto, unfolding(crate::specs::Reading::segment_in))]
-    fn read<'a>(
-        alloc: Global,
-        setting: Setting,
-        bytes: &'a [u8],
-    ) -> Result<Option<(Segment, &'a [u8])>, NoMemory> {
+    fn read<'a>(alloc: Global, setting: Setting, bytes: &'a [u8]) -> RowRead<'a, Segment> {
         match decode(alloc, bytes) {
             Ok((segment, len)) => Ok(of_part(setting, segment, behind(bytes, len))),
             Err(SegmentFault::NoMemory) => Err(NoMemory),

@@ -5,7 +5,7 @@ ghost use Rattle.htl_segment.specs.Numbers.{number};
 ghost use Rattle.htl_state.specs.Reading.{kind_of, latest_of};
 
 use crate::fault::Fault;
-use crate::row::{Row, behind};
+use crate::row::{Row, RowRead, behind};
 use crate::rows::{LatestRow, Setting};
 use htl_event::{Kind, NoMemory, base};
 use htl_segment::{code_of, push_u32, push_u64, u32_at, u64_at};
@@ -28,11 +28,7 @@ impl Row for LatestRow {
     }
 
     #[tactic(auto, unfolding(crate::specs::Reading::latest_in))]
-    fn read<'a>(
-        _alloc: Global,
-        setting: Setting,
-        bytes: &'a [u8],
-    ) -> Result<Option<(LatestRow, &'a [u8])>, NoMemory> {
+    fn read<'a>(_alloc: Global, setting: Setting, bytes: &'a [u8]) -> RowRead<'a, LatestRow> {
         if bytes.len() < LATEST_LEN {
             return Ok(None);
         }

@@ -2,7 +2,7 @@
 //!
 //! `encode` writes rows, and `decode` accepts exactly the bytes of rows that are well-formed and
 //! gives these rows. Of other bytes it reports the first rule that they break. What rows mean is for
-//! who makes them of an analyst, and an analyst of them. No command uses this yet.
+//! who makes them of an analyst, and an analyst of them.
 //!
 //! Files, in reading order: `rows.rt` (a state as rows), `checksum.rt` (the sum of bytes),
 //! `fault.rt`, `row.rt` (lists of any kind of row), `stack_row.rt`, `count_row.rt`, `latest_row.rt`,

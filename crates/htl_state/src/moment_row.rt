@@ -1,7 +1,7 @@
 //! Marks and exits: their rows, each a process and a sequence.
 
 use crate::fault::Fault;
-use crate::row::Row;
+use crate::row::{Row, RowRead};
 use crate::rows::Setting;
 use htl_event::NoMemory;
 use htl_segment::{push_u32, push_u64, u32_at, u64_at};
@@ -24,11 +24,7 @@ impl Row for (u32, u64) {
     }
 
     #[tactic(auto, unfolding(crate::specs::Reading::moment_in))]
-    fn read<'a>(
-        _alloc: Global,
-        _setting: Setting,
-        bytes: &'a [u8],
-    ) -> Result<Option<((u32, u64), &'a [u8])>, NoMemory> {
+    fn read<'a>(_alloc: Global, _setting: Setting, bytes: &'a [u8]) -> RowRead<'a, (u32, u64)> {
         if bytes.len() < MOMENT_LEN {
             return Ok(None);
         }

@@ -11,6 +11,9 @@ use htl_event::NoMemory;
 use htl_segment::{push_u64, u64_at};
 use std::alloc::Global;
 
+/// A row that was read and the bytes after it, if there was one.
+pub(crate) type RowRead<'a, R> = Result<Option<(R, &'a [u8])>, NoMemory>;
+
 /// A row of a list, which comes after the row before it.
 pub(crate) trait Row: Drop {
     ghost use Rattle.std.specs.Prelude.{◌≡◌, ◌++◌, Some, None, IfOk, OnOk, MatchOption};
@@ -29,11 +32,7 @@ pub(crate) trait Row: Drop {
         ensures { result ≡ format.fault };
 
     /// The row at the front of the bytes, and the bytes after it, if they begin with one that fits.
-    fn read<'a>(
-        alloc: Global,
-        setting: Setting,
-        bytes: &'a [u8],
-    ) -> Result<Option<(Self, &'a [u8])>, NoMemory>
+    fn read<'a>(alloc: Global, setting: Setting, bytes: &'a [u8]) -> RowRead<'a, Self>
         ensures { IfOk result (λ found. MatchOption found
             (format.read setting bytes.now ≡ None)
             (λ read. format.read setting bytes.now ≡ Some (read.0, read.1.now))) };

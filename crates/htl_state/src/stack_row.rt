@@ -4,7 +4,7 @@ ghost use Rattle.std.specs.List.{flat_map};
 ghost use Rattle.htl_segment.specs.Numbers.{numbers, bytes_of};
 
 use crate::fault::Fault;
-use crate::row::Row;
+use crate::row::{Row, RowRead};
 use crate::rows::Setting;
 use htl_event::{MAX_FRAMES, NoMemory, SharedStack};
 use htl_segment::{push_u64, u64_at};
@@ -25,11 +25,7 @@ impl Row for SharedStack {
     }
 
     #[tactic(auto, unfolding(crate::specs::Reading::stack_in))]
-    fn read<'a>(
-        alloc: Global,
-        _setting: Setting,
-        bytes: &'a [u8],
-    ) -> Result<Option<(SharedStack, &'a [u8])>, NoMemory> {
+    fn read<'a>(alloc: Global, _setting: Setting, bytes: &'a [u8]) -> RowRead<'a, SharedStack> {
         if bytes.len() < 1 {
             return Ok(None);
         }

@@ -39,10 +39,10 @@ loop-place-preserved g c =
       readers = asks_no_more next c.dump_input.new.source 1 l.invariant.readers is.tails;
       sound = is.failed;
       dumped = λ texts all.
-          let one = at_next next texts all (λ bytes. DumpsInput c.args.form bytes end old_out new_out) is.ok in
+          let one = at_next next texts all (λ bytes. DumpsInput c.args.form bytes end old_out new_out) is.dumped in
           dumps_next c.args.form texts l.place one.text end _ old_out new_out one.here (l.invariant.dumped texts all) one.holds;
       cut = λ texts all.
-          let one = at_next next texts all (λ bytes. DumpsInput c.args.form bytes end old_out new_out) is.ok in
+          let one = at_next next texts all (λ bytes. DumpsInput c.args.form bytes end old_out new_out) is.dumped in
           rw (c.with_input-cut.ensures, c.is_some.ensures) (cut_next c.args.form.hex texts l.place one.text (is_some end) l.cut one.here
           (l.invariant.cut texts all) (is_cut_of c.args.form.hex one.text end one.holds.1.ends));
       few = rw (c.with_input-cut.ensures) (fits_next _ l.place l.cut l.invariant.few);
@@ -61,7 +61,7 @@ returns-in_err-end g c =
     let new_out = (g.W.Sink.state c.dump_input.new.out).contents in
     rw (p.1, p.2) (record {
       outcome = λ texts all.
-          let one = at_next next texts all (λ bytes. InputStops c.args.form new.remaining new.ended l.place bytes old_out new_out fault) is.stops in
+          let one = at_next next texts all (λ bytes. InputStops c.args.form new.remaining new.ended l.place bytes old_out new_out fault) is.dumped in
           let so_far = l.invariant.dumped texts all in
           record {
             place = l.place;

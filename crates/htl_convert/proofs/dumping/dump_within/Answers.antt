@@ -4,7 +4,7 @@ use Rattle.std.specs.Prelude.{is_err}
 use Rattle.std.specs.Io.KnownBytes.{Consumes, IsAtEnd}
 use Rattle.std.proofs.lemmas.Grind.{common_steps}
 use Rattle.std.proofs.lemmas.List.{length-append}
-use Rattle.std.proofs.lemmas.Result.{err_from_is_err_and}
+use Rattle.std.proofs.lemmas.Result.{MatchResult-from_both, err_from_is_err_and}
 use Rattle.htl_device.specs.declared.source.TheConstants.{MAX_READ_LEN, MIN_READ_LEN}
 use Rattle.htl_segment.specs.Bundles.{IsRest}
 use Rattle.htl_convert.specs.Dumping.{FrontDumped}
@@ -12,8 +12,8 @@ use Rattle.htl_convert.proofs.DumpLaws.{finished, finished_cut, front_named, fro
 use Rattle.htl_convert.proofs.DumpLaws.{so_far_once_more, so_far_read, so_far_stops, so_far_unread}
 use Rattle.htl_convert.proofs.dumping.dump_within.Goals as goal
 
-pub returns-in_default-clause-stops : goal.returns-in_default-clause-stops
-returns-in_default-clause-stops g c =
+pub returns-in_default-clause-dumped : goal.returns-in_default-clause-dumped
+returns-in_default-clause-dumped g c =
     let failed : is_err c.read.result ≡ true = grind (arith, common_steps) in
     so_far_unread c.args.form _ _ _ _ _ _ _ _ c.requires.bytes (so_far_failed (g.R.Source.state c.args.source.now).remaining
     (g.R.Source.state c.loop-read.source).remaining (g.R.Source.state c.read.new.self).remaining c.loop-read.start c.loop-read.held.items
@@ -33,33 +33,25 @@ returns-in_default-clause-no_fault g c = λ at is.
     (g.R.Source.state c.read.new.self).remaining c.loop-read.start c.loop-read.held.items c.read.new.buffer _ _ c.read.result failed
     c.read.ensures.bytes c.loop-read.invariant.so_far)
 
-pub returns-then-count-eq0-clause-ok : goal.returns-then-count-eq0-clause-ok
-returns-then-count-eq0-clause-ok g c =
+pub returns-then-count-eq0-clause-dumped : goal.returns-then-count-eq0-clause-dumped
+returns-then-count-eq0-clause-dumped g c =
     let zero : c.in-Ok.count ≡ 0 = grind (arith, common_steps) in
     let last = (g.R.Source.state c.read.new.self).remaining in
     let none : Consumes (g.R.Source.state c.loop-read.source).remaining last [] =
     subst (λ (n : ℕ). Consumes (g.R.Source.state c.loop-read.source).remaining last (take n c.read.new.buffer)) zero c.in-Ok.ensures.bytes.0 in
     let end : IsAtEnd last = c.in-Ok.ensures.bytes.1 zero (omega arith) in
-    finished c.args.form _ _ _ _ _ _ _ c.finish.result c.requires.bytes c.loop-read.invariant.so_far none end
-    (rw (← c.deref.ensures.value) (c.finish.ensures.ok))
-
-pub returns-then-count-eq0-clause-stops : goal.returns-then-count-eq0-clause-stops
-returns-then-count-eq0-clause-stops g c =
-    let zero : c.in-Ok.count ≡ 0 = grind (arith, common_steps) in
-    let last = (g.R.Source.state c.read.new.self).remaining in
-    let none : Consumes (g.R.Source.state c.loop-read.source).remaining last [] =
-    subst (λ (n : ℕ). Consumes (g.R.Source.state c.loop-read.source).remaining last (take n c.read.new.buffer)) zero c.in-Ok.ensures.bytes.0 in
-    let end : IsAtEnd last = c.in-Ok.ensures.bytes.1 zero (omega arith) in
-    finished_cut c.args.form _ _ _ _ _ _ _ _ _ c.finish.result c.requires.bytes c.loop-read.invariant.so_far none end
-    (rw (← c.deref.ensures.value) (c.finish.ensures.stops))
+    MatchResult-from_both c.finish.result _ _ (finished c.args.form _ _ _ _ _ _ _ c.finish.result c.requires.bytes
+    c.loop-read.invariant.so_far none end (rw (← c.deref.ensures.value) (c.finish.ensures.ok)))
+    (finished_cut c.args.form _ _ _ _ _ _ _ _ _ c.finish.result c.requires.bytes c.loop-read.invariant.so_far none end
+    (rw (← c.deref.ensures.value) (c.finish.ensures.stops)))
 
 pub returns-then-count-eq0-clause-to_fault : goal.returns-then-count-eq0-clause-to_fault
 returns-then-count-eq0-clause-to_fault g c =
     let few : length (take c.in-Ok.count c.read.new.buffer) ≤ MAX_READ_LEN = grind (arith, common_steps) in
     so_far_once_more _ _ _ _ _ _ _ _ c.loop-read.invariant.so_far c.in-Ok.ensures.bytes.0 few
 
-pub returns-in_err-extend_from_slice-clause-stops : goal.returns-in_err-extend_from_slice-clause-stops
-returns-in_err-extend_from_slice-clause-stops g c =
+pub returns-in_err-extend_from_slice-clause-dumped : goal.returns-in_err-extend_from_slice-clause-dumped
+returns-in_err-extend_from_slice-clause-dumped g c =
     let p = err_from_is_err_and c.from_residual.result c.from_residual.ensures.1 in
     let some : 0 < length (take c.in-Ok.count c.read.new.buffer) = grind (arith, common_steps) in
     let inside : (g.R.Source.state c.read.new.self).ended ≡ false = grind (arith, common_steps) in
@@ -70,8 +62,8 @@ returns-in_err-extend_from_slice-clause-to_fault g c =
     let few : length (take c.in-Ok.count c.read.new.buffer) ≤ MAX_READ_LEN = grind (arith, common_steps) in
     so_far_once_more _ _ _ _ _ _ _ _ c.loop-read.invariant.so_far c.in-Ok.ensures.bytes.0 few
 
-pub returns-in_err-left-clause-stops : goal.returns-in_err-left-clause-stops
-returns-in_err-left-clause-stops g c =
+pub returns-in_err-left-clause-dumped : goal.returns-in_err-left-clause-dumped
+returns-in_err-left-clause-dumped g c =
     let p = err_from_is_err_and c.from_residual-in_err-left.result c.from_residual-in_err-left.ensures.1 in
     let all : c.extend_from_slice.new.self.items ≡ c.loop-read.held.items ++ take c.in-Ok.count c.read.new.buffer =
     grind (arith, common_steps) in
@@ -107,8 +99,8 @@ returns-in_err-left-clause-to_fault g c =
     let few : length (take c.in-Ok.count c.read.new.buffer) ≤ MAX_READ_LEN = grind (arith, common_steps) in
     so_far_once_more _ _ _ _ _ _ _ _ c.loop-read.invariant.so_far c.in-Ok.ensures.bytes.0 few
 
-pub returns-clause-stops : goal.returns-clause-stops
-returns-clause-stops g c = so_far_unread c.args.form _ _ _ _ _ _ _ _ c.requires.bytes c.loop-read.invariant.so_far
+pub returns-clause-dumped : goal.returns-clause-dumped
+returns-clause-dumped g c = so_far_unread c.args.form _ _ _ _ _ _ _ _ c.requires.bytes c.loop-read.invariant.so_far
 
 pub returns-clause-to_fault : goal.returns-clause-to_fault
 returns-clause-to_fault g c = so_far_read _ _ _ _ _ _ _ c.loop-read.invariant.so_far

@@ -1,5 +1,5 @@
 -- Processors are tried in turn, and the first that isn't bounded is refused.
-use Rattle.std.proofs.Common.{ℕ, List, length, map, sym, subst, arith}
+use Rattle.std.proofs.Common.{ℕ, List, map, sym, subst, arith}
 use Rattle.std.proofs.lemmas.List.{length-map}
 use Rattle.std.proofs.lemmas.Result.{err_from_is_err_and}
 use Rattle.htl_analyst.specs.Restored.{Fold, IsOver}

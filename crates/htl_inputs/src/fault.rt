@@ -5,6 +5,7 @@ use htl_device::ReadFault;
 use htl_event::NoMemory;
 use htl_reading::{DigitsFault, SourceFault};
 use htl_segment::{Fault, HexFault};
+use htl_state::Fault as StateFault;
 use htl_symbols::SymbolFault;
 use htl_text::{LineFault, TextFault, event_line};
 use std::alloc::{AllocError, AllocFailed};
@@ -80,6 +81,31 @@ pub enum RunFault {
     UnknownCut {
         input: u64,
     },
+    /// The bytes at this offset of a saved state are none of its format. States are counted as
+    /// inputs are: that of a line is 0.
+    #[error("hleak: state {state}, offset {offset}: {fault}")]
+    State {
+        state: u64,
+        offset: u64,
+        fault: StateFault,
+    },
+    /// A saved state counts more of this processor than its segments can have.
+    #[error("hleak: state {state}: F17({processor})")]
+    Unbounded {
+        state: u64,
+        processor: u16,
+    },
+    /// A saved state could not be read.
+    #[error("hleak: state {state}: read failed")]
+    StateRead {
+        state: u64,
+    },
+    /// A state could not be saved.
+    #[error("hleak: state: write failed")]
+    StateWrite,
+    /// What was folded has more than 2^32 stacks, so it can't be saved.
+    #[error("hleak: state: more than 2^32 stacks")]
+    StateStacks,
 }
 
 impl RunFault {
@@ -88,21 +114,30 @@ impl RunFault {
     ghost use Rattle.htl_inputs.specs.Faults.{of_text};
     ghost use Rattle.htl_inputs.specs.Statuses.{status_of};
 
-    /// The exit status of the program: 2 for a wrong command, 3 for malformed input, 4 if the
-    /// inputs don't form a case, or not the complete one that was asked for, or the subject has no
-    /// event, 5 if a device failed, 6 if memory was refused, and 7 for malformed symbols. A run
-    /// without a fault has status 0.
+    /// The exit status of the program: 2 for a wrong command, 3 for malformed input or a malformed
+    /// state, 4 if the inputs don't form a case, or not the complete one that was asked for, or the
+    /// subject has no event, 5 if a device failed or a state can't be saved, 6 if memory was
+    /// refused, and 7 for malformed symbols. A run without a fault has status 0.
     pub fn status(&self) -> u8
         ensures { result ≡ status_of self.now }
     {
         match self {
             RunFault::Workers => 2,
-            RunFault::Segment { .. } | RunFault::Hex { .. } | RunFault::Text { .. } => 3,
+            RunFault::Segment { .. }
+            | RunFault::Hex { .. }
+            | RunFault::Text { .. }
+            | RunFault::State { .. }
+            | RunFault::Unbounded { .. } => 3,
             RunFault::Case(_)
             | RunFault::Incomplete { .. }
             | RunFault::UnknownCut { .. }
             | RunFault::NoSubject => 4,
-            RunFault::Read { .. } | RunFault::SymbolsRead | RunFault::Write => 5,
+            RunFault::Read { .. }
+            | RunFault::SymbolsRead
+            | RunFault::Write
+            | RunFault::StateRead { .. }
+            | RunFault::StateWrite
+            | RunFault::StateStacks => 5,
             RunFault::Memory | RunFault::NoThread => 6,
             RunFault::Symbols(_) => 7,
         }

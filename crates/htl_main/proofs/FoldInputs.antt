@@ -253,7 +253,8 @@ no_members : (ss : List Content) → ((s : Content) → Contains ss s → ⊥) �
 no_members [] none = refl
 no_members (s ∷ ss) none = absurd (none s (Contains-here s ss))
 
-counted_before : (before : List Content) (old : Option State) (T : Trace) → AreTaken before old → IsCollectionOf before T
+-- as many were counted as the first of each key are
+pub counted_before : (before : List Content) (old : Option State) (T : Trace) → AreTaken before old → IsCollectionOf before T
     → number_of old ≡ length T.segments
 counted_before before None T taken all =
     sym (no_members T.segments (λ s has. subst (λ (ss : List Content). IsFirstOf ss s) taken ((all.members s).0 has)))

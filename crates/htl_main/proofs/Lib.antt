@@ -26,3 +26,5 @@ pub mod UntilLaws
 pub mod AnalystAnswers
 pub mod FinalAnswers
 pub mod Foldable
+pub mod MergingLaws
+pub mod StatesLoaded

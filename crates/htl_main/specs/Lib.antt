@@ -13,10 +13,12 @@ pub mod Folding
 pub mod Asked
 pub mod Picked
 pub mod Runs
+pub mod SavedStates
 pub mod Analysts
 pub mod Histories
 -- What only private contracts cite.
 pub mod Folders
+pub mod Merging
 pub mod CaseOutlines
 pub mod Pairs
 pub mod Picking

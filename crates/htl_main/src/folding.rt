@@ -1,11 +1,13 @@
 //! A reading that forgets: segments are folded as they come, and no event is kept.
 //!
 //! `taking.rt` takes the segments of sources, `folder.rt` folds them, `falling.rt` finds which one
-//! falls once another one is taken, and `answers.rt` answers over what was folded.
+//! falls once another one is taken, `answers.rt` answers over what was folded, and `states.rt` saves
+//! and merges its state.
 
 mod answers;
 mod falling;
 mod folder;
+mod states;
 mod taking;
 
 ghost use Rattle.std.specs.Prelude.{◌≡◌, List, Some, None, true, map, IfErr, IfOk};
@@ -33,6 +35,7 @@ use htl_command::Setting;
 use htl_device::Parted;
 use htl_inputs::{CutEnd, RunFault, cut_inputs};
 use htl_symbols::Symbols;
+pub use states::{merge_state, state_bytes};
 use std::alloc::Global;
 use std::thread::Threads;
 

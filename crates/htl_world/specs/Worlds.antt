@@ -15,11 +15,12 @@ pub record Known : Type 0 where
   pub standard : Option (List ℕ)
   pub standard_can_be_read_again : Bool
 
--- One thing that a world was asked for: to open a name, or to read all of one, and why that was refused, if it was; standard input; or
--- standard input as the lines of a dialogue.
+-- One thing that a world was asked for: to open a name, to read all of one, or to have one hold these bytes, and why that was refused, if
+-- it was; standard input; or standard input as the lines of a dialogue.
 pub data Ask : Type 0 where
   to_open : List ℕ → Option OpenFault → Ask
   to_read : List ℕ → Option OpenFault → Ask
+  to_write : List ℕ → List ℕ → Option OpenFault → Ask
   for_standard : Ask
   for_questions : Ask
 
@@ -66,6 +67,10 @@ pub record IsReadWhole (old new : WorldState) (name : List ℕ) (result : Result
   pub bytes : IfOk result (λ bytes. IfSome (old.known.holds name) (λ known. bytes.items ≡ known))
   pub there : OnOk result (old.known.is_absent name ≡ false)
   pub refused : result ≡ Err Refused → old.known.holds name ≡ None
+
+-- A name was to hold these bytes, once. What is known of the world stays, so nothing is known of a name that may be written.
+pub record IsWritten {X : Type 0} (old new : WorldState) (name bytes : List ℕ) (result : Result X OpenFault) : Type 0 where
+  pub asked : IsAsked old new (to_write name bytes (refusal_of result) ∷ [])
 
 -- Standard input was asked for once, as inputs or as lines, and nothing of it was read.
 pub record IsStandard {R : Type 0} (state : R → SourceState) (old new : WorldState) (ask : Ask) (input : R) : Type 0 where

@@ -1,7 +1,7 @@
 //! What the program opens.
 
 ghost use Rattle.std.specs.Prelude.{◌≡◌, true};
-ghost use Rattle.htl_world.specs.Worlds.{IsOpened, IsReadWhole, IsStandard, WorldState};
+ghost use Rattle.htl_world.specs.Worlds.{IsOpened, IsReadWhole, IsStandard, IsWritten, WorldState};
 ghost use Rattle.htl_world.specs.Worlds.{for_questions, for_standard};
 
 use htl_device::Parted;
@@ -30,6 +30,11 @@ pub trait World {
     /// All bytes of a name.
     fn read(&mut self, name: &str) -> Result<Vec<u8>, OpenFault>
         ensures { IsReadWhole (state self.old) (state self.new) name.now result };
+
+    /// Has a name hold these bytes, all of them or what it held before, whatever happens meanwhile.
+    /// Of a name that may be written it isn't known what it holds.
+    fn write(&mut self, name: &str, bytes: &[u8]) -> Result<(), OpenFault>
+        ensures { IsWritten (state self.old) (state self.new) name.now bytes.now result };
 
     /// Standard input, of which nothing was read.
     fn standard_input(&mut self) -> Self::Input

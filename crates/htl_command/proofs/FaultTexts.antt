@@ -18,6 +18,7 @@ use Rattle.htl_command.specs.Steps.{AreFault, Finds, after_blank, code_named, is
 use Rattle.htl_command.specs.Values.{sequence_in}
 use Rattle.htl_command.specs.declared.code.Code.{Code}
 use Rattle.htl_command.specs.declared.code.Code.TheVariants.{S1, S2, S3, S4, S5, S6, S7, S8, S9, S10, S11, S12, S13, S14, S15, S16, S17, H1, H2, H3}
+use Rattle.htl_command.specs.declared.code.Code.TheVariants.{F1, F2, F3, F4, F5, F6, F7, F8, F9, F10, F11, F12, F13, F14, F15, F16, F17}
 use Rattle.htl_command.specs.declared.code.Code.TheVariants.{C1, C2, C3, C4, C5, C6, C7, C8, C9, C10, Y1, Y2, Y3, Y4, Y5, Y6, Y7, E1, E2}
 use Rattle.htl_command.specs.declared.printed.Form.{Form}
 use Rattle.htl_command.specs.declared.printed.Form.TheVariants as form
@@ -63,6 +64,23 @@ own S17 = refl
 own H1 = refl
 own H2 = refl
 own H3 = refl
+own F1 = refl
+own F2 = refl
+own F3 = refl
+own F4 = refl
+own F5 = refl
+own F6 = refl
+own F7 = refl
+own F8 = refl
+own F9 = refl
+own F10 = refl
+own F11 = refl
+own F12 = refl
+own F13 = refl
+own F14 = refl
+own F15 = refl
+own F16 = refl
+own F17 = refl
 own C1 = refl
 own C2 = refl
 own C3 = refl

@@ -3,14 +3,16 @@ use Rattle.std.specs.Prelude.{ℕ, List, [], ◌∷◌, codes}
 use Rattle.htl_command.specs.declared.code.Code.{Code}
 use Rattle.htl_command.specs.declared.code.Code.TheVariants.{S1, S2, S3, S4, S5, S6, S7, S8, S9, S10, S11, S12, S13, S14, S15, S16, S17}
 use Rattle.htl_command.specs.declared.code.Code.TheVariants.{H1, H2, H3}
+use Rattle.htl_command.specs.declared.code.Code.TheVariants.{F1, F2, F3, F4, F5, F6, F7, F8, F9, F10, F11, F12, F13, F14, F15, F16, F17}
 use Rattle.htl_command.specs.declared.code.Code.TheVariants.{C1, C2, C3, C4, C5, C6, C7, C8, C9, C10}
 use Rattle.htl_command.specs.declared.code.Code.TheVariants.{Y1, Y2, Y3, Y4, Y5, Y6, Y7}
 use Rattle.htl_command.specs.declared.code.Code.TheVariants.{E1, E2}
 
 abbrev pub all_codes : List Code
 all_codes =
-    S1 ∷ S2 ∷ S3 ∷ S4 ∷ S5 ∷ S6 ∷ S7 ∷ S8 ∷ S9 ∷ S10 ∷ S11 ∷ S12 ∷ S13 ∷ S14 ∷ S15 ∷ S16 ∷ S17 ∷ H1 ∷ H2 ∷ H3 ∷ C1 ∷ C2 ∷
-    C3 ∷ C4 ∷ C5 ∷ C6 ∷ C7 ∷ C8 ∷ C9 ∷ C10 ∷ Y1 ∷ Y2 ∷ Y3 ∷ Y4 ∷ Y5 ∷ Y6 ∷ Y7 ∷ E1 ∷ E2 ∷ []
+    S1 ∷ S2 ∷ S3 ∷ S4 ∷ S5 ∷ S6 ∷ S7 ∷ S8 ∷ S9 ∷ S10 ∷ S11 ∷ S12 ∷ S13 ∷ S14 ∷ S15 ∷ S16 ∷ S17 ∷ H1 ∷ H2 ∷ H3 ∷
+    F1 ∷ F2 ∷ F3 ∷ F4 ∷ F5 ∷ F6 ∷ F7 ∷ F8 ∷ F9 ∷ F10 ∷ F11 ∷ F12 ∷ F13 ∷ F14 ∷ F15 ∷ F16 ∷ F17 ∷
+    C1 ∷ C2 ∷ C3 ∷ C4 ∷ C5 ∷ C6 ∷ C7 ∷ C8 ∷ C9 ∷ C10 ∷ Y1 ∷ Y2 ∷ Y3 ∷ Y4 ∷ Y5 ∷ Y6 ∷ Y7 ∷ E1 ∷ E2 ∷ []
 
 -- each code as a fault's line has it
 abbrev pub code_name : Code → List ℕ
@@ -34,6 +36,23 @@ code_name S17 = codes "S17"
 code_name H1 = codes "H1"
 code_name H2 = codes "H2"
 code_name H3 = codes "H3"
+code_name F1 = codes "F1"
+code_name F2 = codes "F2"
+code_name F3 = codes "F3"
+code_name F4 = codes "F4"
+code_name F5 = codes "F5"
+code_name F6 = codes "F6"
+code_name F7 = codes "F7"
+code_name F8 = codes "F8"
+code_name F9 = codes "F9"
+code_name F10 = codes "F10"
+code_name F11 = codes "F11"
+code_name F12 = codes "F12"
+code_name F13 = codes "F13"
+code_name F14 = codes "F14"
+code_name F15 = codes "F15"
+code_name F16 = codes "F16"
+code_name F17 = codes "F17"
 code_name C1 = codes "C1"
 code_name C2 = codes "C2"
 code_name C3 = codes "C3"

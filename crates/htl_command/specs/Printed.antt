@@ -6,7 +6,7 @@ use Rattle.std.specs.Str.{trim, trim_end}
 use Rattle.htl_command.specs.Codes.{code_name}
 use Rattle.htl_command.specs.Values.{sequence_in}
 use Rattle.htl_command.specs.declared.code.Code.{Code}
-use Rattle.htl_command.specs.declared.code.Code.TheVariants.{S11, S12, S13, S14, S15, H1, C2, C3, C4, C5, C7, C8, C10}
+use Rattle.htl_command.specs.declared.code.Code.TheVariants.{S11, S12, S13, S14, S15, H1, F17, C2, C3, C4, C5, C7, C8, C10}
 use Rattle.htl_command.specs.declared.code.Code.TheVariants.{Y2, Y3, Y4, Y5, Y6, E1}
 use Rattle.htl_command.specs.declared.printed.Form.{Form}
 use Rattle.htl_command.specs.declared.printed.Form.TheVariants as form
@@ -22,6 +22,7 @@ form_of S13 = form.Number
 form_of S14 = form.Number
 form_of S15 = form.Number
 form_of H1 = form.Number
+form_of F17 = form.Number
 form_of C2 = form.Number
 form_of C3 = form.Number
 form_of C4 = form.Numbers

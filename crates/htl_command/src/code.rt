@@ -4,7 +4,8 @@ ghost use Rattle.htl_command.specs.Codes.{code_name};
 ghost use Rattle.htl_command.specs.Steps.{code_named, is_called};
 
 /// The code of a fault, without the numbers that may follow it: of a segment (S), of its digits in
-/// hexadecimal (H), of all segments (C), of a symbol table (Y), or of a line of text (E).
+/// hexadecimal (H), of a saved state (F), of all segments (C), of a symbol table (Y), or of a line of
+/// text (E).
 #[derive(Clone, Copy, Debug, PartialEq, Eq)]
 pub enum Code {
     S1,
@@ -27,6 +28,23 @@ pub enum Code {
     H1,
     H2,
     H3,
+    F1,
+    F2,
+    F3,
+    F4,
+    F5,
+    F6,
+    F7,
+    F8,
+    F9,
+    F10,
+    F11,
+    F12,
+    F13,
+    F14,
+    F15,
+    F16,
+    F17,
     C1,
     C2,
     C3,
@@ -49,7 +67,7 @@ pub enum Code {
 }
 
 /// All codes.
-const CODES: [Code; 39] = [
+const CODES: [Code; 56] = [
     Code::S1,
     Code::S2,
     Code::S3,
@@ -70,6 +88,23 @@ const CODES: [Code; 39] = [
     Code::H1,
     Code::H2,
     Code::H3,
+    Code::F1,
+    Code::F2,
+    Code::F3,
+    Code::F4,
+    Code::F5,
+    Code::F6,
+    Code::F7,
+    Code::F8,
+    Code::F9,
+    Code::F10,
+    Code::F11,
+    Code::F12,
+    Code::F13,
+    Code::F14,
+    Code::F15,
+    Code::F16,
+    Code::F17,
     Code::C1,
     Code::C2,
     Code::C3,
@@ -117,6 +152,23 @@ impl Code {
             Code::H1 => "H1",
             Code::H2 => "H2",
             Code::H3 => "H3",
+            Code::F1 => "F1",
+            Code::F2 => "F2",
+            Code::F3 => "F3",
+            Code::F4 => "F4",
+            Code::F5 => "F5",
+            Code::F6 => "F6",
+            Code::F7 => "F7",
+            Code::F8 => "F8",
+            Code::F9 => "F9",
+            Code::F10 => "F10",
+            Code::F11 => "F11",
+            Code::F12 => "F12",
+            Code::F13 => "F13",
+            Code::F14 => "F14",
+            Code::F15 => "F15",
+            Code::F16 => "F16",
+            Code::F17 => "F17",
             Code::C1 => "C1",
             Code::C2 => "C2",
             Code::C3 => "C3",

@@ -88,6 +88,16 @@ For more information, try 'hleak encode --help'.";
         wrong_line(alloc, why)
     }
 
+    /// The fault of a line that merges a state, or saves it, where events are kept.
+    pub fn needs_fold(alloc: Global) -> ParseFault
+        ensures { IsUsageWith ⊤ result }
+    {
+        wrong_line(
+            alloc,
+            "'merge' and 'save' need '--fold', which keeps no events",
+        )
+    }
+
     /// The exit status of the program: 0 for help, 2 for arguments that are no command line, 6 for
     /// memory.
     pub fn status(&self) -> u8
@@ -207,7 +217,7 @@ pub(crate) fn other_command(alloc: Global) -> ParseFault
     ensures { IsUsageWith ⊤ result }
 {
     let why = "\
-a line is a question, 'read FILE ..', 'use N' or 'quit'
+a line is a question, or 'read', 'merge', 'save', 'use' or 'quit'
 
   tip: ask, explain, dump and encode are commands of their own";
     wrong_line(alloc, why)

@@ -52,6 +52,8 @@ pub(crate) const DIALOGUE_USAGE: &str = "<COMMAND> [OPTIONS]";
 pub(crate) const DIALOGUE_AFTER_HELP: &str = "\
 Other lines:
   read FILE ..  Read more segments; a name that begins with '-' follows '--'
+  merge FILE    Merge a saved state of the same trace, with --fold
+  save FILE     Save the state of what was read, with --fold
   use N         Use process N in questions without --process; none to use none
   quit          End the dialogue, as exit and q do
 
@@ -61,9 +63,9 @@ Options of every question:
                    up to which answers are final: 0 if a processor is idle
       --json       One JSON object a line, for other programs
 
-'COMMAND --help' lists the options of a question. 'help read', 'help use' and
-'help quit' say more of other lines. An argument with blanks stands in double
-quotes.
+'COMMAND --help' lists the options of a question. 'help read', 'help merge',
+'help save', 'help use' and 'help quit' say more of other lines. An argument
+with blanks stands in double quotes.
 
 With --fold no line asks for 'trace', 'growth' or '--until'.";
 
@@ -82,7 +84,8 @@ pub(crate) const DIALOGUE_FILES_HELP: &str = "Trace segments";
 pub(crate) const CODE_HELP: &str = "The code of a fault, as S10 or 'C8(0, 2)', or its whole line";
 
 /// Which codes there are, as a refusal reports it.
-pub(crate) const CODE_EXPECTED: &str = "S1 to S17, H1 to H3, C1 to C10, Y1 to Y7, E1 or E2";
+pub(crate) const CODE_EXPECTED: &str =
+    "S1 to S17, H1 to H3, F1 to F17, C1 to C10, Y1 to Y7, E1 or E2";
 
 impl CommandName {
     /// What the command is for, in one line.
@@ -115,9 +118,10 @@ Each line of standard input is a question with its options, as
 'leaks --process 4 --top 5'. An argument with blanks stands in double quotes.
 The answer is written with an empty line after it. 'read FILE ..' reads more
 segments, and replies how many; answers are final up to its complete_to.
-'use N' names the process of questions without --process. Any other line gets
-the empty line alone, and status 2 at the end. One without an argument (blanks,
-\"\") gets no reply. 'quit' ends.
+'use N' names the process of questions without --process. With --fold
+'save FILE' saves what was read, and 'merge FILE' merges such a state. Any other
+line gets the empty line alone, and status 2 at the end. One without an argument
+(blanks, \"\") gets no reply. 'quit' ends.
 
 Example:
   hleak ask --symbols names.csv cpu0.hls cpu1.hls"

@@ -20,7 +20,7 @@ pub struct PrintedFault {
 pub enum Parts {
     /// The code stands alone.
     Nothing,
-    /// A record, byte, segment, sequence, input or row, as in `S12(1)`.
+    /// A record, byte, processor, segment, sequence, input or row, as in `S12(1)`.
     Number(u64),
     /// A processor and the number of a segment, as in `C8(0, 2)`.
     Numbers(u64, u64),
@@ -60,7 +60,7 @@ impl Form {
     {
         match code {
             Code::S11 | Code::S12 | Code::S13 | Code::S14 | Code::S15 => Form::Number,
-            Code::H1 | Code::C2 | Code::C3 | Code::C5 | Code::C10 => Form::Number,
+            Code::H1 | Code::F17 | Code::C2 | Code::C3 | Code::C5 | Code::C10 => Form::Number,
             Code::Y2 | Code::Y3 | Code::Y4 | Code::Y5 | Code::Y6 => Form::Number,
             Code::C4 | Code::C7 | Code::C8 => Form::Numbers,
             Code::E1 => Form::Field,

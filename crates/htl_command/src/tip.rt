@@ -105,7 +105,8 @@ impl fmt::Display for Tip<'_> {
             ),
             Tip::Line => write!(
                 f,
-                "{TIP}a line is a question, 'read FILE ..', 'use N' or 'quit', as 'help' says"
+                "{TIP}a line is a question, or 'read', 'merge', 'save', 'use' or 'quit', as\n  \
+                'help' says"
             ),
             Tip::Before => {
                 write!(

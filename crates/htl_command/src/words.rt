@@ -25,6 +25,33 @@ about all of them. After a fault none of these files counts; with --fold what
 was read before the fault does.
 ";
 
+const MERGE_HELP: &str = "\
+Merge a saved state into what was read
+
+Usage: merge <FILE>
+
+Arguments:
+  <FILE>  A state that 'save' wrote; a name that begins with '-' follows '--'
+
+The state has to be of the same trace. The reply, as
+'merged segments=1 new=0 complete_to=9 gaps=0', counts the segments of the state
+and the new ones; the rest is of all. Later questions are about all of them. A
+state that is refused changes nothing. Only with --fold.
+";
+
+const SAVE_HELP: &str = "\
+Save the state of what was read
+
+Usage: save <FILE>
+
+Arguments:
+  <FILE>  Where the state is written; a name that begins with '-' follows '--'
+
+The new file takes the place of an old one as a whole, also where the machine
+stops in between. The reply, as 'saved bytes=4096', comes once it is on the
+disk. 'merge' reads it, in this dialogue or another one. Only with --fold.
+";
+
 const USE_HELP: &str = "\
 Use a process in questions that name none
 
@@ -54,6 +81,20 @@ impl ParseFault {
         help(alloc, READ_HELP)
     }
 
+    /// The help of a line that merges a state.
+    pub fn merge_help(alloc: Global) -> ParseFault
+        ensures { IsHelp result }
+    {
+        help(alloc, MERGE_HELP)
+    }
+
+    /// The help of a line that saves the state.
+    pub fn save_help(alloc: Global) -> ParseFault
+        ensures { IsHelp result }
+    {
+        help(alloc, SAVE_HELP)
+    }
+
     /// The help of a line that uses a process.
     pub fn use_help(alloc: Global) -> ParseFault
         ensures { IsHelp result }
@@ -66,6 +107,22 @@ impl ParseFault {
         ensures { IsHelp result }
     {
         help(alloc, QUIT_HELP)
+    }
+
+    /// The fault of a line that begins with this word, takes the name of a file, and has none, or
+    /// several, or an option.
+    pub fn no_name(alloc: Global, word: &str) -> ParseFault
+        ensures { IsUsageWith ⊤ result }
+    {
+        let why = format!(in alloc;
+            "'{word}' takes one file, and no option\n\n  \
+            tip: a name that begins with '-' follows '--', as in '{word} -- -a.hla'\n\n\
+            For more information, try 'help {word}'."
+        );
+        match why {
+            Ok(why) => usage(alloc, &why, ""),
+            Err(_) => ParseFault::Memory,
+        }
     }
 
     /// The fault of a line that is to use a process and has several arguments for it.

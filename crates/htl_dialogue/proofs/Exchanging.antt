@@ -52,6 +52,8 @@ module _ {S : Type 0} (answers : Answers S) where
   fault_is_of_line line (said.Asks job) before after reply early keeps replied = replied
   fault_is_of_line line (said.Reads files) before after reply early keeps replied = replied
   fault_is_of_line line (said.Uses process) before after reply early keeps replied = replied
+  fault_is_of_line line (said.Merges name) before after reply early keeps replied = replied
+  fault_is_of_line line (said.Saves name) before after reply early keeps replied = replied
   fault_is_of_line line (said.Wrong kept) before after reply early keeps replied =
       (replied.0, replied.1, (replied.2.0, subst (IsFaultOf answers.forgets line) (sym (replied.2.1)) keeps, replied.2.2))
 

@@ -1,9 +1,9 @@
 -- What is found among arguments is the same of the texts themselves and of what holds them: names of files, and whether one passes a test.
-use Rattle.std.proofs.Common.{◌≡◌, ◌∙◌, ◌+◌, ℕ, suc, Bool, List, [], ◌∷◌, map, refl, sym, ap, length, take, drop}
+use Rattle.std.proofs.Common.{◌≡◌, ◌≢◌, ◌∙◌, ◌+◌, ◌++◌, ℕ, suc, Bool, List, [], ◌∷◌, map, refl, sym, ap, length, take, drop}
 use Rattle.std.proofs.lemmas.List.{drop-map, length-map, map-append, take-map}
 use Rattle.std.specs.List.{list_any, position, position_or_len, remove}
 use Rattle.std.specs.Prelude.{◌||◌, None, Some, cond, nat_lt, not}
-use Rattle.htl_dialogue.specs.Sayings.{before_files, ends_options, names_among}
+use Rattle.htl_dialogue.specs.Sayings.{before_files, ends_options, names_among, only}
 
 place_of_texts : {X : Type 0} (text_of : X → List ℕ) (test : List ℕ → Bool) (xs : List X)
     → position_or_len (λ x. test (text_of x)) xs ≡ position_or_len test (map text_of xs)
@@ -44,3 +44,10 @@ pub names_none : {X : Type 0} (text_of : X → List ℕ) (xs : List X) → posit
     → map text_of xs ≡ names_among (map text_of xs)
 unfolding names_among
 names_none text_of xs is = rw is refl
+
+-- behind other names a name isn't the only one
+pub one_of_several : {X : Type 0} (text_of : X → List ℕ) (others : List X) (name : X) → others ≢ []
+    → only (map text_of (others ++ name ∷ [])) ≡ None
+one_of_several text_of [] name some = absurd (some refl)
+one_of_several text_of (x ∷ []) name some = refl
+one_of_several text_of (x ∷ (y ∷ more)) name some = refl

@@ -8,7 +8,7 @@ use Rattle.htl_dialogue.specs.Notes.{AreTold, AreToldOf, OwnNote, after_notes, f
 use Rattle.htl_dialogue.specs.declared.note.Note.TheVariants as hear
 use Rattle.htl_main.specs.declared.completed.Absence.{Absence}
 use Rattle.htl_main.specs.declared.printing.AnswerText.{AnswerText}
-use Rattle.htl_dialogue.specs.Sayings.{Saying, asks, nothing, quits, reads, uses, wrong}
+use Rattle.htl_dialogue.specs.Sayings.{Saying, asks, merges, nothing, quits, reads, saves, uses, wrong}
 
 -- notes after others
 pub notes_after : {Speaker : Type 0} (told : Speaker → OwnNote → Speaker) (speaker : Speaker) (first more : List OwnNote)
@@ -57,6 +57,8 @@ module _ (has_table : Bool) (HasOutcome : Job → Result AnswerText RunFault →
   told_has_no_fault wanted (asks job) notes is = told_has_no_fault_of wanted job notes is
   told_has_no_fault wanted (reads files) notes is = ap first_fault is
   told_has_no_fault wanted (uses process) notes is = ap first_fault is
+  told_has_no_fault wanted (merges name) notes is = ap first_fault is
+  told_has_no_fault wanted (saves name) notes is = ap first_fault is
   told_has_no_fault wanted nothing notes is = ap first_fault is
   told_has_no_fault wanted quits notes is = ap first_fault is
   told_has_no_fault wanted wrong notes is = ap first_fault is

@@ -6,7 +6,7 @@ use Rattle.htl_command.specs.declared.question.Job.{Job}
 use Rattle.htl_inputs.specs.declared.fault.RunFault.{RunFault}
 use Rattle.htl_dialogue.specs.Dialogues.{Answers, AreExchanges, Converses, GotAt, IsReplied, DialogueStops, asked_lines}
 use Rattle.htl_dialogue.specs.Notes.{AreTold, AreToldOf, IsFaultOf, OwnNote}
-use Rattle.htl_dialogue.specs.Sayings.{Saying, Turn, asks, nothing, quits, reads, saying_in, uses, wrong}
+use Rattle.htl_dialogue.specs.Sayings.{Saying, Turn, asks, merges, nothing, quits, reads, saves, saying_in, uses, wrong}
 use Rattle.htl_dialogue.specs.declared.dialogue.Conversed.{Conversed}
 use Rattle.htl_dialogue.specs.declared.dialogue.DialogueFault.{DialogueFault}
 use Rattle.htl_dialogue.specs.declared.dialogue.DialogueFault.TheVariants.{Questions, Write, NoMemory}
@@ -15,8 +15,8 @@ use Rattle.htl_main.specs.declared.completed.Absence.{Absence}
 use Rattle.htl_main.specs.declared.printing.AnswerText.{AnswerText}
 use Rattle.htl_main.specs.declared.refused.Refused.{Refused}
 
--- The other answers what the first does, and reads files where the first does, with the same end, so that it follows. Both forget events,
--- or keep them, and both have a table of symbols, or none.
+-- The other answers what the first does, and reads files and merges states where the first does, with the same end, so that it follows; and
+-- it saves what the first does. Both forget events, or keep them, and both have a table of symbols, or none.
 module _ {A B : Type 0} (one : Answers A) (other : Answers B) (alike : one.forgets ≡ other.forgets)
     (same_table : one.has_table ≡ other.has_table) (Follows : A → B → Type 0)
     (outcome_too : (a : A) (b : B) (job : Job) (outcome : Result AnswerText RunFault) → Follows a b → one.has_outcome a job outcome
@@ -24,7 +24,11 @@ module _ {A B : Type 0} (one : Answers A) (other : Answers B) (alike : one.forge
     (absence_too : (a : A) (b : B) (job : Job) (absence : Option Absence) → Follows a b → one.has_absence a job absence
     → other.has_absence b job absence)
     (reads_too : (a : A) (b : B) (files : List (List ℕ)) (after : A) (ended : Result Added Refused) → Follows a b
-    → one.reads a files after ended → (there : B) × Follows after there × other.reads b files there ended) where
+    → one.reads a files after ended → (there : B) × Follows after there × other.reads b files there ended)
+    (merges_too : (a : A) (b : B) (name : List ℕ) (after : A) (ended : Result Added Refused) → Follows a b
+    → one.merges a name after ended → (there : B) × Follows after there × other.merges b name there ended)
+    (saves_too : (a : A) (b : B) (name : List ℕ) (ended : Result ℕ RunFault) → Follows a b → one.saves a name ended
+    → other.saves b name ended) where
   replied_too : (IsWhy : ParseFault → Type 0) (a : A) (b : B) (said : Saying) (after : A) (reply : List ℕ) (notes : List OwnNote)
       → Follows a b → IsReplied one IsWhy a said after reply notes
       → (there : B) × Follows after there × IsReplied other IsWhy b said there reply notes
@@ -32,6 +36,10 @@ module _ {A B : Type 0} (one : Answers A) (other : Answers B) (alike : one.forge
       (b, rw (is.0) follows, (refl, is.1, outcome_too a b job is.1 follows is.2, is.3, is.4))
   replied_too IsWhy a b (reads files) after reply notes follows is =
       let then = reads_too a b files after is.0 follows is.1 in (then.0, then.1, (is.0, then.2, is.2, is.3))
+  replied_too IsWhy a b (merges name) after reply notes follows is =
+      let then = merges_too a b name after is.0 follows is.1 in (then.0, then.1, (is.0, then.2, is.2, is.3))
+  replied_too IsWhy a b (saves name) after reply notes follows is =
+      (b, rw (is.0) follows, (refl, is.1, saves_too a b name is.1 follows is.2, is.3, is.4))
   replied_too IsWhy a b wrong after reply notes follows is = (b, rw (is.0) follows, (refl, is.1, is.2))
   replied_too IsWhy a b (uses process) after reply notes follows is = (b, rw (is.0) follows, (refl, is.1, is.2))
   replied_too IsWhy a b nothing after reply notes follows is = (b, rw (is.0) follows, (refl, is.1, is.2))
@@ -50,6 +58,8 @@ module _ {A B : Type 0} (one : Answers A) (other : Answers B) (alike : one.forge
   told_too wanted a b (asks job) notes follows is = told_of_too wanted a b job notes follows is
   told_too wanted a b (reads files) notes follows is = is
   told_too wanted a b (uses process) notes follows is = is
+  told_too wanted a b (merges name) notes follows is = is
+  told_too wanted a b (saves name) notes follows is = is
   told_too wanted a b wrong notes follows is = is
   told_too wanted a b nothing notes follows is = is
   told_too wanted a b quits notes follows is = is

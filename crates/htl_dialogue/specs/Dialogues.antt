@@ -1,5 +1,5 @@
 -- What a dialogue writes, and what its speaker is told (this project's own): the reply to one line after the other, up to the one that
--- ends it. Who answers may change: files that a line names are read, and the lines after it are answered from these too.
+-- ends it. Who answers may change: a line has files read, or a state merged, and the lines after it are answered from these too.
 use Rattle.std.specs.Prelude.{◌≡◌, ◌⊎◌, ℕ, Bool, true, false, List, [], ◌∷◌, ◌++◌, Option, Some, if◌then◌else◌, take}
 use Rattle.std.specs.Prelude.{None, Result, Ok, Err, codes}
 use Rattle.std.specs.Fmt.{decimal}
@@ -9,8 +9,8 @@ use Rattle.htl_command.specs.declared.fault.ParseFault.{ParseFault}
 use Rattle.htl_command.specs.declared.question.Job.{Job}
 use Rattle.htl_inputs.specs.declared.fault.RunFault.{RunFault}
 use Rattle.htl_dialogue.specs.Lines.{lines_of_dialogue}
-use Rattle.htl_dialogue.specs.Notes.{AreTold, IsFaultOf, OwnNote, after_notes, declined, first_fault}
-use Rattle.htl_dialogue.specs.Sayings.{Saying, nothing, quits, asks, reads, uses, wrong, saying_in, saying_of}
+use Rattle.htl_dialogue.specs.Notes.{AreTold, IsFaultOf, OwnNote, after_notes, declined, first_fault, unsaved_note}
+use Rattle.htl_dialogue.specs.Sayings.{Saying, nothing, quits, asks, reads, uses, merges, saves, wrong, saying_in, saying_of}
 use Rattle.htl_dialogue.specs.Sayings.{Turn, lines_in, turns_of}
 use Rattle.htl_dialogue.specs.declared.dialogue.Conversed.{Conversed}
 use Rattle.htl_dialogue.specs.declared.dialogue.DialogueFault.{DialogueFault}
@@ -23,23 +23,29 @@ use Rattle.htl_main.specs.declared.printing.AnswerText.{AnswerText}
 use Rattle.htl_main.specs.declared.refused.Refused.{Refused}
 
 -- Who answers: whether it forgets events, and whether it has a table of symbols; and by what holds in each of its states, the answer to a
--- job, or why it isn't answered; why nothing can be found of what a job's question is about; and to which state it leads that files of
--- these names are read, and how that ends.
+-- job, or why it isn't answered; why nothing can be found of what a job's question is about; where it leads that files of these names are
+-- read, and how that ends; where it leads that the saved state of this name is merged, and how that ends; and how many bytes are saved by
+-- this name, or why none are.
 pub record Answers (S : Type 0) : Type 1 where
   pub forgets : Bool
   pub has_table : Bool
   pub has_outcome : S → Job → Result AnswerText RunFault → Type 0
   pub has_absence : S → Job → Option Absence → Type 0
   pub reads : S → List (List ℕ) → S → Result Added Refused → Type 0
+  pub merges : S → List ℕ → S → Result Added Refused → Type 0
+  pub saves : S → List ℕ → Result ℕ RunFault → Type 0
 
 abbrev pub answers_by : {S : Type 0} → Bool → Bool → (S → Job → Result AnswerText RunFault → Type 0) → (S → Job → Option Absence → Type 0)
-    → (S → List (List ℕ) → S → Result Added Refused → Type 0) → Answers S
-answers_by forgets has_table has_outcome has_absence reads_files = record {
+    → (S → List (List ℕ) → S → Result Added Refused → Type 0) → (S → List ℕ → S → Result Added Refused → Type 0)
+    → (S → List ℕ → Result ℕ RunFault → Type 0) → Answers S
+answers_by forgets has_table has_outcome has_absence reads_files merges_state saves_state = record {
   forgets = forgets;
   has_table = has_table;
   has_outcome = has_outcome;
   has_absence = has_absence;
   reads = reads_files;
+  merges = merges_state;
+  saves = saves_state;
 }
 
 -- the reply to a question: the lines of its answer and a line feed, or the line feed alone where it isn't answered
@@ -52,6 +58,22 @@ abbrev pub reading_reply : Result Added Refused → List ℕ
 reading_reply (Ok added) = added_text added ++ 10 ∷ (10 ∷ [])
 reading_reply (Err refused) = 10 ∷ []
 
+-- the line that says what a state brought
+abbrev pub merged_text : Added → List ℕ
+merged_text added =
+    codes "merged segments=" ++ (decimal added.segments ++ (codes " new=" ++ (decimal added.new
+    ++ (codes " complete_to=" ++ (decimal added.coverage.complete_to ++ (codes " gaps=" ++ decimal added.coverage.gaps))))))
+
+-- the reply to a state that was to be merged: what it brought, or the line feed alone
+abbrev pub merging_reply : Result Added Refused → List ℕ
+merging_reply (Ok added) = merged_text added ++ 10 ∷ (10 ∷ [])
+merging_reply (Err refused) = 10 ∷ []
+
+-- the reply to a state that was to be saved: its number of bytes, or the line feed alone
+abbrev pub saving_reply : Result ℕ RunFault → List ℕ
+saving_reply (Ok bytes) = codes "saved bytes=" ++ (decimal bytes ++ 10 ∷ (10 ∷ []))
+saving_reply (Err fault) = 10 ∷ []
+
 -- the reply to a process that is used from here on, or to none: it says so
 abbrev pub using_reply : Option ℕ → List ℕ
 using_reply (Some process) = codes "using process=" ++ (decimal process ++ 10 ∷ (10 ∷ []))
@@ -59,7 +81,7 @@ using_reply None = codes "using process=none" ++ 10 ∷ (10 ∷ [])
 
 -- What becomes of what a line says, up to its reply: the state that it leads to, the reply, and the notes before it. A question gets the
 -- text of its answer and a line feed; a wrong line, or a question that isn't answered, the line feed alone; and a line that says nothing
--- gets nothing. Why a line is wrong, or isn't answered, is given first.
+-- gets nothing. Why a line is wrong, or isn't answered, or what a line reads or merges, is given first.
 abbrev pub IsReplied : {S : Type 0} → Answers S → (ParseFault → Type 0) → S → Saying → S → List ℕ → List OwnNote → Type 0
 IsReplied answers IsWhy before (asks job) after reply notes =
     (after ≡ before) × (outcome : Result AnswerText RunFault) × answers.has_outcome before job outcome × (reply ≡ question_reply outcome)
@@ -67,6 +89,12 @@ IsReplied answers IsWhy before (asks job) after reply notes =
 IsReplied answers IsWhy before (reads files) after reply notes =
     (ended : Result Added Refused) × answers.reads before files after ended × (reply ≡ reading_reply ended)
     × (notes ≡ hear.Reads files ended ∷ [])
+IsReplied answers IsWhy before (merges name) after reply notes =
+    (ended : Result Added Refused) × answers.merges before name after ended × (reply ≡ merging_reply ended)
+    × (notes ≡ hear.Reads (name ∷ []) ended ∷ [])
+IsReplied answers IsWhy before (saves name) after reply notes =
+    (after ≡ before) × (ended : Result ℕ RunFault) × answers.saves before name ended × (reply ≡ saving_reply ended)
+    × (notes ≡ unsaved_note ended)
 IsReplied answers IsWhy before wrong after reply notes =
     (after ≡ before) × (reply ≡ 10 ∷ []) × ((fault : ParseFault) × IsWhy fault × (notes ≡ hear.Refuses fault ∷ []))
 IsReplied answers IsWhy before (uses process) after reply notes = (after ≡ before) × (reply ≡ using_reply process) × (notes ≡ [])
@@ -121,7 +149,7 @@ abbrev pub Gets : {Speaker : Type 0} → Option (List ℕ) → Option (List ℕ)
 Gets old new told speaker after replies notes = Appends old new replies × (after ≡ after_notes told speaker notes)
 
 -- Converses: all lines of the text got their replies and the speaker the notes on them. What is said of it is whether a line was wrong,
--- and the fault of the first files that are refused, or of the first question that isn't answered.
+-- and the fault of the first files that are refused, or of the first question that isn't answered or state that isn't merged or saved.
 pub record Converses {S : Type 0} (answers : Answers S) (wanted : Bool) (before : S) (text : List ℕ)
     (Got : List ℕ → List OwnNote → Type 0) (conversed : Conversed) : Type 0 where
   pub after : S

@@ -9,8 +9,8 @@ use Rattle.htl_command.specs.declared.fault.ParseFault.TheVariants.{Memory}
 use Rattle.htl_command.specs.declared.question.Job.{Job}
 use Rattle.htl_inputs.specs.declared.fault.RunFault.{RunFault}
 use Rattle.htl_dialogue.specs.Lines.{arguments_of}
-use Rattle.htl_dialogue.specs.Sayings.{Saying, Turn, asks_forgotten, is_readable, meant, saying_of, sort_of, with_process}
-use Rattle.htl_dialogue.specs.Sayings.{nothing, quits, asks, reads, uses, wrong}
+use Rattle.htl_dialogue.specs.Sayings.{Saying, Turn, is_readable, is_refused_in, meant, saying_of, sort_of, with_process}
+use Rattle.htl_dialogue.specs.Sayings.{nothing, quits, asks, reads, uses, merges, saves, wrong}
 use Rattle.htl_dialogue.specs.declared.note.Note.{Note}
 use Rattle.htl_dialogue.specs.declared.note.Note.TheVariants as hear
 use Rattle.htl_dialogue.specs.declared.sorting.Sort.{Sort}
@@ -36,7 +36,8 @@ abbrev pub after_notes : {Speaker : Type 0} → (Speaker → OwnNote → Speaker
 after_notes told speaker [] = speaker
 after_notes told speaker (note ∷ more) = after_notes told (told speaker note) more
 
--- the fault of the first files that are refused, or of the first question that isn't answered, whichever comes first
+-- the fault of the first files that are refused, or of the first question that isn't answered or state that isn't merged or saved,
+-- whichever comes first
 abbrev pub first_fault : List OwnNote → Option RunFault
 first_fault [] = None
 first_fault (hear.Reads files (Err refused) ∷ more) = Some refused.fault
@@ -44,12 +45,15 @@ first_fault (hear.Declines fault ∷ more) = Some fault
 first_fault (other ∷ more) = first_fault more
 
 -- why arguments of a sort are wrong where this process is used: they ask for no job, or for the help of a word; or the word `read` stands
--- without files or before an option (`reading` says when), or the word `use` before what is no process (`using` does)
+-- without files or before an option (`reading` says when), or the word `use` before what is no process (`using` does), or `merge` or `save`
+-- before anything but one name (`naming` does)
 abbrev pub IsFaultAs : Sort → Option ℕ → List (List ℕ) → ParseFault → Type 0
 IsFaultAs sort.Question process arguments fault = RefusesQuestion (meant (with_process process arguments)) fault
 IsFaultAs sort.Help process arguments fault = IsHelp fault
 IsFaultAs sort.Files process arguments fault = IsUsageWith ⊤ fault
 IsFaultAs sort.Process process arguments fault = IsUsageWith ⊤ fault
+IsFaultAs sort.Merge process arguments fault = IsUsageWith ⊤ fault
+IsFaultAs sort.Save process arguments fault = IsUsageWith ⊤ fault
 IsFaultAs sort.Farewell process arguments fault = IsUsageWith ⊤ fault
 IsFaultAs sort.Nothing process arguments fault = IsUsageWith ⊤ fault
 
@@ -62,16 +66,21 @@ IsFaultIn true process arguments fault = IsFaultBy process arguments fault
 IsFaultIn false process arguments fault = IsUsageWith ⊤ fault
 
 -- Why a line is wrong in a dialogue that forgets events, or keeps them. It is not that memory was refused: its arguments are wrong, or it
--- has none, or it asks what needs events that are forgotten.
+-- has none, or what it says is refused in such a dialogue.
 abbrev pub IsFaultOf : Bool → Turn → ParseFault → Type 0
 IsFaultOf forgets turn fault =
     (fault ≢ Memory)
-    × IsFaultIn (not (asks_forgotten forgets (saying_of turn)) && is_readable turn.line) turn.process (arguments_of turn.line) fault
+    × IsFaultIn (not (is_refused_in forgets (saying_of turn)) && is_readable turn.line) turn.process (arguments_of turn.line) fault
 
 -- the note before the reply to a question: why it isn't answered
 abbrev pub declined : Result AnswerText RunFault → List OwnNote
 declined (Ok answer) = []
 declined (Err fault) = hear.Declines fault ∷ []
+
+-- the note before the reply to a state that is to be saved, of which the number of bytes is told: why it isn't saved
+abbrev pub unsaved_note : Result ℕ RunFault → List OwnNote
+unsaved_note (Ok bytes) = []
+unsaved_note (Err fault) = hear.Declines fault ∷ []
 
 -- what is told of an answer whose addresses are printed by a table of symbols, or by none
 abbrev pub told_of : Bool → Remarks → Remarks
@@ -98,4 +107,6 @@ AreTold has_table HasOutcome HasAbsence wanted nothing notes = notes ≡ []
 AreTold has_table HasOutcome HasAbsence wanted quits notes = notes ≡ []
 AreTold has_table HasOutcome HasAbsence wanted (reads files) notes = notes ≡ []
 AreTold has_table HasOutcome HasAbsence wanted (uses process) notes = notes ≡ []
+AreTold has_table HasOutcome HasAbsence wanted (merges name) notes = notes ≡ []
+AreTold has_table HasOutcome HasAbsence wanted (saves name) notes = notes ≡ []
 AreTold has_table HasOutcome HasAbsence wanted wrong notes = notes ≡ []

@@ -9,8 +9,9 @@ use Rattle.htl_command.specs.declared.fault.ParseFault.TheVariants.{Memory}
 use Rattle.htl_command.specs.declared.question.Job.{Job}
 use Rattle.htl_inputs.specs.declared.fault.RunFault.{RunFault}
 use Rattle.htl_dialogue.specs.Dialogues.{Answers, IsReplied, is_wrong}
-use Rattle.htl_dialogue.specs.Notes.{AreTold, AreToldOf, IsFaultOf, OwnNote, after_notes, first_fault}
-use Rattle.htl_dialogue.specs.Sayings.{Turn, saying}
+use Rattle.htl_dialogue.specs.Lines.{arguments_of}
+use Rattle.htl_dialogue.specs.Notes.{AreTold, AreToldOf, IsFaultIn, IsFaultOf, OwnNote, after_notes, first_fault}
+use Rattle.htl_dialogue.specs.Sayings.{Turn, is_readable, saying}
 use Rattle.htl_dialogue.specs.declared.dialogue.Conversed.{Conversed}
 use Rattle.htl_dialogue.specs.declared.dialogue.DialogueFault.{DialogueFault}
 use Rattle.htl_dialogue.specs.declared.dialogue.DialogueFault.TheVariants.{Questions, Write, NoMemory}
@@ -27,7 +28,7 @@ abbrev pub of_read : ReadFault → DialogueFault
 of_read reads.Failed = Questions
 of_read reads.NoMemory = NoMemory
 
--- why files are refused, where they are
+-- why files, or a state, are refused, where they are
 abbrev pub fault_of : Result Added Refused → Option RunFault
 fault_of (Ok added) = None
 fault_of (Err refused) = Some refused.fault
@@ -40,10 +41,16 @@ HasFault IsSuch said.Quits = ⊤
 HasFault IsSuch (said.Asks job) = ⊤
 HasFault IsSuch (said.Reads files) = ⊤
 HasFault IsSuch (said.Uses process) = ⊤
+HasFault IsSuch (said.Merges name) = ⊤
+HasFault IsSuch (said.Saves name) = ⊤
 
 -- where a line is wrong, its fault is such a one, and isn't that memory was refused
 abbrev pub HasReason : (ParseFault → Type 0) → Said → Type 0
 HasReason IsSuch = HasFault (λ fault. (fault ≢ Memory) × IsSuch fault)
+
+-- where the line is wrong in whatever dialogue, its fault is one of this line
+abbrev pub KeepsOwnFault : Turn → Said → Type 0
+KeepsOwnFault line = HasReason (IsFaultIn (is_readable line.line) line.process (arguments_of line.line))
 
 -- where the line is wrong in a dialogue that forgets events, or keeps them, its fault is one of this line
 abbrev pub KeepsFault : Bool → Turn → Said → Type 0
@@ -54,7 +61,7 @@ abbrev pub IsSaidFault : Said → ParseFault → Type 0
 IsSaidFault of fault = HasFault (λ kept. fault ≡ kept) of
 
 -- What was said got its reply: the known bytes of a sink got it, and the speaker the notes before it and after it. It is told whether a
--- line was wrong, and the fault of files that were to be read, or of a question that isn't answered.
+-- line was wrong, and the fault of files that were to be read, or of a question that isn't answered, or a state that isn't merged or saved.
 pub record Replies {S Speaker : Type 0} (answers : Answers S) (wanted : Bool) (of : Said) (before after : S) (old new : Option (List ℕ))
     (told : Speaker → OwnNote → Speaker) (speaker heard : Speaker) (conversed : Conversed) : Type 0 where
   pub reply : List ℕ

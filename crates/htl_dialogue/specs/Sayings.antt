@@ -1,5 +1,5 @@
--- What a line says (this project's own): a question, or that files are read or a process is used, or that the dialogue ends, or nothing;
--- or it is wrong.
+-- What a line says (this project's own): a question, or that files are read or a process is used, that a state is merged or saved, that the
+-- dialogue ends, or nothing; or it is wrong.
 use Rattle.std.specs.Prelude.{ℕ, ◌&&◌, ◌||◌, ◌==◌, ◌++◌, Bool, true, false, not, List, [], ◌∷◌, Option, None, Some, codes, if◌then◌else◌}
 use Rattle.std.specs.Prelude.{length, map, nat_eq, nat_le, string_bytes, take}
 use Rattle.std.specs.Fmt.{decimal}
@@ -24,6 +24,8 @@ pub data Saying : Type 0 where
   asks : Job → Saying
   reads : List (List ℕ) → Saying
   uses : Option ℕ → Saying
+  merges : List ℕ → Saying
+  saves : List ℕ → Saying
   wrong : Saying
 
 -- `quit`, or a word that debuggers and shells have for it
@@ -53,9 +55,21 @@ abbrev pub is_use : List (List ℕ) → Bool
 is_use [] = false
 is_use (first ∷ more) = bytes_eq first (codes "use")
 
+-- the first word is `merge`
+abbrev pub is_merge : List (List ℕ) → Bool
+is_merge [] = false
+is_merge (first ∷ more) = bytes_eq first (codes "merge")
+
+-- the first word is `save`
+abbrev pub is_save : List (List ℕ) → Bool
+is_save [] = false
+is_save (first ∷ more) = bytes_eq first (codes "save")
+
 -- a word of a dialogue that is no question
 abbrev pub is_word : List ℕ → Bool
-is_word word = bytes_eq word (codes "read") || (bytes_eq word (codes "use") || is_farewell word)
+is_word word =
+    bytes_eq word (codes "read") || (bytes_eq word (codes "use") || (bytes_eq word (codes "merge")
+    || (bytes_eq word (codes "save") || is_farewell word)))
 
 abbrev pub is_help_option : List ℕ → Bool
 is_help_option word = bytes_eq word (codes "--help") || bytes_eq word (codes "-h")
@@ -71,7 +85,9 @@ sort_of [] = sort.Nothing
 sort_of (first ∷ more) =
     if is_quit (first ∷ more) then sort.Farewell
     else (if asks_help (first ∷ more) then sort.Help
-    else (if is_read (first ∷ more) then sort.Files else (if is_use (first ∷ more) then sort.Process else sort.Question)))
+    else (if is_read (first ∷ more) then sort.Files
+    else (if is_use (first ∷ more) then sort.Process
+    else (if is_merge (first ∷ more) then sort.Merge else (if is_save (first ∷ more) then sort.Save else sort.Question)))))
 
 -- the argument begins as an option does: `-` alone is the name of a file
 abbrev pub is_option : List ℕ → Bool
@@ -100,6 +116,20 @@ reads_some (file ∷ more) = reads (file ∷ more)
 abbrev pub reading : List (List ℕ) → Saying
 reading [] = wrong
 reading (word ∷ more) = if list_any is_option (before_files more) then wrong else reads_some (names_among more)
+
+-- the name, where it is the only one
+abbrev pub only : List (List ℕ) → Option (List ℕ)
+only (name ∷ []) = Some name
+only names = None
+
+-- the only name of a file after the word, where no option stands before a `--`
+abbrev pub only_name : List (List ℕ) → Option (List ℕ)
+only_name [] = None
+only_name (word ∷ more) = if list_any is_option (before_files more) then None else only (names_among more)
+
+-- what a line says by the only name after its word, if there is such a one
+abbrev pub naming : (List ℕ → Saying) → List (List ℕ) → Saying
+naming says arguments = option_map_or says (only_name arguments) wrong
 
 -- what is said by the name of a process, or by `none`
 abbrev pub using_named : List ℕ → Saying
@@ -140,6 +170,8 @@ saying_as sort.Farewell process arguments = quits
 saying_as sort.Help process arguments = wrong
 saying_as sort.Files process arguments = reading arguments
 saying_as sort.Process process arguments = using process arguments
+saying_as sort.Merge process arguments = naming merges arguments
+saying_as sort.Save process arguments = naming saves arguments
 saying_as sort.Question process arguments = asking (with_process process arguments)
 
 abbrev pub saying_by : Option ℕ → List (List ℕ) → Saying
@@ -174,15 +206,18 @@ abbrev pub turns_of : Option ℕ → List (List ℕ) → List Turn
 turns_of process [] = []
 turns_of process (line ∷ more) = turn process line ∷ turns_of (used process (saying_of (turn process line))) more
 
--- the line asks what needs events, and the dialogue forgets them
-abbrev pub asks_forgotten : Bool → Saying → Bool
-asks_forgotten false said = false
-asks_forgotten true (asks job) = needs_events job
-asks_forgotten true other = false
+-- What is said is refused in a dialogue that forgets events (`true`), or that keeps them: where they are forgotten a question that needs
+-- them, and where they are kept a state that is to be merged or saved.
+abbrev pub is_refused_in : Bool → Saying → Bool
+is_refused_in true (asks job) = needs_events job
+is_refused_in true other = false
+is_refused_in false (merges name) = true
+is_refused_in false (saves name) = true
+is_refused_in false other = false
 
--- what is said in a dialogue that forgets events, or keeps them: where it forgets them, a question that needs them is wrong
+-- what is said in a dialogue that forgets events, or keeps them: what is refused there is wrong
 abbrev pub heard : Bool → Saying → Saying
-heard forgets said = if asks_forgotten forgets said then wrong else said
+heard forgets said = if is_refused_in forgets said then wrong else said
 
 -- What a line says in a dialogue that forgets events, or keeps them.
 abbrev pub saying_in : Bool → Turn → Saying
@@ -195,4 +230,6 @@ saying said.Quits = quits
 saying (said.Asks job) = asks job
 saying (said.Reads files) = reads (map string_bytes files.items)
 saying (said.Uses process) = uses process
+saying (said.Merges name) = merges (string_bytes name)
+saying (said.Saves name) = saves (string_bytes name)
 saying (said.Wrong fault) = wrong

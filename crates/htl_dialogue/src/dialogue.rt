@@ -11,7 +11,8 @@ use thiserror::Error;
 pub struct Conversed {
     /// Whether a line was wrong.
     pub has_wrong: bool,
-    /// The fault of the first line whose files were refused, or whose question wasn't answered.
+    /// The fault of the first line whose files were refused, whose question wasn't answered, or whose
+    /// state wasn't merged or saved.
     pub first_fault: Option<RunFault>,
 }
 
@@ -19,7 +20,7 @@ impl Conversed {
     ghost use Rattle.std.specs.Prelude.{◌≡◌, ◌||◌, None, false};
     ghost use Rattle.std.specs.Option.{option_or};
 
-    /// A dialogue without a wrong line, refused files and a question that wasn't answered.
+    /// A dialogue without a wrong line and a fault.
     pub fn fine() -> Conversed
         ensures wrong { result.has_wrong ≡ false }
         ensures first { result.first_fault ≡ None }

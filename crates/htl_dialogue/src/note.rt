@@ -14,9 +14,10 @@ pub enum Note<N, F, J> {
     Awaits,
     /// A line is wrong, for this reason.
     Refuses(F),
-    /// Files of these names were to be read: this is what they added, or why they are refused.
+    /// Files of these names were to be read, or the state of this name merged: this is what they added,
+    /// or why they are refused.
     Reads(N, Result<Added, Refused>),
-    /// A question isn't answered, for this reason.
+    /// A question isn't answered, or a state isn't saved, for this reason.
     Declines(RunFault),
     /// A question was answered: why nothing can be found of what it is about, if nothing can, and
     /// what is told of its answer.

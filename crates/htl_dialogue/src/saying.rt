@@ -1,20 +1,18 @@
 //! What a line says.
 
-ghost use Rattle.std.specs.Prelude.{◌≡◌, ◌<◌, ⊤, ℕ, List, IfErr, IfOk, IfSome, Some, false, length, map};
-ghost use Rattle.std.specs.Prelude.{string_bytes};
-ghost use Rattle.std.specs.List.{list_any, position};
+ghost use Rattle.std.specs.Prelude.{◌≡◌, ◌<◌, ⊤, ℕ, List, IfErr, IfOk, Some, length, map, string_bytes};
 ghost use Rattle.htl_command.specs.Helps.{IsHelp};
 ghost use Rattle.htl_command.specs.Refusals.{IsUsageWith, RefusesQuestion};
 ghost use Rattle.htl_command.specs.Requests.{asked_in};
 ghost use Rattle.htl_dialogue.specs.Reading.{IsLine};
 ghost use Rattle.htl_dialogue.specs.Notes.{IsFaultBy};
-ghost use Rattle.htl_dialogue.specs.Replying.{HasReason, KeepsFault};
-ghost use Rattle.htl_dialogue.specs.Sayings.{asking, asks_forgotten, before_files, ends_options};
-ghost use Rattle.htl_dialogue.specs.Sayings.{is_help_sign, is_option, meant, names_among, reading};
-ghost use Rattle.htl_dialogue.specs.Sayings.{saying, saying_by, saying_in, saying_of, turn, using};
-ghost use Rattle.htl_dialogue.specs.Sayings.{using_named};
+ghost use Rattle.htl_dialogue.specs.Replying.{HasReason, KeepsFault, KeepsOwnFault};
+ghost use Rattle.htl_dialogue.specs.Sayings.{asking, is_help_sign, is_refused_in, meant, merges};
+ghost use Rattle.htl_dialogue.specs.Sayings.{naming, reading, saves, saying, saying_by, saying_in};
+ghost use Rattle.htl_dialogue.specs.Sayings.{saying_of, turn, using, using_named};
 ghost use Rattle.htl_dialogue.specs.Sayings.{wrong as says_wrong};
 
+use crate::files::{has_option, names_of, only_name};
 use crate::line::Line;
 use crate::naming::with_process;
 use crate::sorting::{Sort, sort_of};
@@ -36,6 +34,10 @@ pub enum Said {
     Reads(Vec<String>),
     /// From here on questions that name no process are about this one, if there is one.
     Uses(Option<u32>),
+    /// The state that the file of this name holds is to be merged.
+    Merges(String),
+    /// The state is to be saved in the file of this name.
+    Saves(String),
     /// The line is wrong, for this reason.
     Wrong(ParseFault),
 }
@@ -56,7 +58,7 @@ impl Said {
 }
 
 /// What a line says in a dialogue where this process is used. Where the dialogue forgets events, a
-/// question that needs them is wrong.
+/// question that needs them is wrong; where it keeps them, a line that merges or saves a state is.
 pub fn read_line(
     alloc: Global,
     line: &Line,
@@ -69,30 +71,43 @@ pub fn read_line(
         → KeepsFault forgets (turn process bytes) said) }
 {
     let said = said_of(alloc, line, process)?;
-    if asks_forgotten(&said, forgets) {
-        wrong(ParseFault::needs_events(alloc))
+    if is_refused_in(&said, forgets) {
+        wrong(refusal(alloc, forgets))
     } else {
         Ok(said)
     }
 }
 
-/// Whether it is a question that needs events, where these are forgotten.
-fn asks_forgotten(said: &Said, forgets: bool) -> bool
-    ensures { result ≡ asks_forgotten forgets (saying said.now) }
+/// Whether it is a question that needs events, where these are forgotten, or is about a state, where
+/// they are kept.
+fn is_refused_in(said: &Said, forgets: bool) -> bool
+    ensures { result ≡ is_refused_in forgets (saying said.now) }
 {
     match said {
         Said::Asks(job) => forgets && job.needs_events(),
+        Said::Merges(_) | Said::Saves(_) => !forgets,
         _ => false,
     }
 }
 
-/// What a line says where events are kept.
+/// Why something is refused in a dialogue that forgets events, or keeps them.
+fn refusal(alloc: Global, forgets: bool) -> ParseFault
+    ensures { IsUsageWith ⊤ result }
+{
+    if forgets {
+        ParseFault::needs_events(alloc)
+    } else {
+        ParseFault::needs_fold(alloc)
+    }
+}
+
+/// What a line says in whatever dialogue.
 #[tactic(auto, unfolding(crate::specs::Sayings::saying_of))]
 fn said_of(alloc: Global, line: &Line, process: Option<u32>) -> Result<Said, NoMemory>
     ensures said { IfOk result (λ said. (bytes : List ℕ) → IsLine bytes line.now
         → saying said ≡ saying_of (turn process bytes)) }
     ensures fault { IfOk result (λ said. (bytes : List ℕ) → IsLine bytes line.now
-        → KeepsFault false (turn process bytes) said) }
+        → KeepsOwnFault (turn process bytes) said) }
 {
     let Line::Whole(bytes) = line else {
         return wrong(ParseFault::long_line(alloc));
@@ -117,6 +132,8 @@ fn said_by(alloc: Global, arguments: Vec<String>, process: Option<u32>) -> Resul
         Sort::Help => wrong(help_of(alloc, &arguments)),
         Sort::Files => files_of(alloc, arguments),
         Sort::Process => process_of(alloc, &arguments, process),
+        Sort::Merge => merging(alloc, arguments),
+        Sort::Save => saving(alloc, arguments),
         Sort::Question => {
             let meant = with_process(alloc, arguments, process)?;
             said_by_question(alloc, &meant)
@@ -132,6 +149,10 @@ fn help_of(alloc: Global, arguments: &[String]) -> ParseFault
         ParseFault::read_help(alloc)
     } else if has_word(arguments, "use") {
         ParseFault::use_help(alloc)
+    } else if has_word(arguments, "merge") {
+        ParseFault::merge_help(alloc)
+    } else if has_word(arguments, "save") {
+        ParseFault::save_help(alloc)
     } else {
         ParseFault::quit_help(alloc)
     }
@@ -200,58 +221,30 @@ fn files_of(alloc: Global, mut arguments: Vec<String>) -> Result<Said, NoMemory>
     Ok(Said::Reads(names))
 }
 
-/// The names of files among arguments: all of them but the first `--`.
-#[tactic(auto, using(crate::proofs::Named::names_some, crate::proofs::Named::names_none))]
-fn names_of(mut arguments: Vec<String>) -> Vec<String>
-    ensures { map string_bytes result.items ≡ names_among (map string_bytes arguments.items) }
+/// What a `merge` line says: the name of one file after the word, and no option.
+fn merging(alloc: Global, arguments: Vec<String>) -> Result<Said, NoMemory>
+    requires some { 0 < length arguments.items }
+    ensures said { IfOk result (λ said.
+        saying said ≡ naming merges (map string_bytes arguments.items)) }
+    ensures fault { IfOk result (HasReason (IsUsageWith ⊤)) }
 {
-    match options_end(&arguments) {
-        Some(place) => {
-            let _sign = arguments.remove(place);
-            arguments
-        }
-        None => arguments,
+    match only_name(arguments) {
+        Some(name) => Ok(Said::Merges(name)),
+        None => wrong(ParseFault::no_name(alloc, "merge")),
     }
 }
 
-/// Whether an argument before the first `--` begins as an option does.
-#[tactic(auto, using(crate::proofs::Named::before_some, crate::proofs::Named::before_none))]
-fn has_option(arguments: &[String]) -> bool
-    ensures { result ≡ list_any is_option (before_files (map string_bytes arguments.now)) }
+/// What a `save` line says: the name of one file after the word, and no option.
+fn saving(alloc: Global, arguments: Vec<String>) -> Result<Said, NoMemory>
+    requires some { 0 < length arguments.items }
+    ensures said { IfOk result (λ said.
+        saying said ≡ naming saves (map string_bytes arguments.items)) }
+    ensures fault { IfOk result (HasReason (IsUsageWith ⊤)) }
 {
-    match options_end(arguments) {
-        Some(place) => any_option(&arguments[..place]),
-        None => any_option(arguments),
+    match only_name(arguments) {
+        Some(name) => Ok(Said::Saves(name)),
+        None => wrong(ParseFault::no_name(alloc, "save")),
     }
-}
-
-/// Whether one of the arguments begins as an option does.
-fn any_option(arguments: &[String]) -> bool
-    ensures { result ≡ list_any is_option (map string_bytes arguments.now) }
-{
-    arguments.iter().any(|argument| is_option(argument))
-}
-
-/// The place of the first `--`.
-fn options_end(arguments: &[String]) -> Option<usize>
-    ensures place { result ≡ position ends_options (map string_bytes arguments.now) }
-    ensures bound { IfSome result (λ place. place < length arguments.now) }
-{
-    arguments.iter().position(|argument| ends_options(argument))
-}
-
-/// Whether only files follow the argument.
-fn ends_options(argument: &str) -> bool
-    ensures { result ≡ ends_options argument.now }
-{
-    argument == "--"
-}
-
-/// Whether an argument begins as an option does. `-` alone is the name of a file.
-fn is_option(argument: &str) -> bool
-    ensures { result ≡ is_option argument.now }
-{
-    matches!(argument.as_bytes(), [b'-', _, ..])
 }
 
 /// The job that the arguments ask for.

@@ -1,8 +1,8 @@
 //! What the arguments of a line are for, by their words.
 
 ghost use Rattle.std.specs.Prelude.{◌≡◌, ◌<◌, ◌∷◌, [], length, map, string_bytes};
-ghost use Rattle.htl_dialogue.specs.Sayings.{asks_help, is_farewell, is_help_option, is_quit, is_read};
-ghost use Rattle.htl_dialogue.specs.Sayings.{is_use, is_word, sort_of};
+ghost use Rattle.htl_dialogue.specs.Sayings.{asks_help, is_farewell, is_help_option, is_merge, is_quit};
+ghost use Rattle.htl_dialogue.specs.Sayings.{is_read, is_save, is_use, is_word, sort_of};
 
 /// What the arguments of a line are for, by their words.
 #[derive(Clone, Copy)]
@@ -17,6 +17,10 @@ pub(crate) enum Sort {
     Files,
     /// They name a process to use.
     Process,
+    /// They name a state to merge.
+    Merge,
+    /// They name a file, in which the state is saved.
+    Save,
     /// They are meant for a question.
     Question,
 }
@@ -25,6 +29,8 @@ pub(crate) enum Sort {
 pub(crate) fn sort_of(arguments: &[String]) -> Sort
     ensures sort { result ≡ sort_of (map string_bytes arguments.now) }
     ensures files { result ≡ Sort.Files → 0 < length arguments.now }
+    ensures merge { result ≡ Sort.Merge → 0 < length arguments.now }
+    ensures save { result ≡ Sort.Save → 0 < length arguments.now }
 {
     if arguments.is_empty() {
         Sort::Nothing
@@ -36,6 +42,10 @@ pub(crate) fn sort_of(arguments: &[String]) -> Sort
         Sort::Files
     } else if is_use(arguments) {
         Sort::Process
+    } else if is_merge(arguments) {
+        Sort::Merge
+    } else if is_save(arguments) {
+        Sort::Save
     } else {
         Sort::Question
     }
@@ -62,7 +72,7 @@ fn is_help_of(first: &str, second: &str) -> bool
 fn is_word(word: &str) -> bool
     ensures { result ≡ is_word word.now }
 {
-    word == "read" || word == "use" || is_farewell(word)
+    word == "read" || word == "use" || word == "merge" || word == "save" || is_farewell(word)
 }
 
 /// Whether the word is an option that asks for help.
@@ -88,6 +98,26 @@ fn is_use(arguments: &[String]) -> bool
 {
     match arguments.first() {
         Some(word) => word.as_str() == "use",
+        None => false,
+    }
+}
+
+/// Whether the first argument is the word `merge`.
+fn is_merge(arguments: &[String]) -> bool
+    ensures { result ≡ is_merge (map string_bytes arguments.now) }
+{
+    match arguments.first() {
+        Some(word) => word.as_str() == "merge",
+        None => false,
+    }
+}
+
+/// Whether the first argument is the word `save`.
+fn is_save(arguments: &[String]) -> bool
+    ensures { result ≡ is_save (map string_bytes arguments.now) }
+{
+    match arguments.first() {
+        Some(word) => word.as_str() == "save",
         None => false,
     }
 }

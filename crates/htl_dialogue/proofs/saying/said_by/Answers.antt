@@ -19,6 +19,8 @@ helped fault is (Ok said.Quits) has = tt
 helped fault is (Ok (said.Asks job)) has = tt
 helped fault is (Ok (said.Reads files)) has = tt
 helped fault is (Ok (said.Uses process)) has = tt
+helped fault is (Ok (said.Merges name)) has = tt
+helped fault is (Ok (said.Saves name)) has = tt
 helped fault is (Err refused) has = tt
 
 pub returns-in-Help-clause-fault : goal.returns-in-Help-clause-fault
@@ -29,4 +31,14 @@ returns-in-Help-clause-fault c =
 pub returns-in-Process-clause-fault : goal.returns-in-Process-clause-fault
 returns-in-Process-clause-fault c =
     let is : sort_of (map string_bytes c.args.arguments.items) ≡ sort.Process = search rules in
+    rw is (search rules)
+
+pub returns-in-Merge-clause-fault : goal.returns-in-Merge-clause-fault
+returns-in-Merge-clause-fault c =
+    let is : sort_of (map string_bytes c.args.arguments.items) ≡ sort.Merge = search rules in
+    rw is (search rules)
+
+pub returns-in-Save-clause-fault : goal.returns-in-Save-clause-fault
+returns-in-Save-clause-fault c =
+    let is : sort_of (map string_bytes c.args.arguments.items) ≡ sort.Save = search rules in
     rw is (search rules)

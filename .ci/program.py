@@ -29,6 +29,15 @@ def segment(processor, number, records=(), version=1, trace=7, processors=1):
     return struct.pack("<4sHHHHIQII", b"HLS1", *fields) + body
 
 
+def sealed(body):
+    """The bytes of a saved state: this body, and the end that fits it."""
+    data = body + struct.pack("<Q", len(body) + 16)
+    total = 0
+    for byte in data:
+        total = (total * 0x9E3779B97F4A7C15 + byte) % 2**64
+    return data + struct.pack("<Q", total)
+
+
 def event_of(line):
     """The bytes of an event such as `O 1 0x44 process=5 [0x50 0x20]`, `S 2` or `R 3 0x1000 Lky8`."""
     line, _, frames = line.partition("[")

@@ -35,7 +35,7 @@ _hleak_command() {
     trace) options='--process --handle --top --until --symbols --workers --json --complete --hex --partial --notes --help' needed='--process --handle' words='' ;;
     growth) options='--process --points --until --symbols --workers --json --complete --hex --partial --notes --help' needed='--process' words='' ;;
     ask) options='--symbols --workers --fold --complete --hex --partial --notes --help' needed='' words='' ;;
-    explain) options='--notes --help' needed='' words='S1 S2 S3 S4 S5 S6 S7 S8 S9 S10 S11 S12 S13 S14 S15 S16 S17 H1 H2 H3 C1 C2 C3 C4 C5 C6 C7 C8 C9 C10 Y1 Y2 Y3 Y4 Y5 Y6 Y7 E1 E2' ;;
+    explain) options='--notes --help' needed='' words='S1 S2 S3 S4 S5 S6 S7 S8 S9 S10 S11 S12 S13 S14 S15 S16 S17 H1 H2 H3 F1 F2 F3 F4 F5 F6 F7 F8 F9 F10 F11 F12 F13 F14 F15 F16 F17 C1 C2 C3 C4 C5 C6 C7 C8 C9 C10 Y1 Y2 Y3 Y4 Y5 Y6 Y7 E1 E2' ;;
     dump) options='--hex --partial --notes --help' needed='' words='' ;;
     encode) options='--hex --notes --help' needed='' words='' ;;
     *) return 1 ;;

@@ -4,13 +4,14 @@ use Rattle.std.specs.Fmt.{decimal}
 use Rattle.htl_inputs.specs.declared.fault.RunFault.{RunFault}
 use Rattle.htl_inputs.specs.declared.fault.RunFault.TheVariants.{Workers, Segment, Hex, Text, Case, Incomplete, NoSubject, Symbols, Read}
 use Rattle.htl_inputs.specs.declared.fault.RunFault.TheVariants.{SymbolsRead, Write, Memory, NoThread, UnknownCut}
+use Rattle.htl_inputs.specs.declared.fault.RunFault.TheVariants.{State, Unbounded, StateRead, StateWrite, StateStacks}
 use Rattle.htl_dialogue.specs.declared.dialogue.DialogueFault.{DialogueFault}
 use Rattle.htl_dialogue.specs.declared.dialogue.DialogueFault.TheVariants as stops
 use Rattle.htl_main.specs.declared.origin.Between.{Between}
 use Rattle.htl_main.specs.declared.origin.Between.TheVariants.{Two}
 use Rattle.htl_program.specs.Words.{free_memory}
 use Rattle.hleak.specs.Meanings.{absent_text, case_text, hex_text, line_text, missing_text, no_memory, said, segment_text, symbols_text}
-use Rattle.hleak.specs.Meanings.{unknown_cut_text, unread, untaken}
+use Rattle.hleak.specs.Meanings.{state_text, too_many_stacks, unbounded_text, unknown_cut_text, unread, unsaved, untaken}
 use Rattle.hleak.specs.Shown.{shown_name, shown_text}
 use Rattle.hleak.specs.Sides.{side_text, label_of}
 use Rattle.hleak.specs.Subjects.{asked_about, event_line_of, has_moment, has_since, input_name, subject_of}
@@ -33,6 +34,11 @@ meaning_text task (Symbols fault) reason = symbols_text fault
 meaning_text task (Read input) reason = unread reason
 meaning_text task SymbolsRead reason = unread reason
 meaning_text task Write reason = untaken
+meaning_text task (State state offset fault) reason = state_text fault
+meaning_text task (Unbounded state processor) reason = unbounded_text processor
+meaning_text task (StateRead state) reason = unread reason
+meaning_text task StateWrite reason = unsaved reason
+meaning_text task StateStacks reason = too_many_stacks
 meaning_text task Memory reason = no_memory
 meaning_text task NoThread reason = said None (codes "the system started no thread") free_memory
 

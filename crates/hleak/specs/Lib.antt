@@ -6,6 +6,7 @@ pub mod Meanings
 pub mod Notes
 pub mod Openings
 pub mod Reasons
+pub mod Replacing
 pub mod Shown
 pub mod Sides
 pub mod Stages

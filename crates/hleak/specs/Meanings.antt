@@ -5,6 +5,7 @@ use Rattle.htl_case.specs.declared.fault.CaseFault.TheVariants as cases
 use Rattle.htl_command.specs.declared.code.Code.{Code}
 use Rattle.htl_command.specs.declared.code.Code.TheVariants.{S1, S2, S3, S4, S5, S6, S7, S8, S9, S10, S11, S12, S13, S14, S15, S16, S17}
 use Rattle.htl_command.specs.declared.code.Code.TheVariants.{H1, H2, H3}
+use Rattle.htl_command.specs.declared.code.Code.TheVariants.{F1, F2, F3, F4, F5, F6, F7, F8, F9, F10, F11, F12, F13, F14, F15, F16, F17}
 use Rattle.htl_command.specs.declared.code.Code.TheVariants.{C1, C2, C3, C4, C5, C6, C7, C8, C9, C10}
 use Rattle.htl_command.specs.declared.code.Code.TheVariants.{Y1, Y2, Y3, Y4, Y5, Y6, Y7}
 use Rattle.htl_command.specs.declared.code.Code.TheVariants.{E1, E2}
@@ -17,6 +18,8 @@ use Rattle.htl_segment.specs.declared.fault.Fault.{Fault}
 use Rattle.htl_segment.specs.declared.fault.Fault.TheVariants as segments
 use Rattle.htl_segment.specs.declared.hexadecimal.HexFault.{HexFault}
 use Rattle.htl_segment.specs.declared.hexadecimal.HexFault.TheVariants as hexes
+use Rattle.htl_state.specs.declared.fault.Fault.{Fault as StateFault}
+use Rattle.htl_state.specs.declared.fault.Fault.TheVariants as states
 use Rattle.htl_symbols.specs.declared.fault.SymbolFault.{SymbolFault}
 use Rattle.htl_symbols.specs.declared.fault.SymbolFault.TheVariants as symbols
 use Rattle.htl_text.specs.Fields.{field_name}
@@ -27,7 +30,7 @@ use Rattle.htl_text.specs.declared.fault.LineFault.TheVariants as lines
 use Rattle.htl_text.specs.declared.field.Field.{Field}
 use Rattle.hleak.specs.declared.explaining.meaning.Meaning.{Meaning}
 use Rattle.hleak.specs.declared.reason.Reason.{Reason}
-use Rattle.hleak.specs.Reasons.{advice_by, wrong_by}
+use Rattle.hleak.specs.Reasons.{advice_by, unsaved_advice_by, unsaved_by, wrong_by}
 
 -- what is wrong with a part, or by itself, and what to do
 abbrev pub said : Option NamedPart → List ℕ → List ℕ → List ℕ
@@ -63,6 +66,28 @@ abbrev pub hex_text : HexFault → List ℕ
 hex_text (hexes.BadDigit place) = coded H1 (Some (parts.Byte place))
 hex_text hexes.Odd = coded H2 None
 hex_text hexes.NoMemory = coded H3 None
+
+abbrev pub state_text : StateFault → List ℕ
+state_text states.Short = coded F1 None
+state_text states.Magic = coded F2 None
+state_text states.Version = coded F3 None
+state_text states.Reserved = coded F4 None
+state_text states.Processors = coded F5 None
+state_text states.Length = coded F6 None
+state_text states.Checksum = coded F7 None
+state_text states.List = coded F8 None
+state_text states.Stack = coded F9 None
+state_text states.Part = coded F10 None
+state_text states.Count = coded F11 None
+state_text states.Latest = coded F12 None
+state_text states.Moment = coded F13 None
+state_text states.Held = coded F14 None
+state_text states.Excess = coded F15 None
+state_text states.NoMemory = coded F16 None
+
+-- a processor counts more than its segments can have
+abbrev pub unbounded_text : ℕ → List ℕ
+unbounded_text processor = coded F17 (Some (parts.Processor processor))
 
 -- a field of a line, by its name
 abbrev pub field_text : Field → List ℕ
@@ -122,12 +147,19 @@ symbols_text (symbols.Overlap row) = coded Y5 (Some (parts.Row row))
 symbols_text (symbols.Csv row) = coded Y6 (Some (parts.Row row))
 symbols_text symbols.NoMemory = coded Y7 None
 
--- faults without a code: an input that isn't read, an output that fails, and refused memory, which has the words of its codes
+-- faults without a code: an input that isn't read, an output that fails, a state that isn't saved, and refused memory, which has the words
+-- of its codes
 abbrev pub unread : Reason → List ℕ
 unread reason = said None (wrong_by reason) (advice_by reason)
 
 abbrev pub untaken : List ℕ
 untaken = said None (codes "it didn't take the whole answer") (codes "is a disk full, or its reader gone?")
+
+abbrev pub unsaved : Reason → List ℕ
+unsaved reason = said None (unsaved_by reason) (unsaved_advice_by reason)
+
+abbrev pub too_many_stacks : List ℕ
+too_many_stacks = said None (codes "it would have more than 2^32 stacks") (codes "save states of fewer segments")
 
 abbrev pub no_memory : List ℕ
 no_memory = coded C6 None

@@ -1,4 +1,4 @@
--- Why the system refuses to open or to read something (this project's own).
+-- Why the system refuses to open, to read or to write something (this project's own).
 use Rattle.std.specs.Prelude.{◌==◌, ◌||◌, ℕ, ℤ, pos, Bool, false, List, Option, Some, codes, if◌then◌else◌}
 use Rattle.std_io.specs.IoError.{error_kind, raw_os_error}
 use Rattle.std_io.specs.declared.io.error.Error.{Error}
@@ -37,3 +37,18 @@ advice_by NotAllowed = codes "are its rights, and those of the folders above it,
 advice_by Folder = codes "give the files in it"
 advice_by TooManyOpen = codes "raise their limit (ulimit -n), or give fewer pipes at once"
 advice_by Unknown = codes "is it a file, is it there, and may you read it?"
+
+-- the same of a state that can't be saved
+abbrev pub unsaved_by : Reason → List ℕ
+unsaved_by NotThere = codes "its folder isn't there"
+unsaved_by NotAllowed = codes "you aren't allowed to write in its folder"
+unsaved_by Folder = codes "it is a folder"
+unsaved_by TooManyOpen = codes "too many files are open"
+unsaved_by Unknown = codes "it can't be written"
+
+abbrev pub unsaved_advice_by : Reason → List ℕ
+unsaved_advice_by NotThere = codes "is its name right?"
+unsaved_advice_by NotAllowed = codes "are the rights of its folder, and of those above it, as they should be?"
+unsaved_advice_by Folder = codes "give the name of a file in it"
+unsaved_advice_by TooManyOpen = codes "raise their limit (ulimit -n)"
+unsaved_advice_by Unknown = codes "is a disk full?"

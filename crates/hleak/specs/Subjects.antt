@@ -1,5 +1,5 @@
 -- What a fault is about, as a person calls it (this project's own).
-use Rattle.std.specs.Prelude.{◌≡◌, ⊤, ℕ, Bool, false, List, Option, None, Some, codes, is_some, slice_get, string_bytes}
+use Rattle.std.specs.Prelude.{◌≡◌, ◌∷◌, [], ⊤, ℕ, Bool, false, List, Option, None, Some, String, codes, is_some, slice_get, string_bytes}
 use Rattle.std.specs.Option.{option_map_or}
 use Rattle.htl_case.specs.declared.fault.CaseFault.TheVariants.{Empty}
 use Rattle.htl_command.specs.declared.command.Command.{Command}
@@ -7,6 +7,7 @@ use Rattle.htl_command.specs.declared.command.Command.TheVariants as wish
 use Rattle.htl_inputs.specs.declared.fault.RunFault.{RunFault}
 use Rattle.htl_inputs.specs.declared.fault.RunFault.TheVariants.{Segment, Hex, Text, Case, Symbols, Read}
 use Rattle.htl_inputs.specs.declared.fault.RunFault.TheVariants.{SymbolsRead, UnknownCut, Write}
+use Rattle.htl_inputs.specs.declared.fault.RunFault.TheVariants.{State, Unbounded, StateRead, StateWrite, StateStacks}
 use Rattle.htl_main.specs.Subjects.{since_of}
 use Rattle.htl_question.specs.Questions.{subject_of as asks_about}
 use Rattle.htl_question.specs.declared.subject.Subject.{Subject}
@@ -29,6 +30,20 @@ input_name (Question run) place = option_map_or string_bytes (slice_get run.now.
 input_name (Convert of) place = option_map_or string_bytes (slice_get of.now place) (codes "standard input")
 input_name (Ask of) place = option_map_or string_bytes (slice_get of.now.files.items place) (codes "standard input")
 input_name (Reads of) place = option_map_or string_bytes (slice_get of.now place) (codes "what was read before")
+
+-- the saved state at a place: the file, where a line of a dialogue merges one
+abbrev pub state_name : Task → ℕ → List ℕ
+state_name (Reads of) place = input_name (Reads of) place
+state_name task place = codes "the state"
+
+-- what does not fit what was read before: the file, where a line of a dialogue reads one alone or merges one, and else the program
+abbrev pub alone : {A : Type 0} → List (String A) → List ℕ
+alone (name ∷ []) = string_bytes name
+alone names = codes "hleak"
+
+abbrev pub alone_name : Task → List ℕ
+alone_name (Reads of) = alone of.now
+alone_name task = codes "hleak"
 
 -- the file with the symbols
 abbrev pub symbols_name : Task → List ℕ
@@ -65,8 +80,14 @@ subject_of task (Hex input fault) = input_name task input
 subject_of task (Text input line fault event) = input_name task input
 subject_of task (Read input) = input_name task input
 subject_of task (UnknownCut input) = input_name task input
+subject_of task (State state offset fault) = state_name task state
+subject_of task (Unbounded state processor) = state_name task state
+subject_of task (StateRead state) = state_name task state
 subject_of task (Case Empty) = input_name task 0
+subject_of task (Case fault) = alone_name task
 subject_of task (Symbols fault) = symbols_name task
 subject_of task SymbolsRead = symbols_name task
 subject_of task Write = codes "standard output"
+subject_of task StateWrite = codes "the state"
+subject_of task StateStacks = codes "the state"
 subject_of task fault = codes "hleak"

@@ -1,7 +1,7 @@
 //! The files of the machine and its standard input. No contract knows what these hold. So what the
 //! program does with them is written for every disk, whose clauses speak of the bytes where they are
 //! known, and the machine is a disk of which nothing is known. Each body of it here is a line or two,
-//! to be read; `.ci/statuses`, `.ci/picks` and `.ci/ask` test them.
+//! to be read; `.ci/statuses`, `.ci/picks`, `.ci/ask` and `.ci/states` test them.
 
 ghost use Rattle.std.specs.Prelude.{◌≡◌, ℕ, Bool, IfOk, IfSome, List, None, Option, false, is_some};
 ghost use Rattle.std.specs.Prelude.{length, true};
@@ -10,10 +10,11 @@ ghost use Rattle.htl_world.specs.Worlds.{Known};
 ghost use Rattle.hleak.specs.Disks.{IsAnswered, IsFound};
 ghost use Rattle.hleak.specs.Openings.{IsKnownLen, IsStream};
 
+use crate::replacing::replace;
 use std::fs::{File, Metadata};
 use std::io::{Read, Seek, SeekFrom, Stdin};
 use std::os::unix::fs::FileTypeExt;
-use std::{fs, io};
+use std::{fs, io, process};
 
 /// A file that was just opened, and what the system says of it.
 #[derive(Drop)]
@@ -25,7 +26,7 @@ pub struct Found<F> {
     pub is_stream: bool,
 }
 
-/// Where files are opened by their names.
+/// Where files are opened by their names, and replaced.
 pub trait Disk: Copy {
     /// An open file, or standard input.
     type File: Read + Drop;
@@ -52,6 +53,10 @@ pub trait Disk: Copy {
         ensures answered { IsAnswered (known self.now) name.now result }
         ensures bytes { IfOk result (λ read. IfSome ((known self.now).holds name.now)
             (λ bytes. read.items ≡ bytes)) };
+
+    /// Has a name hold these bytes: all of them, or what it held before, whatever happens meanwhile. Of
+    /// a name that may be written it isn't known what it holds.
+    fn write(&self, name: &str, bytes: &[u8]) -> io::Result<()>;
 
     /// Standard input, to be read from where it stands.
     fn standard(&self) -> Self::File
@@ -128,6 +133,12 @@ impl Disk for HostRuntime {
 
     fn read(&self, name: &str) -> io::Result<Vec<u8>> {
         fs::read(self, name)
+    }
+
+    fn write(&self, name: &str, bytes: &[u8]) -> io::Result<()> {
+        let mut keeper = *self;
+        let process = process::id(self.process());
+        replace(self.alloc(), &mut keeper, process, name, bytes)
     }
 
     fn standard(&self) -> MachineFile {

@@ -37,7 +37,7 @@ impl<'p, D: Disk> Machine<'p, D> {
         }
     }
 
-    /// What was opened, or why nothing was, which is noted.
+    /// What was opened, read or written, or why nothing was, which is noted.
     fn opened<T: Drop>(&self, attempt: io::Result<T>) -> Result<T, OpenFault>
         ensures ok { IfOk attempt (λ it. result ≡ Ok it) }
         ensures err { IfErr attempt (λ error. result ≡ Err (open_fault (error_kind error))) }
@@ -84,6 +84,10 @@ where
         self.opened(self.disk.read(name))
     }
 
+    fn write(&mut self, name: &str, bytes: &[u8]) -> Result<(), OpenFault> {
+        self.opened(self.disk.write(name, bytes))
+    }
+
     /// It is counted where somebody watches. What a person types is not.
     fn standard_input(&mut self) -> InputSource<'p, D> {
         let progress = self.voice.progress.filter(|_| !self.is_typed);
@@ -103,7 +107,7 @@ where
     }
 }
 
-/// Why something could not be opened.
+/// Why something could not be opened, read or written.
 fn fault_of(error: &io::Error) -> OpenFault
     ensures { result ≡ open_fault (error_kind error.now) }
 {

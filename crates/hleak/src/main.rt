@@ -3,7 +3,8 @@
 //!
 //! What its arguments ask for is done by `htl_program`, for any world. Here is the world of the
 //! machine (`machine.rt`): the files of its disk (`disk.rt`), which are opened once they are read
-//! (`file.rt`, `input.rt`), also by several workers (`input_source.rt`). And here is the person who
+//! (`file.rt`, `input.rt`), also by several workers (`input_source.rt`), and replaced as a whole
+//! (`replacing.rt`). And here is the person who
 //! reads standard error (`terminal.rt`), also beside the replies of a dialogue (`listener.rt`).
 //! `voice.rt` writes there, and `terminals.rt` says whether it is a terminal.
 //!
@@ -29,6 +30,7 @@ mod machine;
 mod note;
 mod progress;
 mod reason;
+mod replacing;
 mod shown;
 mod terminal;
 mod terminals;

@@ -1,4 +1,4 @@
-//! Why the system refuses to open or to read something.
+//! Why the system refuses to open, to read or to write something.
 
 ghost use Rattle.std.specs.Prelude.{◌≡◌};
 ghost use Rattle.std_io.specs.IoError.{error_kind, raw_os_error};
@@ -8,10 +8,10 @@ use std::cell::Cell;
 use std::io;
 use std::io::ErrorKind;
 
-/// Why something can't be opened or read, where a person can do something about it.
+/// Why something can't be opened, read or written, where a person can do something about it.
 #[derive(Clone, Copy, Debug, PartialEq, Eq)]
 pub enum Reason {
-    /// There is nothing of its name.
+    /// There is nothing of its name; or no folder, where it is written.
     NotThere,
     /// The rights of the file, or of a folder above it, don't allow it.
     NotAllowed,
@@ -54,8 +54,8 @@ fn is_too_many(number: Option<i32>) -> bool
     matches!(number, Some(23 | 24)) // ENFILE and EMFILE
 }
 
-/// Why the system last refused to open or to read an input. The inputs note it, and whoever explains the
-/// fault asks for it. No contract says what a cell holds.
+/// Why the system last refused to open or to read an input, or to write. Who asks the system notes it,
+/// and whoever explains the fault asks for it. No contract says what a cell holds.
 #[derive(Drop)]
 pub struct LastRefusal {
     reason: Cell<Reason>,

@@ -83,6 +83,11 @@ module _ (setting : Setting) (before : List Content) (texts : List (List ℕ)) (
     took_before faults.Memory known is = absurd (known refl)
     took_before faults.NoThread known is = took_part faults.NoThread is
     took_before (faults.UnknownCut input) known is = took_part (faults.UnknownCut input) is
+    took_before (faults.State state offset fault) known is = took_part (faults.State state offset fault) is
+    took_before (faults.Unbounded state processor) known is = took_part (faults.Unbounded state processor) is
+    took_before (faults.StateRead state) known is = took_part (faults.StateRead state) is
+    took_before faults.StateWrite known is = took_part faults.StateWrite is
+    took_before faults.StateStacks known is = took_part faults.StateStacks is
 
     -- what came of folding, where it goes on, is of one list of segments of which what is kept holds
     pub took : (ended : Result Added Refused) → GoesOn ended → IsFolding of Keeps ended

@@ -2,6 +2,9 @@ pub mod LinesRead
 pub mod LoadLaws
 pub mod FoldLaws
 pub mod KeptLaws
+pub mod StateLaws
+pub mod FirstFaults
+pub mod Written
 pub mod StateOutcomes
 pub mod Begun
 pub mod OfForm

@@ -1,4 +1,4 @@
--- The lines of a dialogue ask for the names that they read, one line after the other.
+-- The lines of a dialogue ask for the names that they read or write, one line after the other.
 use Rattle.std.proofs.Common.{◌≡◌, ◌++◌, ◌∷◌, ◌∙◌, [], Bool, false, List, ℕ, All, None, Some, ap, append_assoc, append-nil, refl, subst, sym, Result, Ok, Err}
 use Rattle.std.proofs.Common.{inl, inr, take}
 use Rattle.std.specs.Prelude.{Option}
@@ -6,8 +6,8 @@ use Rattle.std.proofs.lemmas.List.Elements.{All-append, All-nil, All-cons}
 use Rattle.std.proofs.lemmas.List.{take-map}
 use Rattle.htl_dialogue.specs.Dialogues.{asked_lines, before_end, is_end}
 use Rattle.htl_dialogue.specs.Lines.{lines_of_dialogue}
-use Rattle.htl_dialogue.specs.Sayings.{Saying, Turn, asks, nothing, quits, reads, saying, saying_in, saying_of, turn, turns_of, used, uses}
-use Rattle.htl_dialogue.specs.Sayings.{wrong}
+use Rattle.htl_dialogue.specs.Sayings.{Saying, Turn, asks, merges, nothing, quits, reads, saves, saying, saying_in, saying_of, turn, turns_of}
+use Rattle.htl_dialogue.specs.Sayings.{used, uses, wrong}
 use Rattle.htl_dialogue.specs.declared.reading.NextLine.{NextLine}
 use Rattle.htl_dialogue.specs.declared.saying.Said.{Said}
 use Rattle.htl_dialogue.proofs.Conversing.{Takes, asked_one, line_is_end}
@@ -15,7 +15,7 @@ use Rattle.htl_dialogue.proofs.Hearing.{end_of_line, use_of_line}
 use Rattle.htl_dialogue.proofs.NextLines.{first_line}
 use Rattle.htl_inputs.specs.declared.fault.RunFault.{RunFault}
 use Rattle.htl_world.specs.Rounds.{Asks, all_opened}
-use Rattle.htl_world.specs.Worlds.{Ask, WorldState, change, to_open}
+use Rattle.htl_world.specs.Worlds.{Ask, WorldState, change, to_open, to_read, to_write}
 use Rattle.htl_world.proofs.Asked.{asked_more, asked_none}
 use Rattle.htl_world.specs.Openings.{AsksFor}
 use Rattle.htl_ask.specs.LineRounds.{DialogueAsks, IsOfName, LineAsks, LinesAsk, AsksNames}
@@ -62,6 +62,11 @@ pub record AsksSoFar (forgets : Bool) (known : Option (List ℕ)) (process : Opt
 -- a line asks for names alone
 line_names : (said : Saying) (log : List Ask) → LineAsks said log → All IsOfName log
 line_names (reads names) log is = only_names names log is
+line_names (merges name) log (why, is) =
+    subst (All IsOfName) (sym is) (All-cons IsOfName (to_read name why) [] tt (All-nil IsOfName))
+line_names (saves name) log (inl none) = subst (All IsOfName) (sym none) (All-nil IsOfName)
+line_names (saves name) log (inr (bytes, why, is)) =
+    subst (All IsOfName) (sym is) (All-cons IsOfName (to_write name bytes why) [] tt (All-nil IsOfName))
 line_names (asks job) log is = subst (All IsOfName) (sym is) (All-nil IsOfName)
 line_names (uses process) log is = subst (All IsOfName) (sym is) (All-nil IsOfName)
 line_names nothing log is = subst (All IsOfName) (sym is) (All-nil IsOfName)

@@ -2,8 +2,9 @@
 -- inputs, where their segments are kept, or the segments that were taken, where these are forgotten. A question gets the text that a run of
 -- its own over these prints, or isn't answered while a segment is missing of a trace that is asked for complete.
 use Rattle.std.specs.Prelude.{◌≡◌, ◌≢◌, ◌≤◌, ◌⊎◌, ◌++◌, ◌∷◌, [], ⊤, ℕ, Bool, true, false, List, Option, None, Some, Result, Ok, Err, IfErr}
-use Rattle.std.specs.Prelude.{IfSome, is_some, length, map}
+use Rattle.std.specs.Prelude.{IfSome, if◌then◌else◌, is_some, length, map}
 use Rattle.htl_case.specs.Cases.{IsCaseOf}
+use Rattle.htl_case.specs.declared.fault.CaseFault.TheVariants.{Empty}
 use Rattle.htl_command.specs.declared.question.Job.{Job}
 use Rattle.htl_command.specs.declared.question.Setting.{Setting}
 use Rattle.htl_device.specs.States.{SourceState, ends, good_reads, has_failed, lefts}
@@ -13,7 +14,8 @@ use Rattle.htl_inputs.specs.Inputs.{DecodeAll}
 use Rattle.htl_inputs.specs.Sources.{IsEndless, IsTrueAt}
 use Rattle.htl_inputs.specs.declared.cuts.CutInputs.{CutInputs}
 use Rattle.htl_inputs.specs.declared.fault.RunFault.{RunFault}
-use Rattle.htl_inputs.specs.declared.fault.RunFault.TheVariants.{Incomplete, Memory, Read}
+use Rattle.htl_inputs.specs.declared.fault.RunFault.TheVariants.{Case, Incomplete, Memory, Read, State, StateRead, StateStacks, StateWrite}
+use Rattle.htl_inputs.specs.declared.fault.RunFault.TheVariants.{Unbounded}
 use Rattle.htl_dialogue.specs.Dialogues.{Answers, Gets, answers_by}
 use Rattle.htl_dialogue.specs.Lines.{lines_of_dialogue}
 use Rattle.htl_dialogue.specs.Notes.{OwnNote}
@@ -29,6 +31,7 @@ use Rattle.htl_main.specs.Printed.{HasSymbols, IsText, Printed}
 use Rattle.htl_main.specs.Causes.{IsSourcesCause}
 use Rattle.htl_main.specs.Remarks.{RemarksOver, ReportsRemarks}
 use Rattle.htl_main.specs.Runs.{EndsAdding, RunsOut}
+use Rattle.htl_main.specs.SavedStates.{AreOfOne, EndsMerging, IsNoState, IsStateOf}
 use Rattle.htl_main.specs.Subjects.{ReportsAbsence}
 use Rattle.htl_main.specs.declared.loading.adding.Added.{Added}
 use Rattle.htl_main.specs.declared.completed.Absence.{Absence}
@@ -186,10 +189,83 @@ pub record ReadsMore (world : Known) (setting : Setting) (before : Option Taken)
   pub reads : ReadsNames world setting names sources (by_fault ended)
   pub leads : LeadsTo setting before (found world names) sources after ended
 
+-- ---- saved states
+
+-- What is known of saved states, where it is known what names hold: of which segments the state of a name is, and whether two lists of
+-- segments are known to be of one trace.
+pub record KnownStates (holds : List ℕ → Option (List ℕ)) : Type 0 where
+  pub tells : List ℕ → Option (List Content)
+  pub are_of_one : List Content → List Content → Bool
+  pub states : (name : List ℕ) → IfSome (tells name) (λ told. (bytes : List ℕ) × (holds name ≡ Some bytes) × IsStateOf bytes told)
+  pub sound : (before told : List Content) → are_of_one before told ≡ true → AreOfOne before told
+
+-- the segments of a state, where these and others are known to be of one trace
+abbrev pub if_of_one : (List Content → Bool) → Option (List Content) → Option (List Content)
+if_of_one are None = None
+if_of_one are (Some told) = if are told then Some told else None
+
+-- Why the state of a name isn't merged, or a gap is reported of what was merged: the name isn't known to hold anything, or what it holds is
+-- no state, or one that doesn't go with what was folded.
+abbrev pub IsMergesFault : Option (List ℕ) → RunFault → Type 0
+IsMergesFault held (StateRead place) = (place ≡ 0) × (held ≡ None)
+IsMergesFault held (State place offset fault) = IfSome held (λ bytes. IsNoState bytes (State place offset fault))
+IsMergesFault held (Unbounded place processor) = IfSome held (λ bytes. IsNoState bytes (Unbounded place processor))
+IsMergesFault held (Case fault) = ⊤
+IsMergesFault held (Incomplete processor number) = ⊤
+IsMergesFault held fault = ⊥
+
+-- What was read by then, where it isn't known of which segments a state is: that isn't known once it was merged, also where a gap is
+-- reported then. A refused state changes nothing.
+abbrev pub merged_unknown : List Content → Result Added RunFault → Option Taken
+merged_unknown before (Ok added) = None
+merged_unknown before (Err (Incomplete processor number)) = None
+merged_unknown before (Err fault) = Some (segments before)
+
+-- The same where there may be nothing under the name (`true`), so that nothing was merged; and where it may be known of which segments the
+-- state is, which are of one trace with those from before: all of them are, once it was merged.
+abbrev pub MergesTold : Bool → List Content → Bool → Option (List Content) → Option Taken → Result Added RunFault → Type 0
+MergesTold complete before true told after ended = after ≡ Some (segments before)
+MergesTold complete before false None after ended = after ≡ merged_unknown before ended
+MergesTold complete before false (Some told) after ended =
+    EndsMerging complete before told (λ all. after ≡ Some (segments all)) (after ≡ Some (segments before)) ended
+
+-- The state of a name was to be merged into what was folded of these segments, and that ended so.
+pub record MergesInto (world : Known) (states : KnownStates world.holds) (setting : Setting) (before : List Content) (name : List ℕ)
+    (after : Option Taken) (ended : Result Added Refused) : Type 0 where
+  pub goes_on : GoesOn ended
+  pub absent : world.is_absent name ≡ true → by_fault ended ≡ Err (StateRead 0)
+  pub fault : IfErr ended (λ refused. IsMergesFault (world.holds name) refused.fault × IsHalfKnown refused.fault refused.between)
+  pub merges : MergesTold setting.complete before (world.is_absent name) (if_of_one (states.are_of_one before) (states.tells name)) after
+      (by_fault ended)
+
+-- The same of what was read before, as far as that is known. Where segments are kept, no line merges a state.
+abbrev pub MergesName : (world : Known) → KnownStates world.holds → Setting → Option Taken → List ℕ → Option Taken → Result Added Refused
+    → Type 0
+MergesName world states setting None name after ended = after ≡ None
+MergesName world states setting (Some (inputs texts)) name after ended = ⊥
+MergesName world states setting (Some (segments before)) name after ended = MergesInto world states setting before name after ended
+
+-- How the saving of these segments ends: so many bytes were written, which are their state. Nothing is saved where there is none, where
+-- there are too many stacks, or where the bytes couldn't be written.
+abbrev pub SavesSegments : List Content → Result ℕ RunFault → Type 0
+SavesSegments taken (Ok count) =
+    (bytes : List ℕ) × (count ≡ length bytes) × ((T : Trace) → taken ≢ [] → IsCollectionOf taken T → IsStateOf bytes taken)
+SavesSegments taken (Err (Case Empty)) = taken ≡ []
+SavesSegments taken (Err StateStacks) = taken ≢ []
+SavesSegments taken (Err StateWrite) = ⊤
+SavesSegments taken (Err fault) = ⊥
+
+-- The same of what was read, under a name. Where segments are kept, no line saves them.
+abbrev pub SavesName : Option Taken → List ℕ → Result ℕ RunFault → Type 0
+SavesName None name ended = ⊤
+SavesName (Some (inputs texts)) name ended = ⊥
+SavesName (Some (segments taken)) name ended = SavesSegments taken ended
+
 -- Who answers from what was read so far.
-abbrev pub answers_over : Known → Setting → Bool → Option (List ℕ) → Answers (Option Taken)
-answers_over world setting forgets symbols =
+abbrev pub answers_over : (world : Known) → KnownStates world.holds → Setting → Bool → Option (List ℕ) → Answers (Option Taken)
+answers_over world states setting forgets symbols =
     answers_by forgets (is_some symbols) (IsOutcomeOver setting symbols) (IsAbsenceOver setting) (ReadsMore world setting)
+    (MergesName world states setting) SavesName
 
 -- ---- the beginning
 

@@ -1,23 +1,37 @@
--- What a world is asked for by the lines of a dialogue (this project's own): by each line that reads, its names once and in order.
+-- What a world is asked for by the lines of a dialogue (this project's own): by each line that reads, its names once and in order, and by
+-- one that merges or saves a state, its name once.
 use Rattle.std.specs.Prelude.{◌≡◌, ◌++◌, ◌∷◌, ◌⊎◌, [], ⊤, ℕ, Bool, List, All, Option, Some, None, Result, Ok, Err}
 use Rattle.htl_inputs.specs.declared.fault.RunFault.{RunFault}
 use Rattle.htl_dialogue.specs.Dialogues.{asked_lines}
-use Rattle.htl_dialogue.specs.Sayings.{Saying, Turn, reads, saying_in}
-use Rattle.htl_world.specs.Worlds.{Ask, to_open}
+use Rattle.htl_dialogue.specs.Sayings.{Saying, Turn, merges, reads, saves, saying_in}
+use Rattle.htl_world.specs.Worlds.{Ask, to_open, to_read, to_write}
 use Rattle.htl_world.specs.Rounds.{EndsEarly, all_opened}
+use Rattle.htl_world.specs.declared.world.OpenFault.{OpenFault}
 
--- a name was asked for: not standard input, and no table of symbols
+-- a name was asked for: not standard input
 abbrev pub IsOfName : Ask → Type 0
 IsOfName (to_open name why) = ⊤
+IsOfName (to_read name why) = ⊤
+IsOfName (to_write name bytes why) = ⊤
 IsOfName other = ⊥
 
 -- Names were asked for one after the other, each once: all of them, or those up to one at which that ended.
 abbrev pub AsksNames : List (List ℕ) → List Ask → Type 0
 AsksNames names asks = (asks ≡ all_opened names) ⊎ ((fault : RunFault) × EndsEarly names (all_opened names) fault asks)
 
--- what is asked for by what a line says: the names that it reads
+-- all bytes of a name were asked for, once
+abbrev pub ReadsOne : List ℕ → List Ask → Type 0
+ReadsOne name asks = (why : Option OpenFault) × (asks ≡ to_read name why ∷ [])
+
+-- A name was to hold some bytes, once; or nothing was asked for, where there was nothing to write.
+abbrev pub WritesOne : List ℕ → List Ask → Type 0
+WritesOne name asks = (asks ≡ []) ⊎ ((bytes : List ℕ) × (why : Option OpenFault) × (asks ≡ to_write name bytes why ∷ []))
+
+-- what is asked for by what a line says: the names that it reads, or that of a state
 abbrev pub LineAsks : Saying → List Ask → Type 0
 LineAsks (reads names) asks = AsksNames names asks
+LineAsks (merges name) asks = ReadsOne name asks
+LineAsks (saves name) asks = WritesOne name asks
 LineAsks other asks = asks ≡ []
 
 -- The same by lines, one after the other, in a dialogue that forgets events or keeps them.

@@ -1,22 +1,25 @@
--- For the clauses of private functions: what is kept answers the lines of a dialogue, before files are read and after.
-use Rattle.std.specs.Prelude.{◌≡◌, ◌⊎◌, [], ⊤, ℕ, Bool, true, false, List, IfErr, IfOk, OnOk, None, Some, Option, Result, Ok, Err, map}
+-- For the clauses of private functions: what is kept answers the lines of a dialogue, before files are read and after; and saved states are
+-- merged into it, and made of it.
+use Rattle.std.specs.Prelude.{◌≡◌, ◌≢◌, ◌⊎◌, ◌∷◌, [], ⊤, ℕ, Bool, true, false, List, IfErr, IfOk, IfSome, OnOk, None, Some, Option}
+use Rattle.std.specs.Prelude.{Result, Ok, Err, length, map}
 use Rattle.htl_command.specs.Needs.{needs_events}
 use Rattle.htl_command.specs.declared.question.Job.{Job}
 use Rattle.htl_command.specs.declared.question.Setting.{Setting}
 use Rattle.htl_device.specs.States.{SourceState, IfKnown}
 use Rattle.htl_inputs.specs.declared.fault.RunFault.{RunFault}
-use Rattle.htl_inputs.specs.declared.fault.RunFault.TheVariants.{Incomplete, Memory}
+use Rattle.htl_inputs.specs.declared.fault.RunFault.TheVariants.{Incomplete, Memory, StateRead, StateWrite}
 use Rattle.htl_dialogue.specs.Dialogues.{Answers, answers_by}
 use Rattle.htl_dialogue.specs.declared.saying.Said.{Said}
 use Rattle.htl_dialogue.specs.declared.saying.Said.TheVariants as said
 use Rattle.htl_main.specs.Completeness.{IsComplete, IsLeastMissing}
 use Rattle.htl_main.specs.Coverages.{IsCoverage}
-use Rattle.htl_main.specs.Folding.{AreFolded, IsAskedOver, IsCollectionOf, folding}
+use Rattle.htl_main.specs.Folding.{AreFolded, IsAskedOver, IsCollectionOf, IsHalfKnown, folding}
 use Rattle.htl_main.specs.Loading.{AreLoadedOf}
 use Rattle.htl_main.specs.Origins.{by_fault}
 use Rattle.htl_main.specs.Printed.{HasSymbols, WorkersFit}
 use Rattle.htl_inputs.specs.Readings.{AreRead, AskForReaders}
 use Rattle.htl_main.specs.Runs.{EndsAdding, RunsOut}
+use Rattle.htl_main.specs.SavedStates.{IsStateOfFolded, IsUnsaved, MergesAs}
 use Rattle.htl_main.specs.Subjects.{HasAbsence}
 use Rattle.htl_main.specs.declared.loading.adding.Added.{Added}
 use Rattle.htl_main.specs.declared.completed.Absence.{Absence}
@@ -26,7 +29,8 @@ use Rattle.htl_main.specs.declared.printing.AnswerText.{AnswerText}
 use Rattle.htl_main.specs.declared.refused.Refused.{Refused}
 use Rattle.htl_segment.specs.Content.{Content}
 use Rattle.htl_segment.specs.Traces.{Trace}
-use Rattle.htl_world.specs.Worlds.{Known}
+use Rattle.htl_world.specs.Worlds.{IsAsked, Known, WorldChange, to_write}
+use Rattle.htl_world.specs.declared.world.OpenFault.TheVariants as opens
 use Rattle.htl_ask.specs.Asking.{Begins, GoesOn, IsAnswerText, IsBeginsBetween, IsBeginsCause, IsFolding, ReadsNames, Taken, found}
 use Rattle.htl_ask.specs.Asking.{inputs, one_is_absent, segments}
 use Rattle.htl_ask.specs.declared.kept.Begun.{Begun}
@@ -42,9 +46,11 @@ abbrev pub is_memory : RunFault → Bool
 is_memory Memory = true
 is_memory fault = false
 
--- a question is one that what is kept answers
+-- a question is one that what is kept answers, and a state is merged or saved only of what was folded
 abbrev pub IsOfForm : Bool → Said → Type 0
 IsOfForm forgets (said.Asks job) = forgets ≡ true → needs_events job ≡ false
+IsOfForm forgets (said.Merges name) = forgets ≡ true
+IsOfForm forgets (said.Saves name) = forgets ≡ true
 IsOfForm forgets other = ⊤
 
 -- ---- what is kept
@@ -102,12 +108,53 @@ ReadsFiles world setting (Case before) names (Case after) ended = AddsFiles worl
 ReadsFiles world setting (State before) names (State after) ended = FoldsFiles world setting before names after ended × GoesOn ended
 ReadsFiles world setting before names after ended = ⊥
 
+-- ---- saved states
+
+-- The name gave bytes, and the state that they are was merged into what was folded, or refused; or the name gave none, and what was folded
+-- stays; or memory was refused.
+abbrev pub MergesFolded : Known → Setting → Folded → List ℕ → Folded → Result Added RunFault → Type 0
+MergesFolded world setting before name after ended =
+    ((bytes : List ℕ) × IfSome (world.holds name) (λ held. bytes ≡ held) × (world.is_absent name ≡ false)
+    × MergesAs setting bytes before after ended)
+    ⊎ (((ended ≡ Err (StateRead 0)) × (world.holds name ≡ None) × (after ≡ before)) ⊎ (ended ≡ Err Memory))
+
+-- The same of what is kept, in a dialogue that goes on. It isn't known which two segments a fault is about that is about two.
+abbrev pub MergesFile : Known → Setting → Kept → List ℕ → Kept → Result Added Refused → Type 0
+MergesFile world setting (State before) name (State after) ended =
+    MergesFolded world setting before name after (by_fault ended) × GoesOn ended
+    × IfErr ended (λ refused. IsHalfKnown refused.fault refused.between)
+MergesFile world setting before name after ended = ⊥
+
+-- how the saving of what was folded ends, and what was written then
+abbrev pub SavesFolded : Folded → Result ℕ RunFault → Type 0
+SavesFolded folded (Ok count) = (bytes : List ℕ) × (count ≡ length bytes) × IsStateOfFolded folded bytes
+SavesFolded folded (Err StateWrite) = ⊤
+SavesFolded folded (Err fault) = IsUnsaved folded.analyst fault × (fault ≢ Memory)
+
+abbrev pub SavesFile : Kept → List ℕ → Result ℕ RunFault → Type 0
+SavesFile (State folded) name ended = SavesFolded folded ended
+SavesFile (Case loaded) name ended = ⊥
+
+-- The state of what was folded was written under a name; or the world refused that; or there is none that can be written, and nothing was
+-- asked for.
+abbrev pub WritesFolded : WorldChange → Folded → List ℕ → Result ℕ RunFault → Type 0
+WritesFolded world folded name (Ok count) =
+    (bytes : List ℕ) × (count ≡ length bytes) × IsStateOfFolded folded bytes × IsAsked world.old world.new (to_write name bytes None ∷ [])
+WritesFolded world folded name (Err StateWrite) =
+    (bytes : List ℕ) × IsStateOfFolded folded bytes × IsAsked world.old world.new (to_write name bytes (Some opens.Refused) ∷ [])
+WritesFolded world folded name (Err fault) = IsUnsaved folded.analyst fault × (fault ≢ Memory) × IsAsked world.old world.new []
+
+abbrev pub WritesFile : WorldChange → Kept → List ℕ → Result ℕ RunFault → Type 0
+WritesFile world (State folded) name ended = WritesFolded world folded name ended
+WritesFile world (Case loaded) name ended = ⊥
+
 -- ---- a dialogue
 
 -- who answers from what is kept
 abbrev pub answers_from : Known → Setting → Bool → Bool → Answers Kept
 answers_from world setting forgets has_table =
     answers_by forgets has_table (HasOutcomeIn setting.complete) HasAbsenceIn (ReadsFiles world setting)
+    (MergesFile world setting) SavesFile
 
 -- What there is before the first line, by what was read.
 pub record IsBegun (folds : Bool) (setting : Setting) (symbols : Option (List ℕ)) (texts : List (List ℕ)) (begun : Begun) : Type 0 where

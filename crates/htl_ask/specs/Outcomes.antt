@@ -11,8 +11,8 @@ use Rattle.htl_world.specs.Endings.{IsUnopened, IsUntabled}
 use Rattle.htl_world.specs.Readings.{AreAskedFor, ReadsInputs}
 use Rattle.htl_world.specs.Rounds.{Asks, OpensInputs}
 use Rattle.htl_world.specs.Worlds.{IsTable, IsTableAbsent, Known, WorldChange, HaveTexts, IsAbsentAt, of_inputs}
-use Rattle.htl_ask.specs.Asking.{Begins, BeginsAndGets, IsBeginsBetween, IsBeginsCause, Opening, ReportsDevices, Taken, answers_over}
-use Rattle.htl_ask.specs.Asking.{before_dialogue}
+use Rattle.htl_ask.specs.Asking.{Begins, BeginsAndGets, IsBeginsBetween, IsBeginsCause, KnownStates, Opening, ReportsDevices, Taken}
+use Rattle.htl_ask.specs.Asking.{answers_over, before_dialogue}
 use Rattle.htl_ask.specs.LineRounds.{AsksLater}
 use Rattle.htl_ask.specs.declared.ask_fault.AskFault.{AskFault}
 use Rattle.htl_ask.specs.declared.ask_fault.AskFault.TheVariants as asks
@@ -52,27 +52,29 @@ Began of talk texts table Goes =
     (read : Taken) × (opening : Opening) × Begins of.folds of.setting table texts read opening
     × ((lines : List ℕ) → talk.questions.remaining ≡ Some lines → Goes read opening lines)
 
--- Each line got what a run of its own prints over what the names hold, or those before a fault did; or no dialogue began, for a reason of
--- the inputs or of the table, or since memory was refused.
-abbrev pub EndsConversing : {S : Type 0} → Known → List SourceState → Dialogue → Talk S → List (List ℕ) → Option (List ℕ)
-    → Result Conversed AskFault → Type 0
-EndsConversing world inputs of talk texts table (Ok conversed) =
+-- Each line got what a run of its own prints over what the names hold, or those before a fault did, whatever is known of saved states; or
+-- no dialogue began, for a reason of the inputs or of the table, or since memory was refused.
+abbrev pub EndsConversing : {S : Type 0} → (world : Known) → KnownStates world.holds → List SourceState → Dialogue → Talk S
+    → List (List ℕ) → Option (List ℕ) → Result Conversed AskFault → Type 0
+EndsConversing world states inputs of talk texts table (Ok conversed) =
     Began of talk texts table (λ read opening lines.
-    Converses (answers_over world of.setting of.folds table) talk.wants_notes (Some read) lines
+    Converses (answers_over world states of.setting of.folds table) talk.wants_notes (Some read) lines
     (HasGot (map string_bytes of.files.items) talk opening) conversed)
-EndsConversing world inputs of talk texts table (Err (asks.Dialogue stopped)) =
+EndsConversing world states inputs of talk texts table (Err (asks.Dialogue stopped)) =
     Began of talk texts table (λ read opening lines.
-    DialogueStops (answers_over world of.setting of.folds table) talk.wants_notes (Some read) lines talk.left.remaining talk.left.failed
-    (HasGot (map string_bytes of.files.items) talk opening) stopped)
-EndsConversing world inputs of talk texts table (Err (asks.Run refused)) =
+    DialogueStops (answers_over world states of.setting of.folds table) talk.wants_notes (Some read) lines
+    talk.left.remaining talk.left.failed (HasGot (map string_bytes of.files.items) talk opening) stopped)
+EndsConversing world states inputs of talk texts table (Err (asks.Run refused)) =
     IsBeginsCause of.folds of.setting table texts inputs refused.fault ⊎ (refused.fault ≡ Memory)
 
 -- A dialogue was held over the names of its files. What comes before the first line ends as any run does, which is said of the fault alone.
--- Each file was opened once, in order, and then the table of symbols was read; later each line's files were, once and in order.
+-- Each file was opened once, in order, and then the table of symbols was read; later each line's files were, once and in order, and what a
+-- line merges was read and what it saves was written, once.
 pub record IsConversed {S : Type 0} (world : WorldChange) (inputs : List SourceState) (of : Dialogue) (talk : Talk S)
     (ended : Result Conversed AskFault) : Type 0 where
   pub outcome : (texts : List (List ℕ)) → (table : Option (List ℕ)) → HaveTexts world.old.known of.files.items texts
-      → IsTable world.old.known.holds of.symbols table → EndsConversing world.old.known inputs of talk texts table ended
+      → IsTable world.old.known.holds of.symbols table → (states : KnownStates world.old.known.holds)
+      → EndsConversing world.old.known states inputs of talk texts table ended
   pub devices : ReportsDevices talk.questions.remaining talk.left talk.new.failed ended
   pub between : (texts : List (List ℕ)) → HaveTexts world.old.known of.files.items texts
       → IfErr (before_dialogue ended) (λ refused. IsBeginsBetween of.folds of.setting texts refused.fault refused.between)

@@ -1,4 +1,4 @@
-//! A dialogue over what is kept: each line gets its reply, and files that it names are read too.
+//! A dialogue over what is kept: each line gets its reply, and what it names is read too, or written.
 
 ghost use Rattle.std.specs.Prelude.{◌≡◌, ◌⊎◌, ℕ, List, Err, Some, false, true};
 ghost use Rattle.std.specs.Prelude.{IfErr, IfOk, OnOk, string_bytes};
@@ -20,6 +20,7 @@ ghost use Rattle.htl_ask.specs.LineRounds.{DialogueAsks, LineAsks};
 
 use crate::files::Files;
 use crate::kept::Kept;
+use crate::states::{reply_to_merge, reply_to_save};
 use htl_command::Job;
 use htl_device::{MAX_READS, Sink, Source, write_whole};
 use htl_dialogue::{
@@ -31,10 +32,12 @@ use std::alloc::{AllocError, Global};
 use std::thread::Threads;
 
 /// Replies to each line of the source up to `quit` or its end, and returns how that went. A line
-/// may name files to read: later lines are answered from these too. Or it says which process is used:
-/// later questions about a process that name none are about this one. The speaker hears that a line
-/// is awaited, and before the reply why the line is wrong, what its files added, or why its question
-/// isn't answered; after the reply to a question, what is told of that and of its answer.
+/// may name files to read, or a saved state to merge: later lines are answered from these too. Or it
+/// names a file in which the state is saved. Or it says which process is used: later questions about
+/// a process that name none are about this one. The speaker hears that a line is awaited, and before
+/// the reply why the line is wrong, what its files or its state added, or why its question isn't
+/// answered or the state isn't saved; after the reply to a question, what is told of that and of its
+/// answer.
 /// `has_table` says whether addresses are named by a table of symbols.
 ///
 /// All lines that were read have their replies before more is read, and nothing is read once a line
@@ -158,6 +161,8 @@ fn reply<Rt: Threads + Sync, W: World, O: Sink, S: Speaker>(
             write(out, text.as_bytes())?;
             Ok(Conversed::fine())
         }
+        Said::Merges(name) => reply_to_merge(alloc, world, files, kept, name, out, speaker),
+        Said::Saves(name) => reply_to_save(alloc, world, files, kept, name, out, speaker),
     }
 }
 
@@ -233,8 +238,8 @@ fn using_reply(alloc: Global, process: Option<u32>) -> Result<String, AllocError
     }
 }
 
-/// The fault that refused the files, if they were refused.
-fn fault_of(ended: Result<Added, Refused>) -> Option<RunFault>
+/// The fault that refused the files or the state, if they were refused.
+pub(crate) fn fault_of(ended: Result<Added, Refused>) -> Option<RunFault>
     ensures { result ≡ fault_of ended }
 {
     match ended {
@@ -267,7 +272,7 @@ fn told_of(has_table: bool, remarks: Remarks) -> Remarks
 }
 
 /// Writes a whole reply, or some first part of it where the sink fails.
-fn write<O: Sink>(out: &mut O, reply: &[u8]) -> Result<(), DialogueFault>
+pub(crate) fn write<O: Sink>(out: &mut O, reply: &[u8]) -> Result<(), DialogueFault>
     requires { (O.state out.old).failed ≡ false }
     ensures ok { OnOk result
         (Appends (O.state out.old).contents (O.state out.new).contents reply.now) }

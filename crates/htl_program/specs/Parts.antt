@@ -2,7 +2,7 @@
 use Rattle.std.specs.Prelude.{◌++◌, ℕ, List, Option, None, Some, codes}
 use Rattle.std.specs.Fmt.{decimal}
 use Rattle.htl_command.specs.declared.code.Code.{Code}
-use Rattle.htl_command.specs.declared.code.Code.TheVariants.{S11, S12, S13, S14, S15, H1, C2, C3, C4, C5, C7, C8, C10}
+use Rattle.htl_command.specs.declared.code.Code.TheVariants.{S11, S12, S13, S14, S15, H1, F17, C2, C3, C4, C5, C7, C8, C10}
 use Rattle.htl_command.specs.declared.code.Code.TheVariants.{Y2, Y3, Y4, Y5, Y6, E1}
 use Rattle.htl_command.specs.declared.printed.Parts.{Parts}
 use Rattle.htl_command.specs.declared.printed.Parts.TheVariants.{Nothing, Number, Numbers, Field}
@@ -14,6 +14,7 @@ use Rattle.htl_program.specs.declared.explained.named_part.NamedPart.TheVariants
 abbrev pub part_text : NamedPart → List ℕ
 part_text (parts.Record i) = codes "record " ++ decimal i
 part_text (parts.Byte place) = codes "byte " ++ decimal place
+part_text (parts.Processor processor) = codes "processor " ++ decimal processor
 part_text (parts.Segment place) = codes "segment " ++ (decimal place ++ codes " of all inputs")
 part_text (parts.Key processor number) = codes "segment " ++ (decimal number ++ (codes " of processor " ++ decimal processor))
 part_text (parts.Sequence sequence) = codes "sequence " ++ decimal sequence
@@ -31,6 +32,7 @@ number_part S13 i = Some (parts.Record i)
 number_part S14 i = Some (parts.Record i)
 number_part S15 i = Some (parts.Record i)
 number_part H1 place = Some (parts.Byte place)
+number_part F17 processor = Some (parts.Processor processor)
 number_part C2 place = Some (parts.Segment place)
 number_part C3 place = Some (parts.Segment place)
 number_part C5 sequence = Some (parts.Sequence sequence)

@@ -7,6 +7,7 @@ use Rattle.htl_command.specs.Codes.{code_name}
 use Rattle.htl_command.specs.declared.code.Code.{Code}
 use Rattle.htl_command.specs.declared.code.Code.TheVariants.{S1, S2, S3, S4, S5, S6, S7, S8, S9, S10, S11, S12, S13, S14, S15, S16, S17}
 use Rattle.htl_command.specs.declared.code.Code.TheVariants.{H1, H2, H3}
+use Rattle.htl_command.specs.declared.code.Code.TheVariants.{F1, F2, F3, F4, F5, F6, F7, F8, F9, F10, F11, F12, F13, F14, F15, F16, F17}
 use Rattle.htl_command.specs.declared.code.Code.TheVariants.{C1, C2, C3, C4, C5, C6, C7, C8, C9, C10}
 use Rattle.htl_command.specs.declared.code.Code.TheVariants.{Y1, Y2, Y3, Y4, Y5, Y6, Y7}
 use Rattle.htl_command.specs.declared.code.Code.TheVariants.{E1, E2}
@@ -25,6 +26,7 @@ part_of S13 = Some (codes "record <i>")
 part_of S14 = Some (codes "record <i>")
 part_of S15 = Some (codes "record <i>")
 part_of H1 = Some (codes "byte <place>")
+part_of F17 = Some (codes "processor <processor>")
 part_of C2 = Some (codes "segment <place> of all inputs")
 part_of C3 = Some (codes "segment <place> of all inputs")
 part_of C4 = Some (codes "segment <number> of processor <processor>")
@@ -73,6 +75,23 @@ wrong_of S17 = codes "the system refused memory"
 wrong_of H1 = codes "is no digit and no blank"
 wrong_of H2 = codes "the last byte has only one digit"
 wrong_of H3 = codes "the system refused memory"
+wrong_of F1 = codes "fewer bytes are left than the 40 of a state's header and end"
+wrong_of F2 = codes "a state begins with HLA1 (48 4c 41 31), and these bytes do not"
+wrong_of F3 = codes "the state's version isn't 1"
+wrong_of F4 = codes "the header's reserved field isn't 0"
+wrong_of F5 = codes "a state has 1 to 256 processors"
+wrong_of F6 = codes "the length at the state's end isn't that of its bytes"
+wrong_of F7 = codes "the checksum at the state's end isn't that of its bytes"
+wrong_of F8 = codes "fewer bytes are left than the rows of a list take"
+wrong_of F9 = codes "a stack is cut or too deep, or isn't above that before it"
+wrong_of F10 = codes "fewer bytes are left than the 20 at the front of a part"
+wrong_of F11 = codes "a count is cut, of no stack or slot, 0 on both sides, or not above that before it"
+wrong_of F12 = codes "a latest event is cut, breaks a rule of its fields, is of no stack, or not above that before it"
+wrong_of F13 = codes "a mark or an exit is cut, has sequence 0, or isn't above that before it"
+wrong_of F14 = codes "a held segment has a fault, is of another trace or processor, or not above the front or that before it"
+wrong_of F15 = codes "bytes are left after the state's last part"
+wrong_of F16 = codes "the system refused memory"
+wrong_of F17 = codes "counts more than its segments can have"
 wrong_of C1 = codes "the inputs have no segments"
 wrong_of C2 = codes "is of another trace than those before it"
 wrong_of C3 = codes "has another number of processors than those before it"
@@ -128,6 +147,23 @@ advice_of S17 = free_memory
 advice_of H1 = codes "is it a trace in bytes (without --hex), or a text (hleak encode)?"
 advice_of H2 = codes "was it copied whole?"
 advice_of H3 = free_memory
+advice_of F1 = codes "was it copied whole?"
+advice_of F2 = codes "did save write it? Segments go to read"
+advice_of F3 = codes "was it saved by a newer hleak?"
+advice_of F4 = damaged
+advice_of F5 = damaged
+advice_of F6 = codes "was it copied whole?"
+advice_of F7 = damaged
+advice_of F8 = damaged
+advice_of F9 = damaged
+advice_of F10 = damaged
+advice_of F11 = damaged
+advice_of F12 = damaged
+advice_of F13 = damaged
+advice_of F14 = damaged
+advice_of F15 = damaged
+advice_of F16 = free_memory
+advice_of F17 = damaged
 advice_of C1 = codes "are these the files of a trace?"
 advice_of C2 = one_trace
 advice_of C3 = one_trace

@@ -1,10 +1,11 @@
-//! Sources that lie in memory, whose segments are folded. The program folds those of its files.
+//! Sources that lie in memory, whose segments are folded, and the state of what was folded. The program
+//! folds those of its files.
 
 use allocation_trials::{Equal, Refusal, Same, Trials};
 use htl_analyst::Analyst;
 use htl_command::{InputForm, Setting};
 use htl_device::Reading;
-use htl_main::{Coverage, Folded, fold, load_folded};
+use htl_main::{Coverage, Folded, fold, load_folded, merge_state, state_bytes};
 use htl_samples::SMALL;
 use htl_segment::encode;
 use std::alloc::Global;
@@ -20,6 +21,12 @@ const FOLDS: &[(&str, u32, bool)] = &[
     ("fold of the first segments", 1, false),
 ];
 
+/// What is tried of `merge_state`: into what was folded before, or into nothing.
+const MERGES: &[(&str, bool)] = &[
+    ("merge_state", true),
+    ("merge_state of the first segments", false),
+];
+
 pub fn try_all<R: Threads + Sync>(rt: &R, trials: &mut Trials<'_, HostRuntime>) {
     trials.reads(
         "load_folded",
@@ -32,6 +39,14 @@ pub fn try_all<R: Threads + Sync>(rt: &R, trials: &mut Trials<'_, HostRuntime>) 
             |alloc| unfolded(rt, alloc, *follows),
             |alloc, folding: &mut Folding| folded(rt, alloc, *workers, folding),
         );
+    }
+    trials.reads(
+        "state_bytes",
+        |alloc| begun(rt, alloc, &before(alloc)?),
+        |alloc, folded: &Folded| Equal::of(state_bytes(alloc, folded)),
+    );
+    for (name, follows) in MERGES {
+        trials.changes(name, |alloc| unmerged(rt, alloc, *follows), merged);
     }
 }
 
@@ -72,8 +87,9 @@ fn analyst_of<R: Threads + Sync>(
     Ok(folded.analyst)
 }
 
-/// What was folded, and the bytes of a source that is folded behind it. Where memory is refused some of
-/// its segments may have been taken, and nothing that was taken before is lost.
+/// What was folded, and the bytes of a source that is folded behind it, or of a state that is merged
+/// into it. Where memory is refused some of its segments may have been taken, and nothing that was
+/// taken before is lost.
 #[derive(Drop)]
 struct Folding {
     folded: Folded,
@@ -113,14 +129,19 @@ impl Same for Folding {
 
 /// A source of all segments of the trace, behind what was folded before, or behind nothing.
 fn unfolded<R: Threads + Sync>(rt: &R, alloc: Global, follows: bool) -> Result<Folding, Refusal> {
+    Ok(Folding {
+        folded: earlier(rt, alloc, follows)?,
+        bytes: SMALL.bundle(alloc)?,
+    })
+}
+
+/// What was folded before, or nothing.
+fn earlier<R: Threads + Sync>(rt: &R, alloc: Global, follows: bool) -> Result<Folded, Refusal> {
     let mut folded = begun(rt, alloc, &before(alloc)?)?;
     if !follows {
         folded.analyst = None;
     }
-    Ok(Folding {
-        folded,
-        bytes: SMALL.bundle(alloc)?,
-    })
+    Ok(folded)
 }
 
 /// How many segments the source has, and how much of the trace is there. How many are new isn't
@@ -139,5 +160,20 @@ fn folded<R: Threads + Sync>(
         &mut folding.folded,
         &mut sources,
     )?;
+    Ok(Equal((added.segments, added.coverage)))
+}
+
+/// The state of all segments of the trace, behind what was folded before, or behind nothing.
+fn unmerged<R: Threads + Sync>(rt: &R, alloc: Global, follows: bool) -> Result<Folding, Refusal> {
+    let all = begun(rt, alloc, &SMALL.bundle(alloc)?)?;
+    Ok(Folding {
+        folded: earlier(rt, alloc, follows)?,
+        bytes: state_bytes(alloc, &all)?,
+    })
+}
+
+/// How many segments the state has, and how much of the trace is there.
+fn merged(alloc: Global, folding: &mut Folding) -> Result<Equal<(u64, Coverage)>, Refusal> {
+    let added = merge_state(alloc, setting(1), &mut folding.folded, &folding.bytes)?;
     Ok(Equal((added.segments, added.coverage)))
 }

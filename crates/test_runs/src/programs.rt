@@ -242,6 +242,70 @@ read segments=1 new=0 complete_to=7 gaps=0
 }
 
 #[test]
+fn states_need_a_dialogue_that_folds(rt: HostRuntime) {
+    let line = Line {
+        words: &["ask", "first", "second"],
+        input: "\
+merge state
+save state
+help merge
+save --help
+bad --process 5
+",
+        status: 2,
+        printed: "\
+
+
+
+
+bad process=5 count=0
+
+",
+        ..LINE
+    };
+    is_obeyed(&rt, rt.alloc(), &line);
+}
+
+#[test]
+fn what_is_no_state_is_not_merged(rt: HostRuntime) {
+    let line = Line {
+        words: &["ask", "--fold", "first", "second"],
+        input: "\
+merge first
+merge absent
+merge first second
+bad --process 5
+",
+        status: 2,
+        printed: "\
+
+
+
+bad process=5 count=0
+
+",
+        ..LINE
+    };
+    is_obeyed(&rt, rt.alloc(), &line);
+    let line = Line {
+        words: &["ask", "--fold", "first", "second"],
+        input: "merge first\nmerge absent\n",
+        status: 3,
+        printed: "\n\n",
+        ..LINE
+    };
+    is_obeyed(&rt, rt.alloc(), &line);
+    let line = Line {
+        words: &["ask", "--fold", "first", "second"],
+        input: "merge absent\nmerge first\n",
+        status: 5,
+        printed: "\n\n",
+        ..LINE
+    };
+    is_obeyed(&rt, rt.alloc(), &line);
+}
+
+#[test]
 fn a_process_is_used_in_a_dialogue(rt: HostRuntime) {
     let line = Line {
         words: &["ask", "first", "second"],

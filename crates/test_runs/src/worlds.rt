@@ -69,6 +69,11 @@ impl<'a> World for Memory<'a> {
         }
     }
 
+    /// Each name holds what it held from the first.
+    fn write(&mut self, _name: &str, _bytes: &[u8]) -> Result<(), OpenFault> {
+        Err(OpenFault::Refused)
+    }
+
     fn standard_input(&mut self) -> Reading<&'a [u8]> {
         Reading::new(self.standard)
     }

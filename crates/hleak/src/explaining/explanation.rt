@@ -98,6 +98,11 @@ impl<'a> Explanation<'a> {
             RunFault::Symbols(fault) => Meaning::from_symbols(fault),
             RunFault::Read { .. } | RunFault::SymbolsRead => Meaning::unread(self.reason),
             RunFault::Write => Meaning::untaken(),
+            RunFault::State { fault, .. } => Meaning::from_state(fault),
+            RunFault::Unbounded { processor, .. } => Meaning::from_unbounded(processor),
+            RunFault::StateRead { .. } => Meaning::unread(self.reason),
+            RunFault::StateWrite => Meaning::unsaved(self.reason),
+            RunFault::StateStacks => Meaning::too_many_stacks(),
             RunFault::Memory => Meaning::no_memory(),
             // No run reports it.
             RunFault::NoThread => Meaning::new("the system started no thread", FREE_MEMORY),
@@ -124,11 +129,15 @@ impl<'a> Explanation<'a> {
             RunFault::Text { input, .. } => self.task.input(input),
             RunFault::Read { input } => self.task.input(input),
             RunFault::UnknownCut { input } => self.task.input(input),
+            RunFault::State { state, .. } => self.task.state(state),
+            RunFault::Unbounded { state, .. } => self.task.state(state),
+            RunFault::StateRead { state } => self.task.state(state),
             RunFault::Case(CaseFault::Empty) => self.task.input(0),
             RunFault::Symbols(_) | RunFault::SymbolsRead => self.task.symbols(),
             RunFault::Write => "standard output",
+            RunFault::StateWrite | RunFault::StateStacks => "the state",
+            RunFault::Case(_) => self.task.alone(),
             RunFault::Workers
-            | RunFault::Case(_)
             | RunFault::Incomplete { .. }
             | RunFault::NoSubject
             | RunFault::Memory

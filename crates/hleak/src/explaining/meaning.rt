@@ -4,7 +4,8 @@ ghost use Rattle.std.specs.Prelude.{◌≡◌, None, Some};
 ghost use Rattle.hleak.specs.Meanings.{absent_advice, absent_text, absent_wrong, case_text};
 ghost use Rattle.hleak.specs.Meanings.{coded, form_text, hex_text};
 ghost use Rattle.hleak.specs.Meanings.{line_text, missing_text, no_memory, said, segment_text};
-ghost use Rattle.hleak.specs.Meanings.{symbols_text, text_of, unknown_cut_text, unread, untaken};
+ghost use Rattle.hleak.specs.Meanings.{state_text, symbols_text, text_of, too_many_stacks};
+ghost use Rattle.hleak.specs.Meanings.{unbounded_text, unknown_cut_text, unread, unsaved, untaken};
 
 use crate::reason::Reason;
 use htl_case::CaseFault;
@@ -12,6 +13,7 @@ use htl_command::Code;
 use htl_program::{NamedPart, advice, form_wrong, wrong};
 use htl_question::Subject;
 use htl_segment::{Fault, HexFault};
+use htl_state::Fault as StateFault;
 use htl_symbols::SymbolFault;
 use htl_text::{FormFault, LineFault};
 use std::fmt;
@@ -65,6 +67,35 @@ impl Meaning {
         Meaning::new(
             "it didn't take the whole answer",
             "is a disk full, or its reader gone?",
+        )
+    }
+
+    /// A state can't be saved, for this reason.
+    pub fn unsaved(reason: Reason) -> Meaning
+        ensures { text_of result ≡ unsaved reason }
+    {
+        match reason {
+            Reason::NotThere => Meaning::new("its folder isn't there", "is its name right?"),
+            Reason::NotAllowed => Meaning::new(
+                "you aren't allowed to write in its folder",
+                "are the rights of its folder, and of those above it, as they should be?",
+            ),
+            Reason::Folder => Meaning::new("it is a folder", "give the name of a file in it"),
+            Reason::TooManyOpen => Meaning::new(
+                "too many files are open",
+                "raise their limit (ulimit -n)",
+            ),
+            Reason::Unknown => Meaning::new("it can't be written", "is a disk full?"),
+        }
+    }
+
+    /// What would be saved has too many stacks.
+    pub fn too_many_stacks() -> Meaning
+        ensures { text_of result ≡ too_many_stacks }
+    {
+        Meaning::new(
+            "it would have more than 2^32 stacks",
+            "save states of fewer segments",
         )
     }
 
@@ -129,6 +160,37 @@ impl Meaning {
             HexFault::Odd => Meaning::from_code(Code::H2),
             HexFault::NoMemory => Meaning::from_code(Code::H3),
         }
+    }
+
+    /// What a fault of a saved state means.
+    pub fn from_state(fault: StateFault) -> Meaning
+        ensures { text_of result ≡ state_text fault }
+    {
+        match fault {
+            StateFault::Short => Meaning::from_code(Code::F1),
+            StateFault::Magic => Meaning::from_code(Code::F2),
+            StateFault::Version => Meaning::from_code(Code::F3),
+            StateFault::Reserved => Meaning::from_code(Code::F4),
+            StateFault::Processors => Meaning::from_code(Code::F5),
+            StateFault::Length => Meaning::from_code(Code::F6),
+            StateFault::Checksum => Meaning::from_code(Code::F7),
+            StateFault::List => Meaning::from_code(Code::F8),
+            StateFault::Stack => Meaning::from_code(Code::F9),
+            StateFault::Part => Meaning::from_code(Code::F10),
+            StateFault::Count => Meaning::from_code(Code::F11),
+            StateFault::Latest => Meaning::from_code(Code::F12),
+            StateFault::Moment => Meaning::from_code(Code::F13),
+            StateFault::Held => Meaning::from_code(Code::F14),
+            StateFault::Excess => Meaning::from_code(Code::F15),
+            StateFault::NoMemory => Meaning::from_code(Code::F16),
+        }
+    }
+
+    /// What it means that a saved state counts more of this processor than its segments can have.
+    pub fn from_unbounded(processor: u16) -> Meaning
+        ensures { text_of result ≡ unbounded_text processor }
+    {
+        Meaning::from_part(Code::F17, NamedPart::Processor(u64::from(processor)))
     }
 
     /// What a fault of a line of text means.

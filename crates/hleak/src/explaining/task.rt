@@ -2,7 +2,7 @@
 
 ghost use Rattle.std.specs.Prelude.{◌≡◌};
 ghost use Rattle.hleak.specs.Subjects.{IsTaskOf, asked_about, has_moment, has_since};
-ghost use Rattle.hleak.specs.Subjects.{input_name, symbols_name};
+ghost use Rattle.hleak.specs.Subjects.{alone_name, input_name, state_name, symbols_name};
 
 use htl_command::{Command, Dialogue, Run};
 use htl_main::since_of;
@@ -15,7 +15,7 @@ pub enum Task<'a> {
     /// Segments are printed, or made, of these files.
     Convert(&'a [String]),
     Ask(&'a Dialogue),
-    /// These files are read within a dialogue.
+    /// These files are read within a dialogue, or the saved state of this name is merged.
     Read(&'a [String]),
 }
 
@@ -47,6 +47,27 @@ impl<'a> Task<'a> {
         match files.get(place as usize) {
             Some(name) => name.as_str(),
             None => other,
+        }
+    }
+
+    /// What a person calls the saved state at a place.
+    pub fn state(self, place: u64) -> &'a str
+        ensures { result.now ≡ state_name self.entry place }
+    {
+        match self {
+            Task::Read(_) => self.input(place),
+            Task::Question(_) | Task::Convert(_) | Task::Ask(_) => "the state",
+        }
+    }
+
+    /// What a person calls that which doesn't fit what was read before: the file, where a line of a
+    /// dialogue reads one alone or merges one, and else the program.
+    pub fn alone(self) -> &'a str
+        ensures { result.now ≡ alone_name self.entry }
+    {
+        match self {
+            Task::Read([name]) => name.as_str(),
+            _ => "hleak",
         }
     }
 

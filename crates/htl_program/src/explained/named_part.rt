@@ -16,6 +16,7 @@ use std::fmt;
 pub enum NamedPart {
     Record(u64),
     Byte(u64),
+    Processor(u64),
     /// A segment by its place among those of all inputs.
     Segment(u64),
     /// A segment by its key.
@@ -78,6 +79,7 @@ impl NamedPart {
                 Some(NamedPart::Record(number))
             }
             Code::H1 => Some(NamedPart::Byte(number)),
+            Code::F17 => Some(NamedPart::Processor(number)),
             Code::C2 | Code::C3 => Some(NamedPart::Segment(number)),
             Code::C5 => Some(NamedPart::Sequence(number)),
             Code::C10 => Some(NamedPart::Input(number)),
@@ -106,6 +108,7 @@ impl fmt::Display for NamedPart {
         match *self {
             NamedPart::Record(record) => write!(f, "record {record}"),
             NamedPart::Byte(place) => write!(f, "byte {place}"),
+            NamedPart::Processor(processor) => write!(f, "processor {processor}"),
             NamedPart::Segment(place) => write!(f, "segment {place} of all inputs"),
             NamedPart::Key { processor, number } => {
                 write!(f, "segment {number} of processor {processor}")

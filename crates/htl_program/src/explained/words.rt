@@ -10,7 +10,7 @@ ghost use Rattle.htl_program.specs.Words.{advice_of, form_wrong_of, part_of, wro
 use htl_command::Code;
 use htl_text::FormFault;
 
-/// What to do if the bytes of a segment break a rule that every correct writer keeps.
+/// What to do if the bytes of a segment or of a state break a rule that every correct writer keeps.
 const DAMAGED: &str = "was the file changed, or is its writer at fault?";
 
 /// What to do where segments were not written as those of one trace.
@@ -33,6 +33,7 @@ pub fn part(code: Code) -> Option<&'static str>
     match code {
         Code::S11 | Code::S12 | Code::S13 | Code::S14 | Code::S15 => Some("record <i>"),
         Code::H1 => Some("byte <place>"),
+        Code::F17 => Some("processor <processor>"),
         Code::C2 | Code::C3 => Some("segment <place> of all inputs"),
         Code::C4 | Code::C7 | Code::C8 => Some("segment <number> of processor <processor>"),
         Code::C5 => Some("sequence <sequence>"),
@@ -54,7 +55,7 @@ pub fn wrong(code: Code) -> &'static str
         Code::S3 => "the segment's version is neither 1 nor 2",
         Code::S4 => "the segment's version allows no such number of processors",
         Code::S5 => "the segment's processor isn't below their number",
-        Code::S6 => "the header's reserved field isn't 0",
+        Code::S6 | Code::F4 => "the header's reserved field isn't 0",
         Code::S7 => "no segment has the number 0xffffffff",
         Code::S8 => "a segment has at most 4096 records",
         Code::S9 => "the segment's version allows no such length of a segment",
@@ -65,9 +66,34 @@ pub fn wrong(code: Code) -> &'static str
         Code::S14 => "has more frames than its version allows, or than fit in",
         Code::S15 => "has a reserved field, handle, object or tag that its kind doesn't allow",
         Code::S16 => "bytes are left in the segment after its last record",
-        Code::S17 | Code::H3 | Code::C6 | Code::Y7 => "the system refused memory",
+        Code::S17 | Code::H3 | Code::F16 | Code::C6 | Code::Y7 => "the system refused memory",
         Code::H1 => "is no digit and no blank",
         Code::H2 => "the last byte has only one digit",
+        Code::F1 => "fewer bytes are left than the 40 of a state's header and end",
+        Code::F2 => "a state begins with HLA1 (48 4c 41 31), and these bytes do not",
+        Code::F3 => "the state's version isn't 1",
+        Code::F5 => "a state has 1 to 256 processors",
+        Code::F6 => "the length at the state's end isn't that of its bytes",
+        Code::F7 => "the checksum at the state's end isn't that of its bytes",
+        Code::F8 => "fewer bytes are left than the rows of a list take",
+        Code::F9 => "a stack is cut or too deep, or isn't above that before it",
+        Code::F10 => "fewer bytes are left than the 20 at the front of a part",
+        Code::F11 => {
+            "\
+a count is cut, of no stack or slot, 0 on both sides, or not above that before it"
+        }
+        Code::F12 => {
+            "\
+a latest event is cut, breaks a rule of its fields, is of no stack, or not above that before it"
+        }
+        Code::F13 => "a mark or an exit is cut, has sequence 0, or isn't above that before it",
+        Code::F14 => {
+            "\
+a held segment has a fault, is of another trace or processor, or not above the front or that before \
+it"
+        }
+        Code::F15 => "bytes are left after the state's last part",
+        Code::F17 => "counts more than its segments can have",
         Code::C1 => "the inputs have no segments",
         Code::C2 => "is of another trace than those before it",
         Code::C3 => "has another number of processors than those before it",
@@ -123,6 +149,8 @@ pub fn advice(code: Code) -> &'static str
 is it a trace in bytes, and not digits (--hex), text (hleak encode) or a log (tools/from-htrace)?"
         }
         Code::S3 => "was it written for a newer hleak?",
+        Code::F2 => "did save write it? Segments go to read",
+        Code::F3 => "was it saved by a newer hleak?",
         Code::S4
         | Code::S5
         | Code::S6
@@ -135,9 +163,21 @@ is it a trace in bytes, and not digits (--hex), text (hleak encode) or a log (to
         | Code::S14
         | Code::S15
         | Code::S16 => DAMAGED,
+        Code::F4
+        | Code::F5
+        | Code::F7
+        | Code::F8
+        | Code::F9
+        | Code::F10
+        | Code::F11
+        | Code::F12
+        | Code::F13
+        | Code::F14
+        | Code::F15
+        | Code::F17 => DAMAGED,
         Code::S10 => "was it copied whole? With --partial its whole segments count",
-        Code::H2 => "was it copied whole?",
-        Code::S17 | Code::H3 | Code::C6 | Code::Y7 => FREE_MEMORY,
+        Code::H2 | Code::F1 | Code::F6 => "was it copied whole?",
+        Code::S17 | Code::H3 | Code::F16 | Code::C6 | Code::Y7 => FREE_MEMORY,
         Code::H1 => "is it a trace in bytes (without --hex), or a text (hleak encode)?",
         Code::C1 => "are these the files of a trace?",
         Code::C2 | Code::C3 => ONE_TRACE,

@@ -19,6 +19,33 @@ about all of them. After a fault none of these files counts; with --fold what
 was read before the fault does.
 ";
 
+const MERGE: &str = "\
+Merge a saved state into what was read
+
+Usage: merge <FILE>
+
+Arguments:
+  <FILE>  A state that 'save' wrote; a name that begins with '-' follows '--'
+
+The state has to be of the same trace. The reply, as
+'merged segments=1 new=0 complete_to=9 gaps=0', counts the segments of the state
+and the new ones; the rest is of all. Later questions are about all of them. A
+state that is refused changes nothing. Only with --fold.
+";
+
+const SAVE: &str = "\
+Save the state of what was read
+
+Usage: save <FILE>
+
+Arguments:
+  <FILE>  Where the state is written; a name that begins with '-' follows '--'
+
+The new file takes the place of an old one as a whole, also where the machine
+stops in between. The reply, as 'saved bytes=4096', comes once it is on the
+disk. 'merge' reads it, in this dialogue or another one. Only with --fold.
+";
+
 const USE: &str = "\
 Use a process in questions that name none
 
@@ -38,6 +65,20 @@ End the dialogue
 Usage: quit
 
 'exit' and 'q' end it too, and so does the end of the lines.
+";
+
+const NO_NAME: &str = "\
+error: 'save' takes one file, and no option
+
+  tip: a name that begins with '-' follows '--', as in 'save -- -a.hla'
+
+For more information, try 'help save'.
+";
+
+const NO_FOLD: &str = "\
+error: 'merge' and 'save' need '--fold', which keeps no events
+
+For more information, try 'help'.
 ";
 
 const MANY: &str = "\
@@ -101,6 +142,14 @@ const PROCESSES: &[(&str, Option<u32>)] = &[
 fn lines_that_are_no_question_have_help(rt: HostRuntime) {
     let alloc = rt.alloc();
     has_text(&rt, alloc, "read", &ParseFault::read_help(alloc), (0, READ));
+    has_text(
+        &rt,
+        alloc,
+        "merge",
+        &ParseFault::merge_help(alloc),
+        (0, MERGE),
+    );
+    has_text(&rt, alloc, "save", &ParseFault::save_help(alloc), (0, SAVE));
     has_text(&rt, alloc, "use", &ParseFault::use_help(alloc), (0, USE));
     has_text(&rt, alloc, "quit", &ParseFault::quit_help(alloc), (0, QUIT));
 }
@@ -114,6 +163,15 @@ fn what_is_no_process_is_named(rt: HostRuntime) {
     has_text(&rt, alloc, "use four", &word, (2, NO_PROCESS));
     let digits = ParseFault::no_process(alloc, "0x4b0");
     has_text(&rt, alloc, "use 0x4b0", &digits, (2, HEXADECIMAL));
+}
+
+#[test]
+fn states_have_one_name_and_a_dialogue_that_folds(rt: HostRuntime) {
+    let alloc = rt.alloc();
+    let name = ParseFault::no_name(alloc, "save");
+    has_text(&rt, alloc, "save a b", &name, (2, NO_NAME));
+    let fold = ParseFault::needs_fold(alloc);
+    has_text(&rt, alloc, "merge a", &fold, (2, NO_FOLD));
 }
 
 #[test]

@@ -389,6 +389,17 @@ const EXPLAINED: &[(&str, Code, Parts)] = &[
     ),
     ("explain|hleak: case: C1", Code::C1, Parts::Nothing),
     ("explain|c8(0,2)", Code::C8, Parts::Numbers(0, 2)),
+    ("explain|f16", Code::F16, Parts::Nothing),
+    (
+        "explain|hleak: state 0, offset 92: F10",
+        Code::F10,
+        Parts::Nothing,
+    ),
+    (
+        "explain|hleak: state 0: F17(255)",
+        Code::F17,
+        Parts::Number(255),
+    ),
     ("explain|E1", Code::E1, Parts::Nothing),
     ("explain|E1(process)", Code::E1, Parts::Field("process")),
     ("explain|e1(seq)", Code::E1, Parts::Field("seq")),
@@ -612,6 +623,8 @@ explain|S0 => 'S0' for '<CODE>'
 explain|S18 => 'S18' for '<CODE>'
 explain|S01 => 'S01' for '<CODE>'
 explain|C11 => 'C11' for '<CODE>'
+explain|F18 => 'F18' for '<CODE>'
+explain|F11(2) => 'F11(2)' for '<CODE>'
 explain|S5(2) => 'S5(2)' for '<CODE>'
 explain|S12() => 'S12()' for '<CODE>'
 explain|S12(1 => 'S12(1' for '<CODE>'

@@ -427,9 +427,10 @@ Each line of standard input is a question with its options, as
 'leaks --process 4 --top 5'. An argument with blanks stands in double quotes.
 The answer is written with an empty line after it. 'read FILE ..' reads more
 segments, and replies how many; answers are final up to its complete_to.
-'use N' names the process of questions without --process. Any other line gets
-the empty line alone, and status 2 at the end. One without an argument (blanks,
-\"\") gets no reply. 'quit' ends.
+'use N' names the process of questions without --process. With --fold
+'save FILE' saves what was read, and 'merge FILE' merges such a state. Any other
+line gets the empty line alone, and status 2 at the end. One without an argument
+(blanks, \"\") gets no reply. 'quit' ends.
 
 Example:
   hleak ask --symbols names.csv cpu0.hls cpu1.hls
@@ -518,6 +519,8 @@ Options:
 
 Other lines:
   read FILE ..  Read more segments; a name that begins with '-' follows '--'
+  merge FILE    Merge a saved state of the same trace, with --fold
+  save FILE     Save the state of what was read, with --fold
   use N         Use process N in questions without --process; none to use none
   quit          End the dialogue, as exit and q do
 
@@ -527,9 +530,9 @@ Options of every question:
                    up to which answers are final: 0 if a processor is idle
       --json       One JSON object a line, for other programs
 
-'COMMAND --help' lists the options of a question. 'help read', 'help use' and
-'help quit' say more of other lines. An argument with blanks stands in double
-quotes.
+'COMMAND --help' lists the options of a question. 'help read', 'help merge',
+'help save', 'help use' and 'help quit' say more of other lines. An argument
+with blanks stands in double quotes.
 
 With --fold no line asks for 'trace', 'growth' or '--until'.
 ";
@@ -578,7 +581,7 @@ Options:
 
 const CODE: &str = "\
 error: invalid value 'S18' for '<CODE>'
-  [expected: S1 to S17, H1 to H3, C1 to C10, Y1 to Y7, E1 or E2]
+  [expected: S1 to S17, H1 to H3, F1 to F17, C1 to C10, Y1 to Y7, E1 or E2]
 
 For more information, try 'hleak explain --help'.
 ";
@@ -659,7 +662,8 @@ For more information, try '--help'.
 const DIALOGUE_WORD: &str = "\
 error: unrecognized subcommand 'quti'
 
-  tip: a line is a question, 'read FILE ..', 'use N' or 'quit', as 'help' says
+  tip: a line is a question, or 'read', 'merge', 'save', 'use' or 'quit', as
+  'help' says
 
 Usage: <COMMAND> [OPTIONS]
 
@@ -686,7 +690,7 @@ For more information, try 'help'.
 ";
 
 const DIALOGUE_OTHER: &str = "\
-error: a line is a question, 'read FILE ..', 'use N' or 'quit'
+error: a line is a question, or 'read', 'merge', 'save', 'use' or 'quit'
 
   tip: ask, explain, dump and encode are commands of their own
 

@@ -11,6 +11,7 @@ use Rattle.htl_ask.specs.Asking.{Opening, answers_over}
 use Rattle.htl_ask.specs.Loads.{answers_from, is_state}
 use Rattle.htl_ask.proofs.Begun.{converses_begun, stops_begun}
 use Rattle.htl_ask.proofs.KeptLaws.{Holds, holds_absence, holds_outcome, reading_more}
+use Rattle.htl_ask.proofs.StateLaws.{merging_one, saving_one}
 use Rattle.htl_ask.proofs.conversing.ask_opened.Goals as goal
 
 -- a copied option is one where there is one
@@ -67,7 +68,7 @@ returns-in_err-kept-clause-outcome g c =
     let p = err_from_is_err_and c.from_residual.result c.from_residual.ensures.1 in
     let kept : length c.begin.new.inputs ≡ c.args.inputs.now.len = search rules in
     let back = take_front c.begin.new.inputs (drop (length c.begin.new.inputs) c.args.inputs.now.items) c.args.inputs.now.len kept in
-    rw (back, ← c.deref_mut.ensures.value, p.1, p.2) (λ texts all. inl (c.in_err-kept.ensures.outcome texts all).0)
+    rw (back, ← c.deref_mut.ensures.value, p.1, p.2) (λ texts all states. inl (c.in_err-kept.ensures.outcome texts all).0)
 
 pub returns-in_err-conversed-clause-outcome : goal.returns-in_err-conversed-clause-outcome
 returns-in_err-conversed-clause-outcome g c =
@@ -81,9 +82,9 @@ returns-in_err-conversed-clause-outcome g c =
     let left = (g.Q.Source.state c.converse_lines.new.questions).remaining in
     let failed = (g.Q.Source.state c.converse_lines.new.questions).failed in
     let one = answers_from world setting (is_state begun.kept) c.is_some.result in
-    let other = answers_over world setting c.args.files.now.dialogue.now.folds symbols in
     let same_table : c.is_some.result ≡ is_some symbols = c.is_some.ensures ∙ some_copied c.args.symbols in
-    rw (p.1, p.2) (λ texts all.
+    rw (p.1, p.2) (λ texts all states.
+    let other = answers_over world states setting c.args.files.now.dialogue.now.folds symbols in
     let are = c.in_ok-kept.ensures.outcome texts (rw c.deref_mut.ensures.value all) in (
       are.read,
       opening,
@@ -96,6 +97,8 @@ returns-in_err-conversed-clause-outcome g c =
           (λ before known job outcome holds has. holds_outcome setting symbols before known job outcome holds has)
           (λ before known job absence holds has. holds_absence setting symbols before known job absence holds has)
           (λ before known names after ended holds reads. reading_more world setting symbols names before known after ended holds reads)
+          (λ before known name after ended holds is. merging_one world states setting symbols name before known after ended holds is)
+          (λ before known name ended holds is. saving_one setting symbols before known name ended holds is)
           (g.S.Speaker.wants_notes c.args.speaker.now) begun.kept (Some are.read) lines left failed _ fault
           (record { covered = c.in_ok-kept.ensures.coverage; are = are.kept })
           (rw c.hears.ensures.same at c.in_err-conversed.ensures.stops lines asked)),
@@ -110,9 +113,9 @@ returns-clause-outcome g c =
     let opening : Opening = record { coverage = begun.coverage; cut = begun.cut } in
     let conversed = c.in_ok-conversed.conversed in
     let one = answers_from world setting (is_state begun.kept) c.is_some.result in
-    let other = answers_over world setting c.args.files.now.dialogue.now.folds symbols in
     let same_table : c.is_some.result ≡ is_some symbols = c.is_some.ensures ∙ some_copied c.args.symbols in
-    λ texts all.
+    λ texts all states.
+    let other = answers_over world states setting c.args.files.now.dialogue.now.folds symbols in
     let are = c.in_ok-kept.ensures.outcome texts (rw c.deref_mut.ensures.value all) in (
       are.read,
       opening,
@@ -125,6 +128,8 @@ returns-clause-outcome g c =
           (λ before known job outcome holds has. holds_outcome setting symbols before known job outcome holds has)
           (λ before known job absence holds has. holds_absence setting symbols before known job absence holds has)
           (λ before known names after ended holds reads. reading_more world setting symbols names before known after ended holds reads)
+          (λ before known name after ended holds is. merging_one world states setting symbols name before known after ended holds is)
+          (λ before known name ended holds is. saving_one setting symbols before known name ended holds is)
           (g.S.Speaker.wants_notes c.args.speaker.now) begun.kept (Some are.read) lines _ conversed
           (record { covered = c.in_ok-kept.ensures.coverage; are = are.kept })
           (rw c.hears.ensures.same at c.in_ok-conversed.ensures.ok lines asked)),

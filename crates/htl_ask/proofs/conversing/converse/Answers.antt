@@ -34,9 +34,9 @@ returns-in-Ok-clause-conversed g c =
     let known : (g.W.World.state c.open_all.new.world).known ≡ (g.W.World.state c.args.world.now).known = is.asked.known in
     let held = c.ask_opened.ensures in
     record {
-      outcome = λ texts table all has.
+      outcome = λ texts table all has states.
           rw (is.read table (rw (← c.as_ref.ensures.value) at has), ← c.as_bytes-symbols.ensures)
-          ((rw known at held.outcome) texts (bytes ∙ all));
+          ((rw known at held.outcome) texts (bytes ∙ all) states);
       devices = held.devices;
       between = λ texts all. held.between texts (bytes ∙ all);
       absent = rw (← c.deref.ensures.value) (λ place absent. no_end c.in-Ok.table (is.absent place absent));
@@ -56,7 +56,7 @@ returns-in-Err-clause-conversed g c =
     let fault = c.in-Err.fault in
     let is = c.in-Err.ensures in
     record {
-      outcome = rw (← c.deref.ensures.value, ← c.as_ref.ensures.value) (λ texts table all has. inr (is.known texts table all has));
+      outcome = rw (← c.deref.ensures.value, ← c.as_ref.ensures.value) (λ texts table all has states. inr (is.known texts table all has));
       devices = search rules;
       between = λ texts all. about_none of.folds of.setting texts _ _ _ _ fault is.unread;
       absent = rw (← c.deref.ensures.value) (λ place absent. ends_so _ fault refl (is.absent place absent));

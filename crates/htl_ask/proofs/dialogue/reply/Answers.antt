@@ -1,21 +1,13 @@
 -- What is replied and told is what is said of the line, also where the reply could not be written.
-use Rattle.std.proofs.Common.{◌≡◌, ◌∙◌, ℕ, List, [], ◌∷◌, Ok, Err, inl, inr, map, refl, string_bytes}
-use Rattle.std.specs.Prelude.{Result}
+use Rattle.std.proofs.Common.{◌∙◌, [], ◌∷◌, inl, inr, map, refl, string_bytes}
 use Rattle.std.proofs.KnownBytes.{Appends-nil}
 use Rattle.std.proofs.lemmas.Result.{err_from_is_err_and}
 use Rattle.htl_dialogue.specs.Dialogues.{reading_reply, using_reply}
-use Rattle.htl_dialogue.specs.Notes.{first_fault}
-use Rattle.htl_dialogue.specs.Replying.{fault_of}
 use Rattle.htl_dialogue.specs.declared.note.Note.TheVariants as hear
-use Rattle.htl_main.specs.declared.loading.adding.Added.{Added}
-use Rattle.htl_main.specs.declared.refused.Refused.{Refused}
+use Rattle.htl_ask.proofs.FirstFaults.{fault_is_first}
 use Rattle.htl_ask.proofs.LinesAsked.{asks_nothing}
 use Rattle.htl_ask.proofs.dialogue.reply.Goals as goal
 use Rattle.htl_dialogue.specs.Sayings.{saying}
-
-fault_is_first : (files : List (List ℕ)) (ended : Result Added Refused) → fault_of ended ≡ first_fault (hear.Reads files ended ∷ [])
-fault_is_first files (Ok added) = refl
-fault_is_first files (Err refused) = refl
 
 pub returns-in-Nothing-clause-ok : goal.returns-in-Nothing-clause-ok
 returns-in-Nothing-clause-ok g c =
@@ -186,3 +178,29 @@ returns-in_ok-write-in-Uses-clause-asked g c =
 pub returns-in_err-write-in-Uses-clause-asked : goal.returns-in_err-write-in-Uses-clause-asked
 returns-in_err-write-in-Uses-clause-asked g c =
     asks_nothing (g.W.World.state c.args.world.now) (saying c.args.said.now) (rw c.in-Uses.is refl)
+
+pub reply_to_merge-requires-clause-form : goal.reply_to_merge-requires-clause-form
+reply_to_merge-requires-clause-form g c = λ lifetimes outlive. rw c.in-Merges.is at c.requires.asks
+
+pub returns-in-Merges-clause-ok : goal.returns-in-Merges-clause-ok
+returns-in-Merges-clause-ok g c = rw c.in-Merges.is (c.reply_to_merge.ensures.ok c.args.has_table)
+
+pub returns-in-Merges-clause-err : goal.returns-in-Merges-clause-err
+returns-in-Merges-clause-err g c = rw c.in-Merges.is (c.reply_to_merge.ensures.err c.args.has_table)
+
+pub returns-in-Merges-clause-asked : goal.returns-in-Merges-clause-asked
+returns-in-Merges-clause-asked g c = rw c.in-Merges.is c.reply_to_merge.ensures.asked
+
+pub reply_to_save-requires-clause-form : goal.reply_to_save-requires-clause-form
+reply_to_save-requires-clause-form g c = λ lifetimes outlive. rw c.in-Saves.is at c.requires.asks
+
+pub returns-in-Saves-clause-ok : goal.returns-in-Saves-clause-ok
+returns-in-Saves-clause-ok g c =
+    rw c.in-Saves.is (c.reply_to_save.ensures.ok (g.W.World.state c.args.world.now).known c.args.has_table)
+
+pub returns-in-Saves-clause-err : goal.returns-in-Saves-clause-err
+returns-in-Saves-clause-err g c =
+    rw c.in-Saves.is (c.reply_to_save.ensures.err (g.W.World.state c.args.world.now).known c.args.has_table)
+
+pub returns-in-Saves-clause-asked : goal.returns-in-Saves-clause-asked
+returns-in-Saves-clause-asked g c = rw c.in-Saves.is c.reply_to_save.ensures.asked

@@ -253,14 +253,7 @@ save --help
 bad --process 5
 ",
         status: 2,
-        printed: "\
-
-
-
-
-bad process=5 count=0
-
-",
+        printed: "\n\n\n\nbad process=5 count=0\n\n",
         ..LINE
     };
     is_obeyed(&rt, rt.alloc(), &line);
@@ -277,29 +270,7 @@ merge first second
 bad --process 5
 ",
         status: 2,
-        printed: "\
-
-
-
-bad process=5 count=0
-
-",
-        ..LINE
-    };
-    is_obeyed(&rt, rt.alloc(), &line);
-    let line = Line {
-        words: &["ask", "--fold", "first", "second"],
-        input: "merge first\nmerge absent\n",
-        status: 3,
-        printed: "\n\n",
-        ..LINE
-    };
-    is_obeyed(&rt, rt.alloc(), &line);
-    let line = Line {
-        words: &["ask", "--fold", "first", "second"],
-        input: "merge absent\nmerge first\n",
-        status: 5,
-        printed: "\n\n",
+        printed: "\n\n\nbad process=5 count=0\n\n",
         ..LINE
     };
     is_obeyed(&rt, rt.alloc(), &line);

@@ -72,7 +72,7 @@ fn load_state(alloc: Global, bytes: &[u8]) -> Result<Analyst<Global>, RunFault>
     ensures told { IfOk result (λ a. (told : List Content) → IsStateOf bytes.now told
         → AreFolded (Some a) told) }
     ensures err { IfErr result (IsLoadFault bytes.now) }
-    // Only for want of memory is a state refused.
+    // A state is refused only where memory is.
     ensures memory { IfErr result (λ fault. (told : List Content) → IsStateOf bytes.now told
         → fault ≡ RunFault.Memory) }
 {

@@ -9,7 +9,7 @@ use Rattle.htl_command.specs.declared.names.CommandFlag.TheVariants.{All, ExitCo
 use Rattle.htl_command.specs.declared.names.CommandOption.{CommandOption}
 use Rattle.htl_command.specs.declared.names.CommandOption.TheVariants.{Process, Since, AtLeast, Object, Tag, TagOfAll, Handle, Points}
 use Rattle.htl_command.specs.declared.table.CommandName.{CommandName}
-use Rattle.htl_command.specs.declared.table.CommandName.TheVariants.{Question, Ask, Explain, Dump, Encode}
+use Rattle.htl_command.specs.declared.table.CommandName.TheVariants.{Question, Ask, Fold, Explain, Dump, Encode}
 use Rattle.htl_command.specs.declared.table.QuestionName.{QuestionName}
 use Rattle.htl_command.specs.declared.table.QuestionName.TheVariants as name
 use Rattle.htl_question.specs.declared.question.Question.{Question as Asked}
@@ -20,7 +20,7 @@ abbrev pub commands : List CommandName
 commands =
     Question name.Summary ∷ Question name.Outstanding ∷ Question name.Diff ∷ Question name.Tags ∷ Question name.Bad
     ∷ Question name.Leaks ∷ Question name.Sites ∷ Question name.Stacks ∷ Question name.Balance ∷ Question name.Trace
-    ∷ Question name.Growth ∷ Ask ∷ Explain ∷ Dump ∷ Encode ∷ []
+    ∷ Question name.Growth ∷ Ask ∷ Fold ∷ Explain ∷ Dump ∷ Encode ∷ []
 
 -- of a question: the name of its command, the options whose values make it, in the order in which they are read, whether it has `--top`,
 -- the options without a value that not every question has, and the question that is asked by what was given
@@ -69,6 +69,7 @@ name_of Explain = codes "explain"
 name_of Dump = codes "dump"
 name_of Encode = codes "encode"
 name_of Ask = codes "ask"
+name_of Fold = codes "fold"
 
 -- the command of a name
 unfoldable pub command_named : List ℕ → Option CommandName

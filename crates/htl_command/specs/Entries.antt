@@ -3,13 +3,13 @@ use Rattle.std.specs.Prelude.{Bool, true, false, List, [], ◌∷◌, Option, So
 use Rattle.clap.specs.Lexer.{usize_max}
 use Rattle.clap.specs.Simple.{new_shape}
 use Rattle.clap.specs.Words.{App, Kinds, Row, Rule, Text, fault_of, new_app, new_rule, subcommand_of, with_rule, with_subcommand}
-use Rattle.clap.specs.declared.builder.ArgAction.TheVariants.{SetTrue}
+use Rattle.clap.specs.declared.builder.ArgAction.TheVariants.{Append, SetTrue}
 use Rattle.htl_command.specs.Commands.{QuestionRow, commands, name_of, question_row}
 use Rattle.htl_command.specs.Options.{flag_name, is_required, option_name}
 use Rattle.htl_command.specs.declared.names.CommandFlag.{CommandFlag}
 use Rattle.htl_command.specs.declared.names.CommandFlag.TheVariants.{Complete, Fold, Hex, Json, Notes, Partial}
 use Rattle.htl_command.specs.declared.table.CommandName.{CommandName}
-use Rattle.htl_command.specs.declared.table.CommandName.TheVariants.{Question, Ask, Explain, Dump, Encode}
+use Rattle.htl_command.specs.declared.table.CommandName.TheVariants as command
 use Rattle.htl_command.specs.declared.names.CommandOption.{CommandOption}
 use Rattle.htl_command.specs.declared.names.CommandOption.TheVariants.{Top, Symbols, Workers, Until}
 
@@ -50,11 +50,20 @@ dump_rules = flag_rule Hex ∷ flag_rule Partial ∷ flag_rule Notes ∷ files_r
 abbrev pub encode_rules : List Rule
 encode_rules = flag_rule Hex ∷ flag_rule Notes ∷ files_rule ∷ []
 
--- what a dialogue has: at least one file, since questions come from standard input
+-- a saved state, of which each is named by an option of its own
+abbrev pub state_rule : Rule
+state_rule = record (new_rule (codes "state")) { long = Some (codes "state"); value_names = 1; action = Some Append }
+
+-- what a dialogue has
 abbrev pub dialogue_rules : List Rule
 dialogue_rules =
-    option_rule Symbols ∷ option_rule Workers ∷ flag_rule Fold ∷ flag_rule Complete ∷ flag_rule Hex ∷ flag_rule Partial
-    ∷ flag_rule Notes ∷ record files_rule { required = true } ∷ []
+    option_rule Symbols ∷ option_rule Workers ∷ state_rule ∷ flag_rule Fold ∷ flag_rule Complete ∷ flag_rule Hex ∷ flag_rule Partial
+    ∷ flag_rule Notes ∷ files_rule ∷ []
+
+-- what the command has that writes a state
+abbrev pub fold_rules : List Rule
+fold_rules =
+    option_rule Workers ∷ flag_rule Complete ∷ flag_rule Hex ∷ flag_rule Partial ∷ flag_rule Notes ∷ files_rule ∷ []
 
 -- a code is one argument
 abbrev pub code_rule : Rule
@@ -70,11 +79,12 @@ with_row a row =
     common_rules
 
 abbrev pub rules_of : CommandName → App → App
-rules_of (Question question) a = with_row a (question_row question)
-rules_of Explain a = with_rules a (code_rule ∷ flag_rule Notes ∷ [])
-rules_of Dump a = with_rules a dump_rules
-rules_of Encode a = with_rules a encode_rules
-rules_of Ask a = with_rules a dialogue_rules
+rules_of (command.Question question) a = with_row a (question_row question)
+rules_of command.Explain a = with_rules a (code_rule ∷ flag_rule Notes ∷ [])
+rules_of command.Dump a = with_rules a dump_rules
+rules_of command.Encode a = with_rules a encode_rules
+rules_of command.Ask a = with_rules a dialogue_rules
+rules_of command.Fold a = with_rules a fold_rules
 
 abbrev pub command_app : CommandName → App
 command_app command = rules_of command (new_app (name_of command))

@@ -33,7 +33,7 @@ IsUsageWith P (Usage text) = P × IsUsageText (string_bytes text)
 IsUsageWith P Memory = ⊤
 
 -- The arguments ask for nothing. `clap` reports a wish for help; or it reports a mistake, or takes the arguments, of
--- which a value then breaks its rule. Memory may be refused at any time.
+-- which a value then breaks its rule, two can't stand together, or one is missing. Memory may be refused at any time.
 abbrev pub RefusesArguments : List Text → ParseFault → Type 0
 RefusesArguments arguments (Help text) = AsksNothing (requested arguments) × HasReason is_wish arguments
 RefusesArguments arguments (Usage text) =

@@ -70,19 +70,41 @@ pub record Work : Type 0 where
   pub files : List Text
   pub symbols : Option Text
 
--- What is asked for: what is to be explained is a text, and a dialogue folds what was read or doesn't.
+-- What is asked for: what is to be explained is a text, and a dialogue folds what was read or doesn't, and has the names of its states
+-- before those of its files.
 pub data Request : Type 0 where
   answers : Work → Request
   explains : Text → Request
   dumps : InputForm → List Text → Request
   encodes : Bool → List Text → Request
-  asks : Setting → Bool → List Text → Option Text → Request
+  asks : Setting → Bool → List Text → List Text → Option Text → Request
+  folds : Setting → List Text → Request
 
 abbrev pub file_names : List Row → List Text
 file_names rows = unwrap_or (all_of (codes "files") rows) []
 
+abbrev pub state_names : List Row → List Text
+state_names rows = unwrap_or (all_of (codes "state") rows) []
+
+abbrev pub has_files : List Row → Bool
+has_files rows = not (length (file_names rows) == 0)
+
+abbrev pub has_states : List Row → Bool
+has_states rows = not (length (state_names rows) == 0)
+
 abbrev pub with_files : List Row → Job → Work
 with_files rows job = record { job = job; files = file_names rows; symbols = given Symbols rows }
+
+-- questions of a dialogue come from standard input, so it has files or states to begin with
+abbrev pub has_inputs : List Row → Bool
+has_inputs rows = has_files rows || has_states rows
+
+abbrev pub dialogue_setting : List Row → Option Setting
+dialogue_setting rows = if has_inputs rows then setting_of rows else None
+
+-- one that begins with a state folds
+abbrev pub is_folded : List Row → Bool
+is_folded rows = is_given flag.Fold rows || has_states rows
 
 -- what a command asks for
 abbrev pub request_of : CommandName → List Row → Option Request
@@ -91,7 +113,8 @@ request_of command.Explain rows = option_map (λ text. explains text) (first_of 
 request_of command.Dump rows = Some (dumps (input_form rows) (file_names rows))
 request_of command.Encode rows = Some (encodes (is_given flag.Hex rows) (file_names rows))
 request_of command.Ask rows =
-    option_map (λ setting. asks setting (is_given flag.Fold rows) (file_names rows) (given Symbols rows)) (setting_of rows)
+    option_map (λ setting. asks setting (is_folded rows) (state_names rows) (file_names rows) (given Symbols rows)) (dialogue_setting rows)
+request_of command.Fold rows = option_map (λ setting. folds setting (file_names rows)) (setting_of rows)
 
 -- what a command's name and its entries ask for
 abbrev pub request_met : Option (Text × List Row) → Option Request
@@ -134,7 +157,7 @@ abbrev pub is_of_run : List Row → Bool
 is_of_run rows =
     is_given flag.Hex rows || (is_given flag.Partial rows || (is_given flag.Complete rows || (is_given flag.ExitCode rows
     || (is_given flag.Notes rows || (is_some (given Symbols rows) || (is_some (given Workers rows)
-    || not (length (file_names rows) == 0)))))))
+    || has_files rows))))))
 
 -- the job of a question with these entries
 abbrev pub asked_by : CommandName → List Row → Option Job
@@ -163,7 +186,10 @@ Meets asked (wish.Explain fault) = ⊥
 Meets asked (wish.Question run) = asked ≡ answers (work run)
 Meets asked (wish.Dump form files) = asked ≡ dumps form (map string_bytes files.items)
 Meets asked (wish.Encode hex files) = asked ≡ encodes hex (map string_bytes files.items)
-Meets asked (wish.Ask of) = asked ≡ asks of.setting of.folds (map string_bytes of.files.items) (option_map string_bytes of.symbols)
+Meets asked (wish.Ask of) =
+    asked ≡ asks of.setting of.folds (map string_bytes of.states.items) (map string_bytes of.files.items)
+    (option_map string_bytes of.symbols)
+Meets asked (wish.Fold setting files) = asked ≡ folds setting (map string_bytes files.items)
 
 abbrev pub IsAskedFor : Option Request → Command → Type 0
 IsAskedFor None command = ⊥

@@ -14,7 +14,7 @@ use Rattle.htl_command.specs.Commands.{question_row}
 use Rattle.htl_command.specs.Options.{defaulted, given as given_in, is_given, optional, value}
 use Rattle.htl_command.specs.Printed.{Follow, IsNameOf, form_of}
 use Rattle.htl_command.specs.Refusals.{HasReason, IsUsageText, is_mistake, is_wish}
-use Rattle.htl_command.specs.Requests.{beside_tag, workers}
+use Rattle.htl_command.specs.Requests.{beside_tag, has_inputs, setting_of, workers}
 use Rattle.htl_command.specs.Values.{count_in, handle_in, moment_in, object_in, points_in, process_in, since_in, tag_in}
 use Rattle.htl_command.specs.declared.code.Code.{Code}
 use Rattle.htl_command.specs.declared.names.CommandFlag.TheVariants as flag
@@ -24,7 +24,7 @@ use Rattle.htl_command.specs.declared.names.CommandOption.TheVariants.{Points, T
 use Rattle.htl_command.specs.declared.table.QuestionName.{QuestionName}
 use Rattle.htl_command.specs.declared.printed.PrintedFault.{PrintedFault}
 use Rattle.htl_command.specs.declared.no_job.NoJob.{NoJob}
-use Rattle.htl_command.specs.declared.no_job.NoJob.TheVariants.{Value, Formats, BesideTag}
+use Rattle.htl_command.specs.declared.no_job.NoJob.TheVariants.{Value, Formats, BesideTag, NoInputs}
 use Rattle.htl_command.specs.declared.no_job.InvalidValue.{InvalidValue}
 use Rattle.htl_command.specs.declared.fault.ParseFault.{ParseFault}
 use Rattle.htl_command.specs.declared.fault.ParseFault.TheVariants.{Help, Usage, Memory}
@@ -97,6 +97,13 @@ IsNoJob name rows Formats =
     IsTwoForms rows Formats × (find (breaks_rule rows) (job_options name) ≡ None)
 IsNoJob name rows (BesideTag flag) =
     (beside_tag rows ≡ Some flag) × (find (breaks_rule rows) (job_options name) ≡ None)
+IsNoJob name rows NoInputs = ⊥
+
+-- the entries are no dialogue: the only value breaks its rule, or it doesn't and there is nothing to begin with
+abbrev pub IsNoDialogue : List Row → NoJob → Type 0
+IsNoDialogue rows (Value refused) = Names Workers rows refused × (setting_of rows ≡ None)
+IsNoDialogue rows NoInputs = (is_none (setting_of rows) ≡ false) × (has_inputs rows ≡ false)
+IsNoDialogue rows why = ⊥
 
 -- the entries that `clap` found
 abbrev pub entries_of : ArgMatches → List Row

@@ -5,14 +5,15 @@ ghost use Rattle.clap.specs.declared.builder.Command.TheViews.{out-Command as fi
 ghost use Rattle.htl_command.specs.Steps.{Describes};
 ghost use Rattle.htl_command.specs.Commands.{name_of};
 ghost use Rattle.htl_command.specs.Entries.{code_rule, common_rules, command_app, dialogue_rules};
-ghost use Rattle.htl_command.specs.Entries.{dump_rules, encode_rules, files_rule};
-ghost use Rattle.htl_command.specs.Entries.{flag_rule, hleak_app, option_rule, program_app, top_rules};
+ghost use Rattle.htl_command.specs.Entries.{dump_rules, encode_rules, files_rule, fold_rules};
+ghost use Rattle.htl_command.specs.Entries.{flag_rule, hleak_app, option_rule, program_app};
+ghost use Rattle.htl_command.specs.Entries.{state_rule, top_rules};
 ghost use Rattle.htl_command.specs.Entries.{with_commands as with_commands_of, with_rules};
 ghost use Rattle.htl_command.specs.declared.names.CommandFlag.TheVariants as flags;
 
 use crate::help::{
     ABOUT, AFTER_HELP, CODE_HELP, DIALOGUE_ABOUT, DIALOGUE_AFTER_HELP, DIALOGUE_FILES_HELP,
-    DIALOGUE_USAGE, FILES_HELP, HEX_TEXT_HELP, TEXTS_HELP, VERSION,
+    DIALOGUE_USAGE, FILES_HELP, HEX_TEXT_HELP, STATE_HELP, TEXTS_HELP, VERSION,
 };
 use crate::names::{CommandFlag, CommandOption};
 use crate::table::{COMMANDS, CommandName};
@@ -80,6 +81,19 @@ impl Builder {
             .value_name("FILES")
             .num_args(1..)
             .help(help)
+            .hide(self.place.is_dialogue())
+    }
+
+    /// The option of a saved state, which may be given many times.
+    fn state<'a>(self) -> Arg<'a>
+        ensures rule { rule_of result ≡ state_rule }
+        ensures local { result.global ≡ false }
+    {
+        Arg::new(self.alloc, "state")
+            .long("state")
+            .value_name("FILE")
+            .action(ArgAction::Append)
+            .help(STATE_HELP)
             .hide(self.place.is_dialogue())
     }
 
@@ -184,7 +198,7 @@ impl Builder {
             &[CommandOption::Symbols, CommandOption::Workers],
         )?;
         let command = self.with_flags(
-            command,
+            command.arg(self.state())?,
             &[
                 CommandFlag::Fold,
                 CommandFlag::Complete,
@@ -193,7 +207,24 @@ impl Builder {
                 CommandFlag::Notes,
             ],
         )?;
-        command.arg(self.files(DIALOGUE_FILES_HELP).required(true))
+        command.arg(self.files(DIALOGUE_FILES_HELP))
+    }
+
+    fn with_fold_options<'a>(self, command: Command<'a>) -> Built<'a>
+        requires { (fields_of command).has_globals ≡ false }
+        ensures { IfOk result (Describes (with_rules (app_of command.entry) fold_rules)) }
+    {
+        let command = self.with_options(command, &[CommandOption::Workers])?;
+        let command = self.with_flags(
+            command,
+            &[
+                CommandFlag::Complete,
+                CommandFlag::Hex,
+                CommandFlag::Partial,
+                CommandFlag::Notes,
+            ],
+        )?;
+        command.arg(self.files(FILES_HELP))
     }
 
     /// The command with its name and what its help says beside its options.
@@ -223,6 +254,7 @@ impl Builder {
             CommandName::Dump => self.with_dump_options(bare),
             CommandName::Encode => self.with_encode_options(bare),
             CommandName::Ask => self.with_dialogue_options(bare),
+            CommandName::Fold => self.with_fold_options(bare),
         }
     }
 

@@ -3,10 +3,11 @@ ghost use Rattle.std.specs.Prelude.{◌≡◌, ◌≢◌, [], IfErr, IfOk, IsOk,
 ghost use Rattle.std.specs.Prelude.{string_bytes};
 ghost use Rattle.clap.specs.Words.{subcommand_rows_of};
 ghost use Rattle.htl_command.specs.Refusals.{IsUsageWith, RefusesArguments};
-ghost use Rattle.htl_command.specs.Requests.{AsksNothing, IsAskedFor, asks, file_names};
+ghost use Rattle.htl_command.specs.Requests.{AsksNothing, IsAskedFor, asks, file_names, folds};
 ghost use Rattle.htl_command.specs.Options.{given as given_in, is_given as is_given_in};
-ghost use Rattle.htl_command.specs.Requests.{job_of, notes_in, notes_met, request_met, request_of};
-ghost use Rattle.htl_command.specs.Requests.{requested, setting_of, stored as stored_work, work};
+ghost use Rattle.htl_command.specs.Requests.{is_folded, job_of, notes_in, notes_met, request_met};
+ghost use Rattle.htl_command.specs.Requests.{request_of, requested, state_names};
+ghost use Rattle.htl_command.specs.Requests.{stored as stored_work, work};
 ghost use Rattle.htl_command.specs.Requests.{with_files as with_files_in};
 ghost use Rattle.htl_command.specs.Steps.{entries_of};
 ghost use Rattle.htl_command.specs.declared.command.Command.TheVariants as wish;
@@ -15,14 +16,14 @@ ghost use Rattle.htl_command.specs.declared.table.CommandName.TheVariants as com
 ghost use Rattle.htl_command.specs.declared.names.CommandOption.TheVariants as option;
 
 use crate::builder::Place;
-use crate::entries::{files, is_given, symbols};
+use crate::entries::{files, has_states, is_given, states, symbols};
 use crate::fault::{ParseFault, no_command, refused_entries, unknown_code};
 use crate::matching::matches;
 use crate::names::CommandFlag;
 use crate::no_job::NoJob;
 use crate::printed::PrintedFault;
 use crate::question::{Format, InputForm, Job, Setting};
-use crate::reading::{input_form, job, printed_fault, setting};
+use crate::reading::{dialogue_setting, input_form, job, printed_fault, setting};
 use crate::table::{CommandName, QuestionName};
 use clap::ArgMatches;
 use htl_question::Question;
@@ -59,6 +60,13 @@ pub enum Command {
     },
     /// The answers to questions that come line by line.
     Ask(Dialogue),
+    /// The state that segments come to.
+    Fold {
+        /// How the segments are read.
+        setting: Setting,
+        /// The names of the inputs, in order. Where there is none, standard input is read.
+        files: Vec<String>,
+    },
 }
 
 /// A question, and what it is asked of.
@@ -78,7 +86,10 @@ pub struct Dialogue {
     /// Whether what was read is folded and forgotten. Then only the state is kept in memory, and
     /// `trace`, `growth` and `--until` aren't answered.
     pub folds: bool,
-    /// The names of the inputs, in order. There is at least one.
+    /// The names of the saved states that it begins with, in order. Where there is one, what was read
+    /// is folded.
+    pub states: Vec<String>,
+    /// The names of the inputs, in order. There is at least one, or a state.
     pub files: Vec<String>,
     /// The name of the file with the symbol table.
     pub symbols: Option<String>,
@@ -88,11 +99,12 @@ pub struct Dialogue {
 /// outstanding handles of process 4, from standard input in hexadecimal.
 ///
 /// A command, its options and its files are arguments as `clap` takes them: `--process 4` or
-/// `--process=4`, options and files in any order, and only files after `--`. No option may be given
-/// twice.
+/// `--process=4`, options and files in any order, and only files after `--`. No option but `--state`
+/// may be given twice.
 ///
 /// Where several things are wrong, what `clap` refuses is reported first, then the first value that
-/// breaks its rule, and last options that can't stand together.
+/// breaks its rule, and last options that can't stand together, or that a dialogue has neither a file
+/// nor a state to begin with.
 #[tactic(auto, using(crate::proofs::Arguments::no_arguments, crate::proofs::Arguments::no_notes))]
 pub fn parse(alloc: Global, arguments: Vec<String>) -> Result<CommandLine, ParseFault>
     ensures command { IfOk result (λ line.
@@ -208,6 +220,7 @@ fn read_command(
             let dialogue = read_dialogue(alloc, entries)?;
             Ok(Command::Ask(dialogue))
         }
+        CommandName::Fold => read_fold(alloc, entries),
     }
 }
 
@@ -226,14 +239,12 @@ fn read_question(alloc: Global, name: QuestionName, entries: &ArgMatches) -> Res
 fn read_dialogue(alloc: Global, entries: &ArgMatches) -> Result<Dialogue, ParseFault>
     ensures ok { IfOk result (λ of.
         IsAskedFor (request_of command.Ask (entries_of entries.now)) (wish.Ask of)) }
-    ensures err { IfErr result (IsUsageWith (setting_of (entries_of entries.now) ≡ None)) }
+    ensures err { IfErr result
+        (IsUsageWith (AsksNothing (request_of command.Ask (entries_of entries.now)))) }
 {
-    match setting(entries) {
+    match dialogue_setting(entries) {
         Ok(setting) => Ok(with_inputs(alloc, setting, entries)?),
-        Err(refused) => {
-            let why = NoJob::Value(refused);
-            Err(refused_entries(alloc, "hleak ", CommandName::Ask, why))
-        }
+        Err(why) => Err(refused_entries(alloc, "hleak ", CommandName::Ask, why)),
     }
 }
 
@@ -243,15 +254,34 @@ fn with_inputs(
     entries: &ArgMatches,
 ) -> Result<Dialogue, AllocError>
     ensures { IfOk result (λ of. IsAskedFor (Some (asks setting
-        (is_given_in flag.Fold (entries_of entries.now)) (file_names (entries_of entries.now))
+        (is_folded (entries_of entries.now)) (state_names (entries_of entries.now))
+        (file_names (entries_of entries.now))
         (given_in option.Symbols (entries_of entries.now)))) (wish.Ask of)) }
 {
     Ok(Dialogue {
         setting,
-        folds: is_given(entries, CommandFlag::Fold),
+        folds: is_given(entries, CommandFlag::Fold) || has_states(entries),
+        states: states(alloc, entries)?,
         files: files(alloc, entries)?,
         symbols: symbols(alloc, entries)?,
     })
+}
+
+fn read_fold(alloc: Global, entries: &ArgMatches) -> Result<Command, ParseFault>
+    ensures ok { IfOk result (IsAskedFor (request_of command.Fold (entries_of entries.now))) }
+    ensures err { IfErr result
+        (IsUsageWith (AsksNothing (request_of command.Fold (entries_of entries.now)))) }
+{
+    match setting(entries) {
+        Ok(setting) => {
+            let files = files(alloc, entries)?;
+            Ok(Command::Fold { setting, files })
+        }
+        Err(refused) => {
+            let why = NoJob::Value(refused);
+            Err(refused_entries(alloc, "hleak ", CommandName::Fold, why))
+        }
+    }
 }
 
 fn with_files(alloc: Global, job: Job, entries: &ArgMatches) -> Result<Run, AllocError>

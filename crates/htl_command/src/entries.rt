@@ -1,10 +1,10 @@
 //! What `clap` found in the arguments: flags, options and files, by their names.
 
-ghost use Rattle.std.specs.Prelude.{◌≡◌, ◌==◌, IfOk, is_some, length, map, not, option_map};
-ghost use Rattle.std.specs.Prelude.{string_bytes};
+ghost use Rattle.std.specs.Prelude.{◌≡◌, ◌==◌, [], IfOk, is_some, length, map, not, option_map};
+ghost use Rattle.std.specs.Prelude.{string_bytes, unwrap_or};
 ghost use Rattle.clap.specs.Words.{all_of, first_of};
 ghost use Rattle.htl_command.specs.Options.{given as given_in, is_given as is_given_in};
-ghost use Rattle.htl_command.specs.Requests.{file_names};
+ghost use Rattle.htl_command.specs.Requests.{file_names, has_files, has_states, state_names};
 ghost use Rattle.htl_command.specs.Steps.{entries_of};
 ghost use Rattle.htl_command.specs.declared.names.CommandOption.TheVariants as option;
 
@@ -38,22 +38,31 @@ pub(crate) fn has_option(entries: &ArgMatches, option: CommandOption) -> bool
 
 /// Whether a file is given.
 pub(crate) fn has_files(entries: &ArgMatches) -> bool
-    ensures { result ≡ not (length (file_names (entries_of entries.now)) == 0) }
+    ensures { result ≡ has_files (entries_of entries.now) }
 {
-    match entry_list(entries, "files") {
-        None => false,
-        Some(texts) => !texts.is_empty(),
-    }
+    has_any(entries, "files")
+}
+
+/// Whether a saved state is given.
+pub(crate) fn has_states(entries: &ArgMatches) -> bool
+    ensures { result ≡ has_states (entries_of entries.now) }
+{
+    has_any(entries, "state")
 }
 
 /// The names of the files, in order.
 pub(crate) fn files(alloc: Global, entries: &ArgMatches) -> Result<Vec<String>, AllocError>
     ensures { IfOk result (λ files. map string_bytes files.items ≡ file_names (entries_of entries.now)) }
 {
-    match entry_list(entries, "files") {
-        None => Ok(Vec::new(alloc)),
-        Some(texts) => copies(alloc, texts),
-    }
+    names(alloc, entries, "files")
+}
+
+/// The names of the saved states, in order.
+pub(crate) fn states(alloc: Global, entries: &ArgMatches) -> Result<Vec<String>, AllocError>
+    ensures { IfOk result (λ states.
+        map string_bytes states.items ≡ state_names (entries_of entries.now)) }
+{
+    names(alloc, entries, "state")
 }
 
 /// The name of the file with the symbol table.
@@ -72,6 +81,27 @@ pub(crate) fn entry<'a>(entries: &ArgMatches<'a>, id: &str) -> Option<&'a str>
     ensures { option_map (λ text. text.now) result ≡ first_of id.now (entries_of entries.now) }
 {
     entries.get_str(id)
+}
+
+/// Whether what may be given many times is given at all.
+fn has_any(entries: &ArgMatches, id: &str) -> bool
+    ensures { result ≡ not (length (unwrap_or (all_of id.now (entries_of entries.now)) []) == 0) }
+{
+    match entry_list(entries, id) {
+        None => false,
+        Some(texts) => !texts.is_empty(),
+    }
+}
+
+/// Copies of all texts of what may be given many times, in order.
+fn names(alloc: Global, entries: &ArgMatches, id: &str) -> Result<Vec<String>, AllocError>
+    ensures { IfOk result (λ names.
+        map string_bytes names.items ≡ unwrap_or (all_of id.now (entries_of entries.now)) []) }
+{
+    match entry_list(entries, id) {
+        None => Ok(Vec::new(alloc)),
+        Some(texts) => copies(alloc, texts),
+    }
 }
 
 fn copies(alloc: Global, texts: &[&str]) -> Result<Vec<String>, AllocError>

@@ -42,7 +42,7 @@ impl ParseFault {
         usage(alloc, why, "")
     }
 
-    /// The fault of bytes that would be written to a terminal.
+    /// The fault of segments that would be written to a terminal.
     pub fn bytes_at_terminal(alloc: Global) -> ParseFault
         ensures { IsUsageWith ⊤ result }
     {
@@ -52,6 +52,19 @@ bytes are not written to a terminal
   tip: send them to a file, as in 'hleak encode a.txt > a.hls', or add --hex
 
 For more information, try 'hleak encode --help'.";
+        usage(alloc, why, "")
+    }
+
+    /// The fault of a state that would be written to a terminal.
+    pub fn state_at_terminal(alloc: Global) -> ParseFault
+        ensures { IsUsageWith ⊤ result }
+    {
+        let why = "\
+bytes are not written to a terminal
+
+  tip: send them to a file, as in 'hleak fold a.hls > a.hla'
+
+For more information, try 'hleak fold --help'.";
         usage(alloc, why, "")
     }
 
@@ -219,7 +232,7 @@ pub(crate) fn other_command(alloc: Global) -> ParseFault
     let why = "\
 a line is a question, or 'read', 'merge', 'save', 'use' or 'quit'
 
-  tip: ask, explain, dump and encode are commands of their own";
+  tip: ask, fold, explain, dump and encode are commands of their own";
     wrong_line(alloc, why)
 }
 
@@ -230,8 +243,9 @@ pub(crate) fn no_question(alloc: Global) -> ParseFault
     let why = "\
 a line is a question with its own options
 
-  tip: files, --symbols, --workers, --fold, --complete, --hex, --partial and
-  --notes stand after 'hleak ask'; --exit-code is for a run of its own";
+  tip: files, --symbols, --workers, --state, --fold, --complete, --hex,
+  --partial and --notes stand after 'hleak ask'; --exit-code is for a run of
+  its own";
     wrong_line(alloc, why)
 }
 

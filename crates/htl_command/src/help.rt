@@ -79,7 +79,11 @@ pub(crate) const HEX_TEXT_HELP: &str = "Write hexadecimal digits, not bytes";
 
 pub(crate) const TEXTS_HELP: &str = "Texts of segments; standard input where no file is given";
 
-pub(crate) const DIALOGUE_FILES_HELP: &str = "Trace segments";
+pub(crate) const DIALOGUE_FILES_HELP: &str = "Trace segments; they may be left out with --state";
+
+pub(crate) const STATE_HELP: &str = "\
+Begin with this state, which 'save' or 'hleak fold'
+wrote, and fold, as with --fold; may stand many times";
 
 pub(crate) const CODE_HELP: &str = "The code of a fault, as S10 or 'C8(0, 2)', or its whole line";
 
@@ -96,6 +100,7 @@ impl CommandName {
             CommandName::Dump => "Segments as text, to read, compare and change",
             CommandName::Encode => "The bytes of segments that are given as text",
             CommandName::Ask => "Many questions over the same segments, a line each",
+            CommandName::Fold => "Segments folded into a state, for 'ask' and 'merge'",
         }
     }
 
@@ -123,8 +128,17 @@ segments, and replies how many; answers are final up to its complete_to.
 line gets the empty line alone, and status 2 at the end. One without an argument
 (blanks, \"\") gets no reply. 'quit' ends.
 
+Examples:
+  hleak ask --symbols names.csv cpu0.hls cpu1.hls
+  hleak ask --state a.hla cpu2.hls"
+            }
+            CommandName::Fold => {
+                "\
+The state is what 'save' writes in a dialogue with --fold over these files.
+'hleak ask --state' begins with it. It is not written to a terminal.
+
 Example:
-  hleak ask --symbols names.csv cpu0.hls cpu1.hls"
+  hleak fold cpu0.hls cpu1.hls > a.hla"
             }
         }
     }

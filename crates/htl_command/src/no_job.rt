@@ -21,6 +21,8 @@ pub(crate) enum NoJob<'a> {
     Formats,
     /// The stacks of a tag of all objects are asked for, and this, which only tags have.
     BesideTag(CommandFlag),
+    /// A dialogue is asked for with neither a file nor a state to begin with.
+    NoInputs,
 }
 
 impl<'a> From<InvalidValue<'a>> for NoJob<'a> {
@@ -43,6 +45,11 @@ impl fmt::Display for NoJob<'_> {
                 f,
                 "the argument '--tag <TAG>' cannot be used with '--{}'",
                 flag.as_str()
+            ),
+            NoJob::NoInputs => write!(
+                f,
+                "the following required arguments were not provided:\n  \
+                <FILES>... or --state <FILE>"
             ),
         }
     }

@@ -3,16 +3,16 @@
 ghost use Rattle.std.specs.Prelude.{◌≡◌, IfErr, IfOk, None, OnErr, find};
 ghost use Rattle.std.specs.Result.{result_ok};
 ghost use Rattle.htl_command.specs.Commands.{balance_of, question_row};
-ghost use Rattle.htl_command.specs.Requests.{AsksNothing, IsAskedFor, beside_tag};
+ghost use Rattle.htl_command.specs.Requests.{AsksNothing, IsAskedFor, beside_tag, dialogue_setting};
 ghost use Rattle.htl_command.specs.Requests.{format_of, input_form, is_of_run, job_by_values, job_of};
 ghost use Rattle.htl_command.specs.Requests.{request_of, setting_of};
-ghost use Rattle.htl_command.specs.Steps.{IsFirstBroken, IsNoJob, IsTwoForms, Names, entries_of};
-ghost use Rattle.htl_command.specs.Steps.{breaks_rule, job_options};
+ghost use Rattle.htl_command.specs.Steps.{IsFirstBroken, IsNoDialogue, IsNoJob, IsTwoForms, Names};
+ghost use Rattle.htl_command.specs.Steps.{breaks_rule, entries_of, job_options};
 ghost use Rattle.htl_command.specs.declared.command.Command.TheVariants as wish;
 ghost use Rattle.htl_command.specs.declared.table.CommandName.TheVariants as command;
 ghost use Rattle.htl_command.specs.declared.names.CommandOption.TheVariants as option;
 
-use crate::entries::{entry, has_files, has_option, is_given};
+use crate::entries::{entry, has_files, has_option, has_states, is_given};
 use crate::names::{CommandFlag, CommandOption};
 use crate::no_job::{InvalidValue, NoJob};
 use crate::options;
@@ -65,6 +65,19 @@ pub(crate) fn setting<'a>(entries: &ArgMatches<'a>) -> Result<Setting, InvalidVa
         workers: options::workers(entries)?,
         complete: is_given(entries, CommandFlag::Complete),
     })
+}
+
+/// How the segments of a dialogue are read, which begins with a file or a state.
+pub(crate) fn dialogue_setting<'a>(entries: &ArgMatches<'a>) -> Result<Setting, NoJob<'a>>
+    ensures ok { result_ok result ≡ dialogue_setting (entries_of entries.now) }
+    ensures err { IfErr result (IsNoDialogue (entries_of entries.now)) }
+{
+    let setting = setting(entries)?;
+    if has_files(entries) || has_states(entries) {
+        Ok(setting)
+    } else {
+        Err(NoJob::NoInputs)
+    }
 }
 
 /// How the inputs hold segments.

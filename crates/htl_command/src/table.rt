@@ -19,6 +19,8 @@ pub(crate) enum CommandName {
     Encode,
     /// Answers many questions over the same segments.
     Ask,
+    /// Folds segments into a state.
+    Fold,
 }
 
 /// A question, by the name of its command.
@@ -55,7 +57,7 @@ pub(crate) struct QuestionRow<'a> {
 }
 
 /// All commands, as help lists them.
-pub(crate) const COMMANDS: [CommandName; 15] = [
+pub(crate) const COMMANDS: [CommandName; 16] = [
     CommandName::Question(QuestionName::Summary),
     CommandName::Question(QuestionName::Outstanding),
     CommandName::Question(QuestionName::Diff),
@@ -68,6 +70,7 @@ pub(crate) const COMMANDS: [CommandName; 15] = [
     CommandName::Question(QuestionName::Trace),
     CommandName::Question(QuestionName::Growth),
     CommandName::Ask,
+    CommandName::Fold,
     CommandName::Explain,
     CommandName::Dump,
     CommandName::Encode,
@@ -83,6 +86,7 @@ impl CommandName {
             CommandName::Dump => "dump",
             CommandName::Encode => "encode",
             CommandName::Ask => "ask",
+            CommandName::Fold => "fold",
         }
     }
 

@@ -193,7 +193,7 @@ fn is_elsewhere(option: &str) -> bool {
 fn has_own(command: CommandName, option: &str) -> bool {
     match (command, option.strip_prefix("--")) {
         (CommandName::Question(question), Some(name)) => question.has_own(name),
-        (CommandName::Ask, Some(name)) => name == "fold",
+        (CommandName::Ask, Some(name)) => matches!(name, "fold" | "state"),
         _ => false,
     }
 }
@@ -241,7 +241,7 @@ fn has_no_number(arguments: &[String]) -> bool {
 /// Whether a value that begins with `-`, of an option that may have such a value, stands apart from
 /// it.
 fn is_apart(option: &str, value: &str) -> bool {
-    matches!(option, "--tag" | "--symbols") && value.starts_with('-')
+    matches!(option, "--tag" | "--symbols" | "--state") && value.starts_with('-')
 }
 
 /// Whether what follows an option whose value is a number begins with `-`, as no such value does.

@@ -25,7 +25,8 @@ Merge a saved state into what was read
 Usage: merge <FILE>
 
 Arguments:
-  <FILE>  A state that 'save' wrote; a name that begins with '-' follows '--'
+  <FILE>  A state that 'save' or 'hleak fold' wrote; a name that begins with
+          '-' follows '--'
 
 The state has to be of the same trace. The reply, as
 'merged segments=1 new=0 complete_to=9 gaps=0', counts the segments of the state
@@ -43,7 +44,8 @@ Arguments:
 
 The new file takes the place of an old one as a whole, also where the machine
 stops in between. The reply, as 'saved bytes=4096', comes once it is on the
-disk. 'merge' reads it, in this dialogue or another one. Only with --fold.
+disk. 'merge' reads it, in this dialogue or another one, and 'hleak ask --state'
+begins with it. Only with --fold.
 ";
 
 const USE: &str = "\

@@ -331,6 +331,7 @@ const NOTES: &[(&str, bool)] = &[
     ("encode|a.txt|--notes", true),
     ("ask|a.hls|--notes", true),
     ("ask|a.hls", false),
+    ("fold|--notes", true),
     ("bad|--process|4|--|--notes", false),
 ];
 
@@ -434,9 +435,31 @@ const ENCODED: &[(&str, bool, &[&str])] = &[
     ("encode|a.txt|--hex|--|-b.txt", true, &["a.txt", "-b.txt"]),
 ];
 
-/// Lines that ask for a dialogue: how its files are read, whether they are folded, which they are, and
-/// its symbols.
-const DIALOGUES: &[(&str, Setting, bool, &[&str], Option<&str>)] = &[
+/// Lines that ask for a state: how the files are read, and which they are.
+const FOLDED: &[(&str, Setting, &[&str])] = &[
+    (
+        "fold",
+        Setting {
+            form: BYTES,
+            workers: 1,
+            complete: false,
+        },
+        &[],
+    ),
+    (
+        "fold|--workers|2|a.hls|--complete|--partial|--hex|--|-b.hls",
+        Setting {
+            form: PARTIAL_DIGITS,
+            workers: 2,
+            complete: true,
+        },
+        &["a.hls", "-b.hls"],
+    ),
+];
+
+/// Lines that ask for a dialogue: how its files are read, whether they are folded, its states, its
+/// files, and its symbols.
+const DIALOGUES: &[(&str, Setting, bool, &[&str], &[&str], Option<&str>)] = &[
     (
         "ask|a.hls",
         Setting {
@@ -445,6 +468,7 @@ const DIALOGUES: &[(&str, Setting, bool, &[&str], Option<&str>)] = &[
             complete: false,
         },
         false,
+        &[],
         &["a.hls"],
         None,
     ),
@@ -456,6 +480,7 @@ const DIALOGUES: &[(&str, Setting, bool, &[&str], Option<&str>)] = &[
             complete: true,
         },
         false,
+        &[],
         &["a.hls", "b.hls"],
         None,
     ),
@@ -467,6 +492,7 @@ const DIALOGUES: &[(&str, Setting, bool, &[&str], Option<&str>)] = &[
             complete: true,
         },
         true,
+        &[],
         &["a.hls", "b.hls"],
         None,
     ),
@@ -478,8 +504,33 @@ const DIALOGUES: &[(&str, Setting, bool, &[&str], Option<&str>)] = &[
             complete: false,
         },
         false,
+        &[],
         &["--fold"],
         Some("names.csv"),
+    ),
+    (
+        "ask|--state|a.hla",
+        Setting {
+            form: BYTES,
+            workers: 1,
+            complete: false,
+        },
+        true,
+        &["a.hla"],
+        &[],
+        None,
+    ),
+    (
+        "ask|--state=b.hla|a.hls|--state|a.hla|--fold|--state|b.hla|--|--state",
+        Setting {
+            form: BYTES,
+            workers: 1,
+            complete: false,
+        },
+        true,
+        &["b.hla", "a.hla", "b.hla"],
+        &["a.hls", "--state"],
+        None,
     ),
 ];
 
@@ -543,7 +594,9 @@ explain|S1 => commands of their own
 dump => commands of their own
 encode => commands of their own
 ask|a.hls => commands of their own
+ask|--state|a.hla => commands of their own
 ask => commands of their own
+summary|--state|a.hla => '--state'
 leaks => --process <N>
 leaks|--process|x => 'x' for '--process <N>'
 leaks|--process|4|--at-least|0 => '0' for '--at-least <N>'
@@ -615,6 +668,8 @@ bad|--process|4|--workers|0 => '0' for '--workers <N>'
 bad|--process|4|--workers|9 => '9' for '--workers <N>'
 bad|--process|4|--workers| => '' for '--workers <N>'
 ask|a.hls|--workers|9 => '9' for '--workers <N>'
+ask|--workers|9 => '9' for '--workers <N>'
+fold|--workers|0 => '0' for '--workers <N>'
 summary|--workers|9 => '9' for '--workers <N>'
 summary|--top|0 => '0' for '--top <N>'
 leaks|--process|4|--top|4294967296 => '4294967296' for '--top <N>'
@@ -657,12 +712,16 @@ encode|--partial => '--partial'
 ask => <FILES>
 ask|--hex => <FILES>
 ask|--fold => <FILES>
+ask|--state => '--state <FILE>'
+ask|--state|-a.hla => follows '='
 ask|a.hls|--fold|--fold => '--fold'
 ask|a.hls|--json => '--json'
 ask|a.hls|--exit-code => '--exit-code'
 ask|a.hls|--top|1 => '--top'
 ask|a.hls|--process|4 => '--process'
 ask|a.hls|--until|4 => '--until'
+fold|--symbols|names.csv => '--symbols'
+fold|--fold => '--fold'
 dump|--until|4 => '--until'
 explain|S1|--until|4 => '--until'
 outstanding => --process <N>
@@ -927,11 +986,29 @@ fn dialogue(rt: &impl Abort, alloc: Global, line: &str) -> Dialogue {
 
 #[test]
 fn lines_ask_for_dialogues(rt: HostRuntime) {
-    for (line, setting, folds, files, symbols) in DIALOGUES {
+    for (line, setting, folds, states, files, symbols) in DIALOGUES {
         let of = dialogue(&rt, rt.alloc(), line);
+        has_files(&rt, line, &of.states, states);
         has_files(&rt, line, &of.files, files);
         let found = (of.setting, of.folds, of.symbols.as_deref());
         assert_row(&rt, *line, found, (*setting, *folds, *symbols));
+    }
+}
+
+/// How the files are read whose state a line wants, and which they are.
+fn folded(rt: &impl Abort, alloc: Global, line: &str) -> (Setting, Vec<String>) {
+    match command(rt, alloc, line) {
+        Command::Fold { setting, files } => (setting, files),
+        _ => panic!(rt; "no state: {line}"),
+    }
+}
+
+#[test]
+fn lines_ask_for_states(rt: HostRuntime) {
+    for (line, setting, files) in FOLDED {
+        let (found, names) = folded(&rt, rt.alloc(), line);
+        has_files(&rt, line, &names, files);
+        assert_row(&rt, *line, found, *setting);
     }
 }
 

@@ -25,6 +25,7 @@ Commands:
   trace        Each open, close and bad reference of a handle (!htrace HANDLE)
   growth       How many handles are open as of each of many moments
   ask          Many questions over the same segments, a line each
+  fold         Segments folded into a state, for 'ask' and 'merge'
   explain      What a fault means, and what to do
   dump         Segments as text, to read, compare and change
   encode       The bytes of segments that are given as text
@@ -404,14 +405,16 @@ Example:
 const ASK: &str = "\
 Many questions over the same segments, a line each
 
-Usage: hleak ask [OPTIONS] <FILES>...
+Usage: hleak ask [OPTIONS] [FILES]...
 
 Arguments:
-  <FILES>...  Trace segments
+  [FILES]...  Trace segments; they may be left out with --state
 
 Options:
       --symbols <FILE>  Names for addresses: CSV of start,end,module,name
       --workers <N>     Use up to N threads: 1 to 8 [default: 1]
+      --state <FILE>    Begin with this state, which 'save' or 'hleak fold'
+                        wrote, and fold, as with --fold; may stand many times
       --fold            Keep what the events come to, not the events: trace,
                         growth and --until are not answered then
       --complete        Refuse segments with a gap (C8). Without a gap the last
@@ -432,8 +435,35 @@ segments, and replies how many; answers are final up to its complete_to.
 line gets the empty line alone, and status 2 at the end. One without an argument
 (blanks, \"\") gets no reply. 'quit' ends.
 
-Example:
+Examples:
   hleak ask --symbols names.csv cpu0.hls cpu1.hls
+  hleak ask --state a.hla cpu2.hls
+";
+
+const FOLD: &str = "\
+Segments folded into a state, for 'ask' and 'merge'
+
+Usage: hleak fold [OPTIONS] [FILES]...
+
+Arguments:
+  [FILES]...  Trace segments; standard input where no file is given
+
+Options:
+      --workers <N>  Use up to N threads: 1 to 8 [default: 1]
+      --complete     Refuse segments with a gap (C8). Without a gap the last
+                     segments of a processor may still be missing
+      --hex          The files hold hexadecimal digits, not bytes
+      --partial      Behind its whole segments a file may have bytes that
+                     begin as a segment does; they are left out
+      --notes        Notes, and the file and the words of a fault, also where
+                     standard error is no terminal
+  -h, --help         Print help
+
+The state is what 'save' writes in a dialogue with --fold over these files.
+'hleak ask --state' begins with it. It is not written to a terminal.
+
+Example:
+  hleak fold cpu0.hls cpu1.hls > a.hla
 ";
 
 const EXPLAIN: &str = "\
@@ -683,8 +713,9 @@ For more information, try '--help'.
 const DIALOGUE_NOTES: &str = "\
 error: a line is a question with its own options
 
-  tip: files, --symbols, --workers, --fold, --complete, --hex, --partial and
-  --notes stand after 'hleak ask'; --exit-code is for a run of its own
+  tip: files, --symbols, --workers, --state, --fold, --complete, --hex,
+  --partial and --notes stand after 'hleak ask'; --exit-code is for a run of
+  its own
 
 For more information, try 'help'.
 ";
@@ -692,7 +723,7 @@ For more information, try 'help'.
 const DIALOGUE_OTHER: &str = "\
 error: a line is a question, or 'read', 'merge', 'save', 'use' or 'quit'
 
-  tip: ask, explain, dump and encode are commands of their own
+  tip: ask, fold, explain, dump and encode are commands of their own
 
 For more information, try 'help'.
 ";
@@ -793,6 +824,13 @@ Usage: hleak diff --process <N> [FILES]...
 For more information, try '--help'.
 ";
 
+const NO_INPUTS: &str = "\
+error: the following required arguments were not provided:
+  <FILES>... or --state <FILE>
+
+For more information, try 'hleak ask --help'.
+";
+
 const SEPARATED_VALUE: &str = "\
 error: unexpected argument '-a' found
 
@@ -857,7 +895,7 @@ error: unexpected argument '--folded' found
 
   tip: --folded is an option of leaks, sites
 
-Usage: hleak ask --fold <FILES>...
+Usage: hleak ask --fold [FILES]...
 
 For more information, try '--help'.
 ";
@@ -878,7 +916,17 @@ error: unexpected argument '--fol' found
 
   tip: a similar argument exists: '--fold'
 
-Usage: hleak ask --fold <FILES>...
+Usage: hleak ask --fold [FILES]...
+
+For more information, try '--help'.
+";
+
+const OTHER_STATE: &str = "\
+error: unexpected argument '--state' found
+
+  tip: --state is an option of ask
+
+Usage: hleak fold [OPTIONS] [FILES]...
 
 For more information, try '--help'.
 ";
@@ -908,6 +956,7 @@ const HELP: &[(&str, &str)] = &[
     ("trace|--help", TRACE),
     ("growth|--help", GROWTH),
     ("ask|--help", ASK),
+    ("fold|--help", FOLD),
     ("explain|--help", EXPLAIN),
     ("dump|--help", DUMP),
     ("encode|--help", ENCODE),
@@ -923,6 +972,7 @@ const USAGE: &[(&str, &str)] = &[
     ("outstandin", MISSPELT_COMMAND),
     ("bad|--proces|4", MISSPELT_OPTION),
     ("diff", MISSING_OPTION),
+    ("ask|--fold", NO_INPUTS),
     ("stacks|--object|1|--tag|-abc", SEPARATED_VALUE),
     ("balance|--tag|-abc", SEPARATED_TAG),
     ("balance|--all|--tag|Lky8", TAG_AND_ALL),
@@ -938,6 +988,7 @@ const USAGE: &[(&str, &str)] = &[
     ("ask|--folded|a.hls", FOLDED_DIALOGUE),
     ("leaks|--process|4|--fold", FOLDING_QUESTION),
     ("ask|--fol|a.hls", MISSPELT_FOLD),
+    ("fold|--state|a.hla", OTHER_STATE),
     ("trace|--process|4|--handle|0X44", CAPITAL),
     ("a.hls", NO_COMMAND),
     ("--hex|a.hls", OPTION_FIRST),
@@ -964,6 +1015,7 @@ const DIALOGUE_USAGE: &[(&str, &str)] = &[
     ("leaks|--process|4|--notes", DIALOGUE_NOTES),
     ("explain|S10", DIALOGUE_OTHER),
     ("ask", DIALOGUE_OTHER),
+    ("fold|a.hls", DIALOGUE_OTHER),
     ("sum", DIALOGUE_SHORT),
     ("quti", DIALOGUE_WORD),
     ("a.hls", DIALOGUE_FILE),

@@ -1,9 +1,9 @@
--- A world that is asked for some, and then for more, is asked for all of them: inputs, then a table of symbols, then what follows.
+-- A world that is asked for some, and then for more, is asked for all of them: names, then a table of symbols, then what follows.
 use Rattle.std.proofs.Common.{◌≡◌, ◌++◌, ◌∷◌, ◌∙◌, [], ℕ, suc, Bool, false, List, Option, None, Some, Result, Ok, Err, ap, append_assoc, append-nil, inl, inr}
 use Rattle.std.proofs.Common.{refl, subst, sym}
 use Rattle.htl_inputs.specs.declared.fault.RunFault.{RunFault}
 use Rattle.htl_world.specs.Openings.{AsksFor, AsksForAll, AsksForTable, table_asked}
-use Rattle.htl_world.specs.Rounds.{Asks, CanBeReadAgain, EndsEarly, OpensAgain, OpensInputs, OpensOnce, Rounds, Tabled, inputs_opened}
+use Rattle.htl_world.specs.Rounds.{Asks, CanBeReadAgain, EndsEarly, OpensAgain, OpensBy, OpensOnce, Rounds, Tabled, inputs_opened}
 use Rattle.htl_world.specs.Worlds.{Ask, IsAsked, Known, Logs, WorldState, change, to_read}
 use Rattle.htl_world.proofs.PassedOn.{same_fault}
 
@@ -52,48 +52,43 @@ module _ {S : Type 0} (names : List (List ℕ)) (ended : Result S RunFault) wher
       → Asks (change old new) (OpensOnce names ended)
   once old new opened asked = (inputs_opened names, asked, inl ([], sym (append-nil (inputs_opened names)), refl))
 
-  pub once_ended : (old new : WorldState) (fault : RunFault) → ended ≡ Err fault
-      → Asks (change old new) (EndsEarly names (inputs_opened names) fault) → Asks (change old new) (OpensOnce names ended)
-  once_ended old new fault is early = (early.0, early.1, inr (fault, is, early.2))
-
   -- the inputs are opened again where they can be
   pub again : (known : Known) (is_text : Bool) (old new : WorldState) → is_text ≡ false → CanBeReadAgain known names
       → Asks (change old new) (Rounds 2 names ended) → Asks (change old new) (OpensAgain known is_text names ended)
   again known is_text old new bytes can asked = (asked.0, asked.1, inr (bytes, can, asked.2))
 
--- ---- inputs, and then the table of symbols
+-- ---- names that these asks open, and then the table of symbols
 
-module _ (names : List (List ℕ)) (table : Option (List ℕ)) where
-  -- an input could not be opened
-  pub inputs_refused : (old new : WorldState) (fault : RunFault) → Asks (change old new) (EndsEarly names (inputs_opened names) fault)
-      → Asks (change old new) (OpensInputs {S = Unit {0}} names table (Err fault) (λ more. ⊥))
-  inputs_refused old new fault early = (early.0, early.1, inr (fault, refl, early.2))
+module _ {opened : List Ask} (names : List (List ℕ)) (table : Option (List ℕ)) where
+  -- a name could not be opened
+  pub names_refused : (old new : WorldState) (fault : RunFault) → Asks (change old new) (EndsEarly names opened fault)
+      → Asks (change old new) (OpensBy {S = Unit {0}} opened names table (Err fault) (λ more. ⊥))
+  names_refused old new fault early = (early.0, early.1, inr (fault, refl, early.2))
 
   -- all of them were opened
-  pub inputs_given : {S X : Type 0} (old mid new : WorldState) (opened : X) (result : Result S RunFault)
-      → AsksFor {S = X} (change old mid) names (inputs_opened names) (Ok opened) → AsksForTable (change mid new) table result
-      → AsksForAll (change old new) names table result
-  inputs_given {S = S} old mid new opened result first then = with_table table result then
+  pub names_given : {S : Type 0} (old mid new : WorldState) (result : Result S RunFault)
+      → IsAsked old mid opened → AsksForTable (change mid new) table result → AsksForAll (change old new) opened names table result
+  names_given {S = S} old mid new result first then = with_table table result then
     where
       with_table : (table : Option (List ℕ)) (result : Result S RunFault) → AsksForTable (change mid new) table result
-          → AsksForAll (change old new) names table result
-      with_table None (Ok read) same = subst (λ world. IsAsked old world (inputs_opened names ++ [])) (sym same) (asked_more first (asked_none mid))
+          → AsksForAll (change old new) opened names table result
+      with_table None (Ok read) same = subst (λ world. IsAsked old world (opened ++ [])) (sym same) (asked_more first (asked_none mid))
       with_table None (Err fault) none = absurd none
       with_table (Some name) (Ok read) asked = asked_more first asked
       with_table (Some name) (Err fault) (why, told, asked) = (
-        inputs_opened names ++ to_read name (Some why) ∷ [],
+        opened ++ to_read name (Some why) ∷ [],
         asked_more first asked,
         inl (to_read name (Some why) ∷ [], refl, inr (why, ap Err told, refl)),
       )
 
   module _ {S : Type 0} (ended : Result S RunFault) (Next : List Ask → Type 0) where
     -- what was asked for next follows
-    pub all_then : {X : Type 0} (old mid new : WorldState) (read : X) → AsksForAll {S = X} (change old mid) names table (Ok read)
-        → Asks (change mid new) Next → Asks (change old new) (OpensInputs names table ended Next)
+    pub all_then : {X : Type 0} (old mid new : WorldState) (read : X) → AsksForAll {S = X} (change old mid) opened names table (Ok read)
+        → Asks (change mid new) Next → Asks (change old new) (OpensBy opened names table ended Next)
     all_then old mid new read first later = (
-      (inputs_opened names ++ table_asked table) ++ later.0,
+      (opened ++ table_asked table) ++ later.0,
       asked_more first later.1,
-      inl (table_asked table ++ later.0, append_assoc (inputs_opened names) (table_asked table) later.0, with_table table),
+      inl (table_asked table ++ later.0, append_assoc opened (table_asked table) later.0, with_table table),
     )
       where
         with_table : (table : Option (List ℕ)) → Tabled table ended Next (table_asked table ++ later.0)
@@ -102,7 +97,8 @@ module _ (names : List (List ℕ)) (table : Option (List ℕ)) where
 
     -- what ended before ends so, whatever it is that ends
     pub all_ended : (old new : WorldState) (fault : RunFault) → ended ≡ Err fault
-        → AsksForAll {S = Unit {0}} (change old new) names table (Err fault) → Asks (change old new) (OpensInputs names table ended Next)
+        → AsksForAll {S = Unit {0}} (change old new) opened names table (Err fault)
+        → Asks (change old new) (OpensBy opened names table ended Next)
     all_ended old new fault is early = (early.0, early.1, of_round early.2)
       where
         of_table : (table : Option (List ℕ)) (asks : List Ask) → Tabled {S = Unit {0}} table (Err fault) (λ more. ⊥) asks
@@ -111,6 +107,6 @@ module _ (names : List (List ℕ)) (table : Option (List ℕ)) where
         of_table (Some name) asks (inl (more, same, none)) = absurd none
         of_table (Some name) asks (inr (why, told, same)) = inr (why, is ∙ ap Err (same_fault _ _ _ refl told), same)
 
-        of_round : OpensInputs {S = Unit {0}} names table (Err fault) (λ more. ⊥) early.0 → OpensInputs names table ended Next early.0
+        of_round : OpensBy {S = Unit {0}} opened names table (Err fault) (λ more. ⊥) early.0 → OpensBy opened names table ended Next early.0
         of_round (inl (more, same, tabled)) = inl (more, same, of_table table more tabled)
         of_round (inr (other, told, ends)) = inr (other, is ∙ ap Err (same_fault _ _ _ refl told), ends)

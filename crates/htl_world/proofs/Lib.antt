@@ -3,3 +3,4 @@ pub mod FirstAbsent
 pub mod PassedOn
 pub mod Asked
 pub mod NamesRead
+pub mod NamesOpened

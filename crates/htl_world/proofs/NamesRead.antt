@@ -8,8 +8,8 @@ use Rattle.htl_inputs.specs.declared.fault.RunFault.{RunFault}
 use Rattle.htl_inputs.specs.declared.fault.RunFault.TheVariants.{Memory, Read, SymbolsRead}
 use Rattle.htl_command.specs.declared.question.Setting.{Setting}
 use Rattle.htl_world.specs.Endings.{IsUntabled}
-use Rattle.htl_world.specs.Readings.{AreAskedFor, AreUnread, IsUnopenedFor, ReadsInputs}
-use Rattle.htl_world.specs.Worlds.{IsFirstRefused, IsTable, IsTableAbsent, IsTableUnknown, Known, of_each, of_inputs}
+use Rattle.htl_world.specs.Readings.{AreAskedFor, AreUnread, IsUnopenedFor, ReadsKnown}
+use Rattle.htl_world.specs.Worlds.{IsFirstRefused, IsTable, IsTableAbsent, IsTableUnknown, Known, of_each}
 use Rattle.htl_inputs.proofs.SourceLaws.{none_asked}
 use Rattle.htl_world.proofs.PassedOn.{same_fault}
 
@@ -72,23 +72,22 @@ no_table world name (Ok read) there refused gone = absurd (there gone)
 no_table world name (Err fault) there (inl memory) gone = inr (ap Err memory)
 no_table world name (Err fault) there (inr symbols) gone = inl (ap Err symbols.0)
 
--- The inputs of a command's names.
-module _ {S A : Type 0} (world : Known) (is_text : Bool) (names : List (String A)) where
+-- The inputs of a command's names, of which this is known.
+module _ {S A : Type 0} (world : Known) (is_text : Bool) {known : List (Option (List ℕ))} (names : List (String A)) where
   -- none of them was read
   pub inputs_unread : (now : List SourceState) (result : Result S RunFault) (fault : RunFault) → result ≡ Err fault
-      → AreUnread (of_inputs world.holds world.standard names) (of_each world.holds names) (of_each world.is_absent names) now fault
-      → ReadsInputs world is_text names now result
+      → AreUnread known (of_each world.holds names) (of_each world.is_absent names) now fault → ReadsKnown world is_text known names now result
   inputs_unread now result fault is unread = record {
     reading = inr (fault, is, unread);
     read = λ place told.
-        inl (unread_first (of_inputs world.holds world.standard names) (of_each world.holds names) (of_each world.is_absent names) now fault place
+        inl (unread_first known (of_each world.holds names) (of_each world.is_absent names) now fault place
         (same_fault fault (Read place) result is told) unread);
   }
 
   -- all of them were opened, and read as the sources of a run
   pub inputs_read : {R : Type 0} (state : R → SourceState) (opened now : List R) (result : Result S RunFault)
-      → map state opened ≡ map fresh (of_inputs world.holds world.standard names)
-      → AreRead is_text (map state opened) (map state now) result → ReadsInputs world is_text names (map state now) result
+      → map state opened ≡ map fresh known → AreRead is_text (map state opened) (map state now) result
+      → ReadsKnown world is_text known names (map state now) result
   inputs_read state opened now result sources read = record {
     reading = inl (rw sources at read);
     read = λ place told. inr (rw (lefts_of sources) at read.read place told);

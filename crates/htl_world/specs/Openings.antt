@@ -5,10 +5,10 @@ use Rattle.htl_device.specs.States.{AreOpen, SourceState, fresh}
 use Rattle.htl_inputs.specs.declared.fault.RunFault.{RunFault}
 use Rattle.htl_inputs.specs.declared.fault.RunFault.TheVariants.{Memory, SymbolsRead}
 use Rattle.htl_world.specs.Endings.{IsUnopened, IsUntabled}
-use Rattle.htl_world.specs.Worlds.{Ask, IsAsked, IsTable, IsTableAbsent, IsTableUnknown, WorldChange, HaveTexts, IsAbsentAt, of_each}
+use Rattle.htl_world.specs.Worlds.{Ask, IsAsked, IsTable, IsTableAbsent, IsTableUnknown, WorldChange, IsAbsentAt, of_each}
 use Rattle.htl_world.specs.Worlds.{of_inputs, to_read}
 use Rattle.htl_world.specs.Readings.{AreUnread, IsUnopenedFor}
-use Rattle.htl_world.specs.Rounds.{Asks, EndsEarly, OpensInputs, all_opened, inputs_opened, untabled}
+use Rattle.htl_world.specs.Rounds.{Asks, EndsEarly, OpensBy, all_opened, inputs_opened, untabled}
 use Rattle.htl_world.specs.declared.world.OpenFault.{OpenFault}
 
 -- The world was asked for all of these, or for those up to the name at which that ended.
@@ -57,23 +57,32 @@ abbrev pub table_asked : Option (List ℕ) → List Ask
 table_asked None = []
 table_asked (Some name) = to_read name None ∷ []
 
--- The world was asked for all inputs and for the table, or this ended before.
-abbrev pub AsksForAll : {S : Type 0} → WorldChange → List (List ℕ) → Option (List ℕ) → Result S RunFault → Type 0
-AsksForAll world names table (Ok read) = IsAsked world.old world.new (inputs_opened names ++ table_asked table)
-AsksForAll world names table (Err fault) = Asks world (OpensInputs {S = Unit {0}} names table (Err fault) (λ more. ⊥))
+-- The world was asked for all names, which these asks open, and for the table; or this ended before.
+abbrev pub AsksForAll : {S : Type 0} → WorldChange → List Ask → List (List ℕ) → Option (List ℕ) → Result S RunFault → Type 0
+AsksForAll world opened names table (Ok read) = IsAsked world.old world.new (opened ++ table_asked table)
+AsksForAll world opened names table (Err fault) = Asks world (OpensBy {S = Unit {0}} opened names table (Err fault) (λ more. ⊥))
 
--- The inputs of the names were opened, which these are, and the table was read; or that ended before any was read.
-pub record OpensAll {A B C : Type 0} (world : WorldChange) (names : List (String A)) (symbols : Option (String B))
-    (inputs : List SourceState) (result : Result (Option (Vec ℕ C)) RunFault) : Type 0 where
+-- The names were opened by these asks, of whose inputs this is known: these are the inputs, and the table was read; or that ended before
+-- any was read.
+pub record OpensAllBy {A B C : Type 0} (world : WorldChange) (opened : List Ask) (held : List (Option (List ℕ))) (names : List (String A))
+    (symbols : Option (String B)) (inputs : List SourceState) (result : Result (Option (Vec ℕ C)) RunFault) : Type 0 where
   pub ready : OnOk result (AreOpen inputs)
-  pub sources : OnOk result (inputs ≡ map fresh (of_inputs world.old.known.holds world.old.known.standard names))
-  pub unread : IfErr result (AreUnread (of_inputs world.old.known.holds world.old.known.standard names)
-      (of_each world.old.known.holds names) (of_each world.old.known.is_absent names) inputs)
+  pub sources : OnOk result (inputs ≡ map fresh held)
+  pub unread : IfErr result (AreUnread held (of_each world.old.known.holds names) (of_each world.old.known.is_absent names) inputs)
   pub read : IfOk result (λ read. (table : Option (List ℕ)) → IsTable world.old.known.holds symbols table
       → table ≡ option_map (λ v. v.items) read)
-  pub known : (texts : List (List ℕ)) → (table : Option (List ℕ)) → HaveTexts world.old.known names texts
+  pub known : (texts : List (List ℕ)) → (table : Option (List ℕ)) → held ≡ map Some texts
       → IsTable world.old.known.holds symbols table → IfErr result (λ fault. fault ≡ Memory)
   pub absent : (place : ℕ) → IsAbsentAt world.old.known names place → IsUnopened place result
-  pub untabled : (texts : List (List ℕ)) → HaveTexts world.old.known names texts → IsTableAbsent world.old.known.is_absent symbols
-      → IsUntabled result
-  pub asked : AsksForAll world (map string_bytes names) (option_map string_bytes symbols) result
+  pub untabled : (texts : List (List ℕ)) → held ≡ map Some texts → IsTableAbsent world.old.known.is_absent symbols → IsUntabled result
+  pub asked : AsksForAll world opened (map string_bytes names) (option_map string_bytes symbols) result
+
+-- the same of the inputs of the names, which are standard input where there is no name; and of their files alone
+abbrev pub OpensAll : {A B C : Type 0} → WorldChange → List (String A) → Option (String B) → List SourceState
+    → Result (Option (Vec ℕ C)) RunFault → Type 0
+OpensAll world names =
+    OpensAllBy world (inputs_opened (map string_bytes names)) (of_inputs world.old.known.holds world.old.known.standard names) names
+
+abbrev pub OpensNamed : {A B C : Type 0} → WorldChange → List (String A) → Option (String B) → List SourceState
+    → Result (Option (Vec ℕ C)) RunFault → Type 0
+OpensNamed world names = OpensAllBy world (all_opened (map string_bytes names)) (of_each world.old.known.holds names) names

@@ -26,21 +26,25 @@ abbrev pub AreInputs : {S : Type 0} → Bool → List (Option (List ℕ)) → Li
 AreInputs is_text known holds absences now result =
     AreRead is_text (map fresh known) now result ⊎ ((fault : RunFault) × (result ≡ Err fault) × AreUnread known holds absences now fault)
 
--- A failed read is reported of a name that was refused, or of an input whose read failed or gave bytes too often.
-abbrev pub ReportsRead : {A S : Type 0} → Known → List (String A) → List SourceState → Result S RunFault → Type 0
-ReportsRead world names now result =
+-- A failed read is reported of a name that was refused, or of an input whose read failed or gave bytes too often. It is given what is known
+-- of each input.
+abbrev pub ReportsRead : {A S : Type 0} → Known → List (Option (List ℕ)) → List (String A) → List SourceState → Result S RunFault → Type 0
+ReportsRead world known names now result =
     (place : ℕ) → result ≡ Err (Read place)
     → IsFirstRefused (of_each world.holds names) (of_each world.is_absent names) place
-    ⊎ (IsTrueAt (map has_failed now) place ⊎ IsEndless (map good_reads now) (of_inputs world.holds world.standard names) place)
+    ⊎ (IsTrueAt (map has_failed now) place ⊎ IsEndless (map good_reads now) known place)
 
 -- How often other readers of inputs that hold this were asked for since they were opened, in this setting.
 abbrev pub AreAskedFor : Setting → List (Option (List ℕ)) → List SourceState → Type 0
 AreAskedFor setting known now = AskForReaders setting.form.hex setting.workers (map fresh known) now
 
--- The inputs of the names were opened and read as any run reads its sources. A failed read is reported only of a name that was refused, or
--- of an input whose read failed or that has no end.
-pub record ReadsInputs {A S : Type 0} (world : Known) (is_text : Bool) (names : List (String A)) (inputs : List SourceState)
-    (result : Result S RunFault) : Type 0 where
-  pub reading : AreInputs is_text (of_inputs world.holds world.standard names) (of_each world.holds names) (of_each world.is_absent names)
-      inputs result
-  pub read : ReportsRead world names inputs result
+-- Inputs of which this is known were opened for the names and read as any run reads its sources. A failed read is reported only of a name
+-- that was refused, or of an input whose read failed or that has no end.
+pub record ReadsKnown {A S : Type 0} (world : Known) (is_text : Bool) (known : List (Option (List ℕ))) (names : List (String A))
+    (inputs : List SourceState) (result : Result S RunFault) : Type 0 where
+  pub reading : AreInputs is_text known (of_each world.holds names) (of_each world.is_absent names) inputs result
+  pub read : ReportsRead world known names inputs result
+
+-- the same of the inputs of the names, which are standard input where there is no name
+abbrev pub ReadsInputs : {A S : Type 0} → Known → Bool → List (String A) → List SourceState → Result S RunFault → Type 0
+ReadsInputs world is_text names = ReadsKnown world is_text (of_inputs world.holds world.standard names) names

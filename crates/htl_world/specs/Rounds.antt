@@ -36,12 +36,16 @@ EndsEarly names all fault asks =
     ⊎ ((name : List ℕ) × (why : OpenFault) × (slice_get names place ≡ Some name)
     × (asks ≡ take place all ++ to_open name (Some why) ∷ []) × (fault ≡ unopened place why)))
 
--- One round: the inputs of the names were opened, and this holds of what was asked for next; or it ended before, as is reported, and that
--- was all.
+-- One round, in which these asks open the names: all were opened, and this holds of what was asked for next; or it ended before, as is
+-- reported, and that was all.
+abbrev pub RoundBy : {S : Type 0} → List Ask → List (List ℕ) → Result S RunFault → (List Ask → Type 0) → List Ask → Type 0
+RoundBy opened names ended Next asks =
+    ((more : List Ask) × (asks ≡ opened ++ more) × Next more)
+    ⊎ ((fault : RunFault) × (ended ≡ Err fault) × EndsEarly names opened fault asks)
+
+-- one round, in which the inputs of the names are opened
 abbrev pub Round : {S : Type 0} → List (List ℕ) → Result S RunFault → (List Ask → Type 0) → List Ask → Type 0
-Round names ended Next asks =
-    ((more : List Ask) × (asks ≡ inputs_opened names ++ more) × Next more)
-    ⊎ ((fault : RunFault) × (ended ≡ Err fault) × EndsEarly names (inputs_opened names) fault asks)
+Round names = RoundBy (inputs_opened names) names
 
 -- The table of symbols, if one is named, was read once, and this holds of what was asked for next; or it could not be read, as is reported,
 -- and that was all.
@@ -51,9 +55,17 @@ Tabled (Some name) ended Next asks =
     ((more : List Ask) × (asks ≡ to_read name None ∷ more) × Next more)
     ⊎ ((why : OpenFault) × (ended ≡ Err (untabled why)) × (asks ≡ to_read name (Some why) ∷ []))
 
--- The inputs of the names were opened in one round, and then the table of symbols was read.
+-- The names were opened in one round by these asks, and then the table of symbols was read.
+abbrev pub OpensBy : {S : Type 0} → List Ask → List (List ℕ) → Option (List ℕ) → Result S RunFault → (List Ask → Type 0) → List Ask
+    → Type 0
+OpensBy opened names table ended Next = RoundBy opened names ended (Tabled table ended Next)
+
+-- the same of the inputs of the names, and of their files alone
 abbrev pub OpensInputs : {S : Type 0} → List (List ℕ) → Option (List ℕ) → Result S RunFault → (List Ask → Type 0) → List Ask → Type 0
-OpensInputs names table ended Next = Round names ended (Tabled table ended Next)
+OpensInputs names = OpensBy (inputs_opened names) names
+
+abbrev pub OpensFiles : {S : Type 0} → List (List ℕ) → Option (List ℕ) → Result S RunFault → (List Ask → Type 0) → List Ask → Type 0
+OpensFiles names = OpensBy (all_opened names) names
 
 -- The inputs of the names were opened in one round, and that was all.
 abbrev pub OpensOnce : {S : Type 0} → List (List ℕ) → Result S RunFault → List Ask → Type 0

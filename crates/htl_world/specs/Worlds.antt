@@ -116,6 +116,10 @@ pub record IsFirstAbsent (holds : List (Option (List ℕ))) (absences : List Boo
 abbrev pub HaveTexts : {A : Type 0} → Known → List (String A) → List (List ℕ) → Type 0
 HaveTexts world names texts = of_inputs world.holds world.standard names ≡ map Some texts
 
+-- the files of the names have these texts
+abbrev pub FilesHaveTexts : {A : Type 0} → Known → List (String A) → List (List ℕ) → Type 0
+FilesHaveTexts world names texts = of_each world.holds names ≡ map Some texts
+
 -- the name at the place is the first for which there is nothing
 abbrev pub IsAbsentAt : {A : Type 0} → Known → List (String A) → ℕ → Type 0
 IsAbsentAt world names place = IsFirstAbsent (of_each world.holds names) (of_each world.is_absent names) place

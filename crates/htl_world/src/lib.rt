@@ -18,5 +18,5 @@
 mod opening;
 mod world;
 
-pub use opening::{as_bytes, open_all, open_files, open_inputs};
+pub use opening::{as_bytes, open_all, open_files, open_inputs, open_named};
 pub use world::{OpenFault, World};

@@ -2,6 +2,7 @@
 
 ghost use Rattle.std.specs.Prelude.{◌≡◌, map, option_copied, option_map, string_bytes};
 ghost use Rattle.htl_world.specs.Openings.{AreOpened, IsTableRead, OpensAll, OpensInputsOf};
+ghost use Rattle.htl_world.specs.Openings.{OpensNamed};
 ghost use Rattle.htl_world.specs.Rounds.{unopened};
 ghost use Rattle.htl_world.specs.Worlds.{change};
 
@@ -22,6 +23,23 @@ pub fn open_all<W: World>(
         (option_copied symbols.entry) (map W.Input.state inputs.new.items) result }
 {
     open_inputs(alloc, world, names, inputs)?;
+    read_table(world, symbols)
+}
+
+/// Opens the files, and no standard input where there is none, and then reads the table of symbols.
+/// `inputs` has then what was opened.
+pub fn open_named<W: World>(
+    alloc: Global,
+    world: &mut W,
+    names: &[String],
+    symbols: Option<&String>,
+    inputs: &mut Vec<W::Input>,
+) -> Result<Option<Vec<u8>>, RunFault>
+    ensures { OpensNamed (change (W.state world.old) (W.state world.new)) names.now
+        (option_copied symbols.entry) (map W.Input.state inputs.new.items) result }
+{
+    inputs.clear();
+    *inputs = open_files(alloc, world, names)?;
     read_table(world, symbols)
 }
 

@@ -2,7 +2,7 @@
 use Rattle.std.proofs.Common.{◌≡◌, ◌≢◌, ◌⊎◌, ◌<◌, ◌≤◌, ℕ, Bool, true, false, List, [], ◌∷◌, ◌++◌, length, take}
 use Rattle.std.proofs.Common.{refl, sym, ap, ◌∙◌, subst, arith, inl, inr, append_assoc, append-nil, length-append}
 use Rattle.std.proofs.Common.{Option, Some, None, IfErr, IfOk, IfSome, MatchResult, Result, Ok, Err, Vec, Global}
-use Rattle.std.specs.Prelude.{Contains, OnOk, slice_get}
+use Rattle.std.specs.Prelude.{⊤, Contains, OnOk, slice_get}
 use Rattle.std.proofs.lemmas.Result.{on_ok_weaker}
 use Rattle.htl_event.proofs.Members.{Contains-here}
 use Rattle.htl_analyst.specs.States.{State}
@@ -492,17 +492,43 @@ pub read_to_fold : {S T : Type 0} (is_text : Bool) (old new : List SourceState) 
 read_to_fold is_text old new (Ok value) read = inl (read_late is_text old new value (ill faults.Memory) read tt)
 read_to_fold is_text old new (Err fault) read = inr (refl, fault, ends_too is_text old new fault read)
 
+-- ---- what holds of all that were taken
+
+module _ (setting : Setting) (before : List Content) (texts : List (List ℕ)) (Keeps : List Content → Type 0) (added : Added)
+    (is : IsFolded setting before texts Keeps added) where
+  -- what was read was read whatever else holds of all that were taken
+  pub keeps_too : (Holds : List Content → Type 0) → Holds (before ++ is.given) → IsFolded setting before texts Holds added
+  keeps_too Holds kept = record {
+    workers = is.workers;
+    given = is.given;
+    decoded = is.decoded;
+    accepted = is.accepted;
+    kept = kept;
+    some = is.some;
+    segments = is.segments;
+    new = is.new;
+    coverage = is.coverage;
+    cuts = is.cuts;
+    cut_ends = is.cut_ends;
+    whole = is.whole;
+    cut = is.cut;
+  }
+
+  -- and they are one list of segments, of which what is kept holds
+  pub took_all : (taken : List Content) × Keeps taken × IsFolded setting before texts (λ all. all ≡ taken) added
+  took_all = (before ++ is.given, is.kept, keeps_too (λ all. all ≡ before ++ is.given) refl)
+
 -- ---- at the beginning
 
 -- before the first reading nothing is folded
 pub nothing_folded : AreFolded None []
 nothing_folded = record { taken = refl; rising = λ s t first. absurd first; far = tt }
 
-module _ (setting : Setting) (symbols : Option (List ℕ)) (texts : List (List ℕ)) (after : List SourceState)
+module _ (setting : Setting) (symbols : Option (List ℕ)) (before : List Content) (texts : List (List ℕ)) (after : List SourceState)
     (Keeps : List Content → Type 0) where
-  -- the refusal of a first reading is one of a beginning
-  pub begins_refused : (fault : RunFault) → IsFoldingRefused (folding setting [] texts after) Keeps fault
-      → IsBeginningRefused setting symbols texts after fault
+  -- the refusal of a reading is one of a beginning
+  pub begins_refused : (fault : RunFault) → IsFoldingRefused (folding setting before texts after) Keeps fault
+      → IsBeginningRefused setting symbols before texts after fault
   begins_refused faults.Memory refused = refused
   begins_refused (faults.Symbols fault) refused = absurd (refused.why)
   begins_refused fault refused = record {
@@ -516,26 +542,9 @@ module _ (setting : Setting) (symbols : Option (List ℕ)) (texts : List (List �
   }
 
   -- a fault of the symbols, once all was read, is a refusal of a beginning
-  pub symbols_refused : (added : Added) (fault : RunFault) → IsFolded setting [] texts Keeps added → IsSymbolsFault symbols fault
-      → IsBeginningRefused setting symbols texts after fault
+  pub symbols_refused : (added : Added) (fault : RunFault) → IsFolded setting before texts Keeps added → IsSymbolsFault symbols fault
+      → IsBeginningRefused setting symbols before texts after fault
   symbols_refused added faults.Memory folded told = (folded.workers, inr (inr (folded.given, folded.decoded, folded.some)))
-  symbols_refused added (faults.Symbols fault) folded told = (
-    told,
-    added,
-    record {
-      workers = folded.workers;
-      given = folded.given;
-      decoded = folded.decoded;
-      accepted = folded.accepted;
-      kept = tt;
-      some = folded.some;
-      segments = folded.segments;
-      new = folded.new;
-      coverage = folded.coverage;
-      cuts = folded.cuts;
-      cut_ends = folded.cut_ends;
-      whole = folded.whole;
-      cut = folded.cut;
-    },
-  )
+  symbols_refused added (faults.Symbols fault) folded told =
+      (told, added, keeps_too setting before texts Keeps added folded (λ taken. ⊤) tt)
   symbols_refused added fault folded told = absurd told

@@ -5,7 +5,7 @@ use Rattle.htl_device.specs.States.{SourceState}
 use Rattle.htl_inputs.specs.Readings.{AreRead}
 use Rattle.htl_inputs.specs.Sources.{EndsBefore}
 use Rattle.htl_inputs.specs.declared.fault.RunFault.{RunFault}
-use Rattle.htl_inputs.specs.declared.fault.RunFault.TheVariants.{Case, Hex, Read, Segment, Text, Workers, Write}
+use Rattle.htl_inputs.specs.declared.fault.RunFault.TheVariants.{Case, Hex, Read, Segment, StateStacks, Text, Workers, Write}
 use Rattle.htl_inputs.proofs.ReadingLaws.{read_then, well}
 use Rattle.htl_main.specs.Picking.{EndsAnswer}
 
@@ -14,9 +14,10 @@ abbrev pub EndsPrinting : RunFault → Type 0
 EndsPrinting Write = ⊤
 EndsPrinting fault = EndsAnswer fault
 
--- a fault of the case of all segments, or of an answer over it
+-- a fault of the case of all segments, of an answer over it, or of its state
 abbrev pub IsLate : RunFault → Type 0
 IsLate (Case fault) = ⊤
+IsLate StateStacks = ⊤
 IsLate fault = EndsPrinting fault
 
 no_read : (fault : RunFault) (at : ℕ) → IsLate fault → fault ≢ Read at
@@ -41,4 +42,5 @@ read_late is_text old new value (Err fault) read late =
 
 pub printing_late : (fault : RunFault) → EndsPrinting fault → IsLate fault
 printing_late (Case fault) ends = tt
+printing_late StateStacks ends = tt
 printing_late fault ends = ends

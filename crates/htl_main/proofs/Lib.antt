@@ -28,3 +28,4 @@ pub mod FinalAnswers
 pub mod Foldable
 pub mod MergingLaws
 pub mod StatesLoaded
+pub mod StateWritten

@@ -263,11 +263,11 @@ abbrev pub IsFoldingRefused : Folding → (List Content → Type 0) → RunFault
 IsFoldingRefused of Keeps faults.Memory = AsksFoldsMemory of
 IsFoldingRefused of Keeps fault = IsFoldedUpTo of Keeps fault
 
--- Why a dialogue doesn't begin: a fault of its inputs, or else of the symbols.
-abbrev pub IsBeginningRefused : Setting → Option (List ℕ) → List (List ℕ) → List SourceState → RunFault → Type 0
-IsBeginningRefused setting symbols inputs after (faults.Symbols fault) =
-    HasSymbolFault symbols fault × (added : Added) × IsFolded setting [] inputs (λ taken. ⊤) added
-IsBeginningRefused setting symbols inputs after fault = IsFoldingRefused (folding setting [] inputs after) (λ taken. ⊤) fault
+-- Why a dialogue doesn't begin over inputs that come after the segments from before: a fault of the inputs, or else of the symbols.
+abbrev pub IsBeginningRefused : Setting → Option (List ℕ) → List Content → List (List ℕ) → List SourceState → RunFault → Type 0
+IsBeginningRefused setting symbols before inputs after (faults.Symbols fault) =
+    HasSymbolFault symbols fault × (added : Added) × IsFolded setting before inputs (λ taken. ⊤) added
+IsBeginningRefused setting symbols before inputs after fault = IsFoldingRefused (folding setting before inputs after) (λ taken. ⊤) fault
 
 -- The sources are read as by a run that ends so. Where memory was refused to fold what came before a fault, they were read as by a run that
 -- ends with that fault.

@@ -14,6 +14,7 @@ pub mod Asked
 pub mod Picked
 pub mod Runs
 pub mod SavedStates
+pub mod StateRuns
 pub mod Analysts
 pub mod Histories
 -- What only private contracts cite.

@@ -1,5 +1,5 @@
 -- How a run ends, what it leaves in the sink that its answer goes to, and how it reads its sources (this project's own).
-use Rattle.std.specs.Prelude.{◌≡◌, ◌≢◌, ℕ, true, false, List, [], Option, IfErr, IfOk, OnOk, Result, Ok, Err}
+use Rattle.std.specs.Prelude.{◌≡◌, ◌≢◌, ℕ, true, false, List, Option, IfErr, IfOk, OnOk, Result, Ok, Err}
 use Rattle.htl_analyst.specs.States.{State}
 use Rattle.htl_case.specs.Cases.{IsCase}
 use Rattle.htl_command.specs.declared.question.Job.{Job}
@@ -143,14 +143,17 @@ pub record FoldsAs (setting : Setting) (old new : List SourceState) (before afte
   pub readers : AskForReaders setting.form.hex setting.workers old new
   pub no_write : NeverWrite (by_fault result)
 
--- A dialogue that forgets begins with what inputs of these texts come to; or there is a reason why not.
-abbrev pub EndsBeginning : Setting → Option (List ℕ) → List (List ℕ) → List SourceState → Result (Folded × Added) Refused → Type 0
-EndsBeginning setting table texts new (Ok begun) = IsFolded setting [] texts (AreFolded begun.0.analyst) begun.1
-EndsBeginning setting table texts new (Err refused) = IsBeginningRefused setting table texts new refused.fault
+-- A dialogue that forgets begins with the segments from before and what inputs of these texts come to after them; or there is a reason why
+-- not.
+abbrev pub EndsBeginning : Setting → Option (List ℕ) → List Content → List (List ℕ) → List SourceState → Result (Folded × Added) Refused
+    → Type 0
+EndsBeginning setting table before texts new (Ok begun) = IsFolded setting before texts (AreFolded begun.0.analyst) begun.1
+EndsBeginning setting table before texts new (Err refused) = IsBeginningRefused setting table before texts new refused.fault
 
-pub record BeginsAs (setting : Setting) (table : Option (List ℕ)) (old new : List SourceState) (result : Result (Folded × Added) Refused)
-    : Type 0 where
-  pub outcome : IfKnown old (λ texts. EndsBeginning setting table texts new result)
+pub record BeginsAs (setting : Setting) (table : Option (List ℕ)) (first : Option State) (old new : List SourceState)
+    (result : Result (Folded × Added) Refused) : Type 0 where
+  pub outcome : (before : List Content) → AreFolded first before
+      → IfKnown old (λ texts. EndsBeginning setting table before texts new result)
   pub symbols : IfOk result (λ begun. HasSymbols table begun.0.symbols)
   pub workers : OnOk result (WorkersFit setting.workers)
   pub between : IfErr result (λ refused. IsHalfKnown refused.fault refused.between)

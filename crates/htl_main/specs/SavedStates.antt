@@ -1,6 +1,6 @@
 -- Saved states of what was folded, and what comes of merging one (this project's own).
 use Rattle.std.specs.Prelude.{◌≡◌, ◌≢◌, ◌<◌, ◌+◌, ◌^◌, ◌⊎◌, ◌++◌, ⊤, ℕ, Bool, true, List, [], Contains, length, Option, None, Some, Result}
-use Rattle.std.specs.Prelude.{Ok, Err, IfErr, OnOk}
+use Rattle.std.specs.Prelude.{Ok, Err, IfErr, OnOk, is_some}
 use Rattle.htl_analyst.specs.States.{State}
 use Rattle.htl_case.specs.Faults.{HaveOneContent, key_of}
 use Rattle.htl_case.specs.declared.fault.CaseFault.TheVariants as cases
@@ -121,7 +121,7 @@ IsUnsaved (Some a) faults.StateStacks = (rows : Rows) → AreRowsOf a rows → 2
 IsUnsaved analyst faults.Memory = ⊤
 IsUnsaved analyst fault = ⊥
 
--- the bytes are the state of whatever segments were folded
-abbrev pub IsStateOfFolded : Folded → List ℕ → Type 0
-IsStateOfFolded folded bytes =
-    (taken : List Content) (T : Trace) → AreFolded folded.analyst taken → taken ≢ [] → IsCollectionOf taken T → IsStateOf bytes taken
+-- Something was folded, and the bytes are the state of whatever segments that was.
+pub record IsStateOfFolded (folded : Folded) (bytes : List ℕ) : Type 0 where
+  pub some : is_some folded.analyst ≡ true
+  pub state : (taken : List Content) (T : Trace) → AreFolded folded.analyst taken → IsCollectionOf taken T → IsStateOf bytes taken

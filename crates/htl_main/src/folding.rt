@@ -1,14 +1,15 @@
 //! A reading that forgets: segments are folded as they come, and no event is kept.
 //!
 //! `taking.rt` takes the segments of sources, `folder.rt` folds them, `falling.rt` finds which one
-//! falls once another one is taken, `answers.rt` answers over what was folded, and `states.rt` saves
-//! and merges its state.
+//! falls once another one is taken, `answers.rt` answers over what was folded, `states.rt` makes and
+//! merges its state, and `writing.rt` folds sources and writes it.
 
 mod answers;
 mod falling;
 mod folder;
 mod states;
 mod taking;
+mod writing;
 
 ghost use Rattle.std.specs.Prelude.{◌≡◌, List, Some, None, true, map, IfErr, IfOk};
 ghost use Rattle.std.specs.Option.{option_copied};
@@ -38,6 +39,7 @@ use htl_symbols::Symbols;
 pub use states::{merge_state, state_bytes};
 use std::alloc::Global;
 use std::thread::Threads;
+pub use writing::fold_from;
 
 /// What was folded of the segments that were read, and the names of addresses. No event is kept,
 /// but for those of segments that wait for others with lower numbers.
@@ -49,7 +51,19 @@ pub struct Folded {
 }
 
 impl Folded {
+    ghost use Rattle.std.specs.Prelude.{◌≡◌, [], None};
     ghost use Rattle.htl_main.specs.Folders.{number_of};
+
+    /// What there is before anything was folded, with no names.
+    pub fn none(alloc: Global) -> Folded
+        ensures analyst { result.analyst ≡ None }
+        ensures symbols { result.symbols ≡ [] }
+    {
+        Folded {
+            analyst: None,
+            symbols: Symbols::none(alloc),
+        }
+    }
 
     /// How many segments were taken, each key once.
     fn number(&self) -> u64
@@ -62,30 +76,30 @@ impl Folded {
     }
 }
 
-/// Reads all sources and folds their segments. A dialogue that forgets events begins so.
+/// Reads all sources and folds their segments, after those that were folded before. A dialogue that
+/// forgets events begins so.
 ///
-/// The symbols are read last. No segment at all is a fault (C1).
+/// The symbols are read last, and take the place of those from before. No segment at all, here or
+/// before, is a fault (C1).
 pub fn load_folded<Rt: Threads + Sync, R: Parted>(
     rt: &Rt,
     alloc: Global,
     setting: Setting,
+    mut folded: Folded,
     inputs: &mut [R],
     symbols: Option<&[u8]>,
 ) -> Result<(Folded, Added), Refused>
     requires ready { AreOpen (map R.state inputs.old) }
-    ensures { BeginsAs setting (option_copied symbols.entry) (map R.state inputs.old)
-        (map R.state inputs.new) result }
+    ensures { BeginsAs setting (option_copied symbols.entry) folded.analyst
+        (map R.state inputs.old) (map R.state inputs.new) result }
 {
     check_workers(setting.workers)?;
-    let mut folded = Folded {
-        analyst: None,
-        symbols: Symbols::none(alloc),
-    };
+    let before = folded.number();
     let (taken, far) = take_all(rt, alloc, setting, &mut folded, inputs);
     // A fault is reported first: nothing is kept of a dialogue that doesn't begin.
     let taken = taken?;
     far?;
-    let added = added_to(alloc, setting.complete, &folded, 0, taken)?;
+    let added = added_to(alloc, setting.complete, &folded, before, taken)?;
     folded.symbols = symbols_of(alloc, symbols)?;
     Ok((folded, added))
 }

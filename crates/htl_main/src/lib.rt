@@ -16,13 +16,14 @@
 //! more sources; or the two segments that a fault is about), `printing.rt` (the run over bytes in
 //! memory, and the steps of all runs), `origin.rt` (where these two segments came from),
 //! `coverage.rt` (what a case misses of its trace), `completed.rt` (what a run reports beside its
-//! answer), `remarks.rt` (what is told of it beside its lines), `picks.rt` with `picks/` (the
-//! run that keeps only what its question asks about), `folding.rt` with `folding/` (sources that are
-//! read and forgotten, and answers over what was folded, whose state is saved and merged in
-//! `states.rt`), `refused.rt` (a fault and the two segments it is about), `laws.rt` (a run has one
-//! outcome, inputs have one coverage, runs and analysts give the same answers and summaries, the
-//! segments of a case are the first of their keys, and there are analysts of every history),
-//! `folding_laws.rt` (which segments are taken isn't told by when they are folded).
+//! answer), `remarks.rt` (what is told of it beside its lines), `picks.rt` with `picks/` (the run
+//! that keeps only what its question asks about), `folding.rt` with `folding/` (sources that are
+//! read and forgotten, and answers over what was folded, whose state is made and merged in
+//! `states.rt` and written in `writing.rt`), `refused.rt` (a fault and the two segments it is
+//! about), `laws.rt` (a run has one outcome, inputs have one coverage, runs and analysts give the
+//! same answers and summaries, the segments of a case are the first of their keys, and there are
+//! analysts of every history), `folding_laws.rt` (which segments are taken isn't told by when they
+//! are folded).
 //!
 //! The segments of the inputs, their faults, and how sources are read stand in `htl_inputs`. From
 //! there `specs/` goes on, in the order of `specs/Lib`: `Completeness` (whether segments are
@@ -34,8 +35,9 @@
 //! loaded before a question is answered), `Adding` (what more sources add to it), `Folding` (what a
 //! reading that forgets folds of its sources), `Asked` (why that isn't asked), `Picked` (what a run
 //! that keeps only what its question asks about reports, and when only whole segments tell),
-//! `SavedStates` (of which segments a state is, and what comes of merging it), `Analysts` (what an
-//! analyst answers of a summary) and `Histories` (that an analyst can go through any history).
+//! `SavedStates` (of which segments a state is, and what comes of merging it), `StateRuns` (how a
+//! run ends that writes the state of its sources), `Analysts` (what an analyst answers of a
+//! summary) and `Histories` (that an analyst can go through any history).
 #![tactic(auto)]
 
 mod completed;
@@ -53,7 +55,7 @@ mod streaming;
 
 pub use completed::{Absence, Completed, absence_of, since_of};
 pub use coverage::Coverage;
-pub use folding::{Folded, fold, folded_text, load_folded, merge_state, state_bytes};
+pub use folding::{Folded, fold, fold_from, folded_text, load_folded, merge_state, state_bytes};
 pub use htl_command::{Job, ParseFault, parse};
 pub use htl_device::{Reading, Sink, Source, Writing};
 pub use htl_event::Interest;

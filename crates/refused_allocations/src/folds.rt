@@ -74,7 +74,14 @@ fn before(alloc: Global) -> Result<Vec<u8>, Refusal> {
 /// What is folded of a first source.
 fn begun<R: Threads + Sync>(rt: &R, alloc: Global, bytes: &[u8]) -> Result<Folded, Refusal> {
     let mut sources = [Reading::new(bytes)];
-    let (folded, _) = load_folded(rt, alloc, setting(1), &mut sources, None)?;
+    let (folded, _) = load_folded(
+        rt,
+        alloc,
+        setting(1),
+        Folded::none(alloc),
+        &mut sources,
+        None,
+    )?;
     Ok(folded)
 }
 
@@ -137,11 +144,10 @@ fn unfolded<R: Threads + Sync>(rt: &R, alloc: Global, follows: bool) -> Result<F
 
 /// What was folded before, or nothing.
 fn earlier<R: Threads + Sync>(rt: &R, alloc: Global, follows: bool) -> Result<Folded, Refusal> {
-    let mut folded = begun(rt, alloc, &before(alloc)?)?;
     if !follows {
-        folded.analyst = None;
+        return Ok(Folded::none(alloc));
     }
-    Ok(folded)
+    begun(rt, alloc, &before(alloc)?)
 }
 
 /// How many segments the source has, and how much of the trace is there. How many are new isn't

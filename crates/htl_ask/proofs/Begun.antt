@@ -7,7 +7,7 @@ use Rattle.htl_dialogue.specs.declared.dialogue.Conversed.{Conversed}
 use Rattle.htl_dialogue.specs.declared.dialogue.DialogueFault.{DialogueFault}
 use Rattle.htl_dialogue.specs.declared.dialogue.DialogueFault.TheVariants.{Questions, Write, NoMemory}
 use Rattle.htl_dialogue.specs.declared.note.Note.TheVariants as hear
-use Rattle.htl_ask.specs.Asking.{BeginsAndGets, Opening}
+use Rattle.htl_ask.specs.Beginnings.{BeginsAndGets, Opening}
 
 module _ {S Speaker : Type 0} (answers : Answers S) (wanted : Bool) (before : S) (text : List ℕ) (old new : Option (List ℕ))
     (told : Speaker → OwnNote → Speaker) (speaker begun after : Speaker) (names : List (List ℕ)) (opening : Opening)

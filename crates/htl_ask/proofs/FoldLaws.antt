@@ -1,15 +1,16 @@
 -- What is said of what was folded is said of the segments that were taken, also once more files are folded.
-use Rattle.std.proofs.Common.{◌≡◌, ◌≢◌, ◌∙◌, ℕ, List, [], ◌++◌, map, refl, inl, inr}
-use Rattle.std.specs.Prelude.{IfErr, Result, Ok, Err, Vec}
+use Rattle.std.proofs.Common.{◌≡◌, ◌≢◌, ◌∙◌, ℕ, List, [], ◌++◌, None, Option, Some, map, refl, inl, inr, true}
+use Rattle.std.specs.Prelude.{IfErr, IfSome, Result, Ok, Err, Vec}
+use Rattle.htl_analyst.specs.States.{State as Analyst}
 use Rattle.htl_segment.specs.Content.{Content}
 use Rattle.htl_command.specs.declared.question.Setting.{Setting}
-use Rattle.htl_device.specs.States.{SourceState}
+use Rattle.htl_device.specs.States.{SourceState, remaining}
 use Rattle.htl_inputs.specs.Readings.{AreRead}
 use Rattle.htl_inputs.specs.declared.fault.RunFault.{RunFault}
 use Rattle.htl_inputs.specs.declared.fault.RunFault.TheVariants as faults
 use Rattle.htl_main.specs.Folding.{AreFolded, AreReadToFold, Folding, IsFolded, IsFoldedUpTo, IsFoldingRefused, IsHalfKnown, folding}
 use Rattle.htl_main.specs.Origins.{by_fault}
-use Rattle.htl_main.specs.Runs.{EndsFolding, FoldsAs}
+use Rattle.htl_main.specs.Runs.{BeginsAs, EndsFolding, FoldsAs}
 use Rattle.htl_main.specs.declared.loading.adding.Added.{Added}
 use Rattle.htl_main.specs.declared.folding.Folded.{Folded}
 use Rattle.htl_main.specs.declared.refused.Refused.{Refused}
@@ -18,8 +19,10 @@ use Rattle.htl_world.specs.Readings.{IsUnopenedFor}
 use Rattle.htl_world.specs.Worlds.{Known, WorldChange}
 use Rattle.htl_world.proofs.FirstAbsent.{held_memory}
 use Rattle.htl_world.proofs.NamesRead.{lefts_of}
-use Rattle.htl_ask.specs.Asking.{GoesOn, IsFolding}
-use Rattle.htl_ask.specs.Loads.{FoldsFiles}
+use Rattle.htl_ask.specs.Asking.{GoesOn, IsFolding, segments}
+use Rattle.htl_ask.specs.Beginnings.{IsBeginsBetween, IsBeginsCause}
+use Rattle.htl_ask.specs.Loads.{FoldsFiles, IsBegun}
+use Rattle.htl_ask.specs.declared.kept.Kept.TheVariants.{State}
 use Rattle.htl_ask.proofs.LinesRead.{none_is_absent, all_read, none_read}
 
 -- What holds of all that were taken holds of a list that these are.
@@ -141,3 +144,36 @@ module _ (world : WorldChange) (setting : Setting) (before : Folded) (names : Li
           → IsFolding (folding setting taken texts (map state now)) (AreFolded after.analyst) ended
       as_folding (Ok added) taken texts folded between = folded
       as_folding (Err refused) taken texts why between = (why, between)
+
+-- ---- how a dialogue begins that folds
+
+module _ {setting : Setting} {symbols : Option (List ℕ)} {first : Option Analyst} {old new : List SourceState} where
+  -- Inputs were folded behind what states tell, where this is known.
+  pub begun_folded : {folded : Folded} {added : Added} → BeginsAs setting symbols first old new (Ok (folded, added))
+      → (told : Option (List Content)) → IfSome told (AreFolded first) → (texts : List (List ℕ))
+      → map remaining old ≡ map (λ text. Some text) texts
+      → IsBegun true setting told symbols texts (record { kept = State folded; coverage = added.coverage; cut = added.cut })
+  begun_folded {folded = folded} {added = added} is None are texts all =
+      record { read = None; kept = tt; opens = (folded.symbols, is.symbols) }
+  begun_folded {folded = folded} {added = added} is (Some before) are texts all =
+      let now = took_all setting before texts (AreFolded folded.analyst) added (is.outcome before are texts all) in
+      record {
+        read = Some (segments now.0);
+        kept = (now.1, is.symbols);
+        opens = record {
+          added = added;
+          folded = now.2;
+          names = folded.symbols;
+          named = is.symbols;
+          coverage = refl;
+          cut = refl;
+        };
+      }
+
+  -- Or there is a reason why not.
+  pub not_begun : {refused : Refused} → BeginsAs setting symbols first old new (Err refused)
+      → (told : Option (List Content)) → IfSome told (AreFolded first) → (texts : List (List ℕ))
+      → map remaining old ≡ map (λ text. Some text) texts
+      → IsBeginsCause true setting told symbols texts new refused.fault × IsBeginsBetween true setting texts refused.fault refused.between
+  not_begun is None are texts all = (tt, is.between)
+  not_begun is (Some before) are texts all = (is.outcome before are texts all, is.between)

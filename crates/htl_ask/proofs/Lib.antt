@@ -3,6 +3,7 @@ pub mod LoadLaws
 pub mod FoldLaws
 pub mod KeptLaws
 pub mod StateLaws
+pub mod RestoringLaws
 pub mod FirstFaults
 pub mod Written
 pub mod StateOutcomes

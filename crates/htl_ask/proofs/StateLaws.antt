@@ -1,6 +1,6 @@
 -- What is said of a saved state that is merged into what was folded, or made of it, is said of the segments that were taken.
 use Rattle.std.proofs.Common.{◌≡◌, ◌≢◌, ◌∙◌, ◌++◌, ℕ, Bool, false, true, List, [], None, Option, Some, inl, inr, refl, subst, sym}
-use Rattle.std.specs.Prelude.{IfErr, IfSome, if◌then◌else◌, Result, Ok, Err, length}
+use Rattle.std.specs.Prelude.{◌⊎◌, IfErr, IfSome, OnOk, if◌then◌else◌, is_some, Result, Ok, Err}
 use Rattle.htl_analyst.specs.States.{State as Analyst}
 use Rattle.htl_case.specs.declared.fault.CaseFault.TheVariants as cases
 use Rattle.htl_command.specs.declared.question.Setting.{Setting}
@@ -13,17 +13,17 @@ use Rattle.htl_main.specs.SavedStates.{AreOfOne, EndsMerging, IsNoState, IsState
 use Rattle.htl_main.specs.declared.folding.Folded.{Folded}
 use Rattle.htl_main.specs.declared.loading.adding.Added.{Added}
 use Rattle.htl_main.specs.declared.refused.Refused.{Refused}
+use Rattle.htl_saved.specs.Loads.{IsLoaded}
 use Rattle.htl_segment.specs.Content.{Content}
-use Rattle.htl_segment.specs.Traces.{Trace}
 use Rattle.htl_world.specs.Worlds.{Known}
-use Rattle.htl_ask.specs.Asking.{GoesOn, IsMergesFault, KnownStates, MergesName, MergesTold, SavesName, SavesSegments, Taken, if_of_one, inputs}
-use Rattle.htl_ask.specs.Asking.{merged_unknown, segments}
+use Rattle.htl_ask.specs.Asking.{GoesOn, IsMergesFault, IsSavedState, KnownStates, MergesName, MergesState, MergesTold, SavesName, SavesSegments}
+use Rattle.htl_ask.specs.Asking.{Taken, if_of_one, inputs, merged_unknown, segments}
 use Rattle.htl_ask.specs.Loads.{AreKept, MergesFile, MergesFolded, SavesFile, SavesFolded}
 use Rattle.htl_ask.specs.declared.kept.Kept.{Kept}
 use Rattle.htl_ask.specs.declared.kept.Kept.TheVariants.{Case, State}
 use Rattle.htl_ask.proofs.KeptLaws.{Holds}
 
-fault_of_run : (x y : RunFault) → ◌≡◌ {A = Result Added RunFault} (Err x) (Err y) → x ≡ y
+pub fault_of_run : (x y : RunFault) → ◌≡◌ {A = Result Added RunFault} (Err x) (Err y) → x ≡ y
 fault_of_run x y e = cc
 
 -- what is no state, as a name is known to hold it
@@ -72,6 +72,66 @@ module _ (complete : Bool) (before told : List Content) (old now : Option Analys
       let is = all one in (is.0, (asked, λ same. (refl, is.1)))
   merged_then (Err faults.Memory) known is = absurd (known refl)
   merged_then (Err fault) known is = absurd is
+
+-- The state of a name was to be merged into what was folded.
+module _ (world : Known) (setting : Setting) (name : List ℕ) (before after : Folded) where
+  -- why it isn't merged
+  pub merges_fault : (fault : RunFault) → MergesFolded world setting before name after (Err fault)
+      → IsMergesFault (world.holds name) fault ⊎ (fault ≡ faults.Memory)
+  merges_fault fault (inr (inl (told, none, same))) =
+      let read : fault ≡ faults.StateRead 0 = fault_of_run fault (faults.StateRead 0) told in inl (rw read (refl, none))
+  merges_fault fault (inr (inr memory)) = inr (fault_of_run fault faults.Memory memory)
+  merges_fault (faults.State place offset fault) (inl (bytes, held, there, is)) =
+      inl (no_state (world.holds name) bytes (faults.State place offset fault) held is.no_state.0)
+  merges_fault (faults.Unbounded place processor) (inl (bytes, held, there, is)) =
+      inl (no_state (world.holds name) bytes (faults.Unbounded place processor) held is.no_state.0)
+  merges_fault (faults.Case fault) (inl (bytes, held, there, is)) = inl tt
+  merges_fault (faults.Incomplete processor number) (inl (bytes, held, there, is)) = inl tt
+  merges_fault faults.Memory (inl (bytes, held, there, is)) = inr refl
+  merges_fault fault (inl (bytes, held, there, is)) = absurd is.no_state
+
+  -- what was merged is a state
+  pub merges_state : (added : Added) → MergesFolded world setting before name after (Ok added) → IsSavedState world name
+  merges_state added (inl (bytes, held, there, is)) = record { there = there; loaded = as_held (world.holds name) held }
+    where
+      as_held : (held : Option (List ℕ)) → IfSome held (λ known. bytes ≡ known)
+          → IfSome held (λ known. (analyst : Analyst) × IsLoaded known analyst)
+      as_held None same = tt
+      as_held (Some known) same = subst (λ b. (analyst : Analyst) × IsLoaded b analyst) same is.loaded
+  merges_state added (inr (inl unread)) = absurd (cc unread.0)
+  merges_state added (inr (inr memory)) = absurd (cc memory)
+
+  merges_loaded : (ended : Result Added Refused) → MergesFolded world setting before name after (by_fault ended)
+      → OnOk ended (IsSavedState world name)
+  merges_loaded (Ok added) is = merges_state added is
+  merges_loaded (Err refused) is = tt
+
+  merges_faults : (ended : Result Added Refused) → GoesOn ended → MergesFolded world setting before name after (by_fault ended)
+      → IfErr ended (λ refused. IsHalfKnown refused.fault refused.between)
+      → IfErr ended (λ refused. IsMergesFault (world.holds name) refused.fault × IsHalfKnown refused.fault refused.between)
+  merges_faults (Ok added) goes_on is between = tt
+  merges_faults (Err refused) goes_on is between =
+      elim (merges_fault refused.fault is) [
+        | inl why ↦ (why, between)
+        | inr memory ↦ absurd (goes_on memory)
+      ]
+
+  -- where there is nothing under the name, that is reported
+  merges_absent : (ended : Result Added RunFault) → IsKnown ended → MergesFolded world setting before name after ended
+      → world.is_absent name ≡ true → ended ≡ Err (faults.StateRead 0)
+  merges_absent ended known (inl (bytes, held, there, is)) absent = absurd (let both = sym there ∙ absent in cc both)
+  merges_absent ended known (inr (inl unread)) absent = unread.0
+  merges_absent ended known (inr (inr memory)) absent = absurd (known memory)
+
+  -- that ended so, in a dialogue that goes on
+  merges_so : (ended : Result Added Refused) → GoesOn ended → MergesFolded world setting before name after (by_fault ended)
+      → IfErr ended (λ refused. IsHalfKnown refused.fault refused.between) → MergesState world name ended
+  merges_so ended goes_on is between = record {
+    goes_on = goes_on;
+    absent = merges_absent (by_fault ended) (goes_on_known ended goes_on) is;
+    loaded = merges_loaded ended is;
+    fault = merges_faults ended goes_on is between;
+  }
 
 -- A state that a name gave was to be merged into what was folded.
 module _ (world : Known) (states : KnownStates world.holds) (setting : Setting) (symbols : Option (List ℕ)) (name : List ℕ) (before after : Folded)
@@ -147,55 +207,19 @@ module _ (world : Known) (states : KnownStates world.holds) (setting : Setting) 
           by_absent true absent = absent_leads (if_of_one (states.are_of_one taken) (states.tells name)) ended known is absent
           by_absent false there = by_told (states.tells name) (states.states name)
 
-    -- why a state isn't merged
-    merges_fault : (fault : RunFault) → IsKnown (Err fault) → MergesFolded world setting before name after (Err fault)
-        → IsMergesFault (world.holds name) fault
-    merges_fault fault known (inr (inl (told, none, same))) =
-        let read : fault ≡ faults.StateRead 0 = fault_of_run fault (faults.StateRead 0) told in rw read (refl, none)
-    merges_fault fault known (inr (inr memory)) = absurd (known memory)
-    merges_fault (faults.State place offset fault) known (inl (bytes, held, there, is)) =
-        no_state (world.holds name) bytes (faults.State place offset fault) held is.no_state.0
-    merges_fault (faults.Unbounded place processor) known (inl (bytes, held, there, is)) =
-        no_state (world.holds name) bytes (faults.Unbounded place processor) held is.no_state.0
-    merges_fault (faults.Case fault) known (inl (bytes, held, there, is)) = tt
-    merges_fault (faults.Incomplete processor number) known (inl (bytes, held, there, is)) = tt
-    merges_fault faults.Memory known (inl (bytes, held, there, is)) = absurd (known refl)
-    merges_fault fault known (inl (bytes, held, there, is)) = absurd is.no_state
-
-    merges_faults : (ended : Result Added Refused) → GoesOn ended → MergesFolded world setting before name after (by_fault ended)
-        → IfErr ended (λ refused. IsHalfKnown refused.fault refused.between)
-        → IfErr ended (λ refused. IsMergesFault (world.holds name) refused.fault × IsHalfKnown refused.fault refused.between)
-    merges_faults (Ok added) goes_on is between = tt
-    merges_faults (Err refused) goes_on is between =
-        (merges_fault refused.fault (goes_on_known (Err refused) goes_on) is, between)
-
-    -- where there is nothing under the name, that is reported
-    merges_absent : (ended : Result Added RunFault) → IsKnown ended → MergesFolded world setting before name after ended
-        → world.is_absent name ≡ true → ended ≡ Err (faults.StateRead 0)
-    merges_absent ended known (inl (bytes, held, there, is)) absent = absurd (let both = sym there ∙ absent in cc both)
-    merges_absent ended known (inr (inl unread)) absent = unread.0
-    merges_absent ended known (inr (inr memory)) absent = absurd (known memory)
-
 -- Where a state is merged into what is kept, what is kept then is of what was read then.
 module _ (world : Known) (states : KnownStates world.holds) (setting : Setting) (symbols : Option (List ℕ)) (name : List ℕ) where
   pub merging_one : (before : Kept) (read : Option Taken) (after : Kept) (ended : Result Added Refused) → Holds setting symbols before read
       → MergesFile world setting before name after ended
       → (later : Option Taken) × Holds setting symbols after later × MergesName world states setting read name later ended
-  merging_one (State before) None (State after) ended holds is = (None, record { covered = tt; are = tt }, refl)
+  merging_one (State before) None (State after) ended holds (merges, goes_on, between) =
+      (None, record { covered = tt; are = tt }, (merges_so world setting name before after ended goes_on merges between, refl))
   merging_one (State before) (Some (inputs texts)) (State after) ended holds is = absurd holds.are
   merging_one (State before) (Some (segments taken)) (State after) ended holds (merges, goes_on, between) =
       let are : AreFolded before.analyst taken × HasSymbols symbols before.symbols = holds.are in
       let known = goes_on_known ended goes_on in
-      let later = leads world states setting symbols name before after taken are.0 are.1 (by_fault ended) known merges in (
-        later.0,
-        later.1,
-        record {
-          goes_on = goes_on;
-          absent = merges_absent world states setting symbols name before after (by_fault ended) known merges;
-          fault = merges_faults world states setting symbols name before after ended goes_on merges between;
-          merges = later.2;
-        },
-      )
+      let later = leads world states setting symbols name before after taken are.0 are.1 (by_fault ended) known merges in
+      (later.0, later.1, (merges_so world setting name before after ended goes_on merges between, later.2))
   merging_one (Case before) read after ended holds is = absurd is
   merging_one (State before) read (Case after) ended holds is = absurd is
 
@@ -203,7 +227,12 @@ module _ (world : Known) (states : KnownStates world.holds) (setting : Setting) 
 
 saves_segments : (folded : Folded) (taken : List Content) → AreFolded folded.analyst taken → (ended : Result ℕ RunFault)
     → SavesFolded folded ended → SavesSegments taken ended
-saves_segments folded taken are (Ok count) (bytes, size, state) = (bytes, size, λ T some all. state taken T are some all)
+saves_segments folded taken are (Ok count) (bytes, size, is) =
+    (some_folded folded.analyst are is.some, bytes, size, λ T all. is.state taken T are all)
+  where
+    some_folded : (analyst : Option Analyst) → AreFolded analyst taken → is_some analyst ≡ true → taken ≢ []
+    some_folded None are some = absurd (cc some)
+    some_folded (Some a) are some = are.taken.0
 saves_segments folded taken are (Err (faults.Case cases.Empty)) is = none_taken folded.analyst are is.0
   where
     none_taken : (analyst : Option Analyst) → AreFolded analyst taken → analyst ≡ None → taken ≡ []

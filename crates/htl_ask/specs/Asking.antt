@@ -2,44 +2,37 @@
 -- inputs, where their segments are kept, or the segments that were taken, where these are forgotten. A question gets the text that a run of
 -- its own over these prints, or isn't answered while a segment is missing of a trace that is asked for complete.
 use Rattle.std.specs.Prelude.{◌≡◌, ◌≢◌, ◌≤◌, ◌⊎◌, ◌++◌, ◌∷◌, [], ⊤, ℕ, Bool, true, false, List, Option, None, Some, Result, Ok, Err, IfErr}
-use Rattle.std.specs.Prelude.{IfSome, if◌then◌else◌, is_some, length, map}
+use Rattle.std.specs.Prelude.{IfSome, OnOk, if◌then◌else◌, is_some, length, map}
+use Rattle.htl_analyst.specs.States.{State as Analyst}
 use Rattle.htl_case.specs.Cases.{IsCaseOf}
 use Rattle.htl_case.specs.declared.fault.CaseFault.TheVariants.{Empty}
 use Rattle.htl_command.specs.declared.question.Job.{Job}
 use Rattle.htl_command.specs.declared.question.Setting.{Setting}
-use Rattle.htl_device.specs.States.{SourceState, ends, good_reads, has_failed, lefts}
+use Rattle.htl_device.specs.States.{SourceState, good_reads, has_failed}
 use Rattle.htl_device.specs.declared.whole.TheConstants.{MAX_READS}
-use Rattle.htl_inputs.specs.CutInputs.{AreCut}
 use Rattle.htl_inputs.specs.Inputs.{DecodeAll}
 use Rattle.htl_inputs.specs.Sources.{IsEndless, IsTrueAt}
-use Rattle.htl_inputs.specs.declared.cuts.CutInputs.{CutInputs}
 use Rattle.htl_inputs.specs.declared.fault.RunFault.{RunFault}
 use Rattle.htl_inputs.specs.declared.fault.RunFault.TheVariants.{Case, Incomplete, Memory, Read, State, StateRead, StateStacks, StateWrite}
 use Rattle.htl_inputs.specs.declared.fault.RunFault.TheVariants.{Unbounded}
-use Rattle.htl_dialogue.specs.Dialogues.{Answers, Gets, answers_by}
+use Rattle.htl_dialogue.specs.Dialogues.{Answers, answers_by}
 use Rattle.htl_dialogue.specs.Lines.{lines_of_dialogue}
-use Rattle.htl_dialogue.specs.Notes.{OwnNote}
 use Rattle.htl_dialogue.specs.declared.dialogue.DialogueFault.TheVariants.{Questions, Write}
-use Rattle.htl_dialogue.specs.declared.note.Note.TheVariants as hear
 use Rattle.htl_main.specs.Completeness.{IsComplete, IsLeastMissing}
-use Rattle.htl_main.specs.Coverages.{IsCoverage}
-use Rattle.htl_main.specs.Folding.{Folding, IsAskedOver, IsBeginningRefused, IsCollectionOf, IsFolded, IsFoldingRefused, IsHalfKnown}
-use Rattle.htl_main.specs.Folding.{folding}
-use Rattle.htl_main.specs.Loading.{AreLoadedOf, in_setting}
-use Rattle.htl_main.specs.Origins.{IsBetween, by_fault}
+use Rattle.htl_main.specs.Folding.{Folding, IsAskedOver, IsCollectionOf, IsFolded, IsFoldingRefused, IsHalfKnown, folding}
+use Rattle.htl_main.specs.Loading.{in_setting}
+use Rattle.htl_main.specs.Origins.{by_fault}
 use Rattle.htl_main.specs.Printed.{HasSymbols, IsText, Printed}
-use Rattle.htl_main.specs.Causes.{IsSourcesCause}
 use Rattle.htl_main.specs.Remarks.{RemarksOver, ReportsRemarks}
 use Rattle.htl_main.specs.Runs.{EndsAdding, RunsOut}
 use Rattle.htl_main.specs.SavedStates.{AreOfOne, EndsMerging, IsNoState, IsStateOf}
 use Rattle.htl_main.specs.Subjects.{ReportsAbsence}
 use Rattle.htl_main.specs.declared.loading.adding.Added.{Added}
 use Rattle.htl_main.specs.declared.completed.Absence.{Absence}
-use Rattle.htl_main.specs.declared.coverage.Coverage.{Coverage}
-use Rattle.htl_main.specs.declared.origin.Between.{Between}
 use Rattle.htl_main.specs.declared.printing.AnswerText.{AnswerText}
 use Rattle.htl_main.specs.declared.refused.Refused.{Refused}
 use Rattle.htl_main.specs.declared.remarks.Remarks.{Remarks}
+use Rattle.htl_saved.specs.Loads.{IsLoaded}
 use Rattle.htl_segment.specs.Content.{Content}
 use Rattle.htl_segment.specs.Traces.{Trace}
 use Rattle.htl_symbols.specs.Ranges.{Range}
@@ -199,6 +192,11 @@ pub record KnownStates (holds : List ℕ → Option (List ℕ)) : Type 0 where
   pub states : (name : List ℕ) → IfSome (tells name) (λ told. (bytes : List ℕ) × (holds name ≡ Some bytes) × IsStateOf bytes told)
   pub sound : (before told : List Content) → are_of_one before told ≡ true → AreOfOne before told
 
+-- A name can be read, and what it holds is a state, where that is known.
+pub record IsSavedState (world : Known) (name : List ℕ) : Type 0 where
+  pub there : world.is_absent name ≡ false
+  pub loaded : IfSome (world.holds name) (λ bytes. (analyst : Analyst) × IsLoaded bytes analyst)
+
 -- the segments of a state, where these and others are known to be of one trace
 abbrev pub if_of_one : (List Content → Bool) → Option (List Content) → Option (List Content)
 if_of_one are None = None
@@ -229,27 +227,27 @@ MergesTold complete before false None after ended = after ≡ merged_unknown bef
 MergesTold complete before false (Some told) after ended =
     EndsMerging complete before told (λ all. after ≡ Some (segments all)) (after ≡ Some (segments before)) ended
 
--- The state of a name was to be merged into what was folded of these segments, and that ended so.
-pub record MergesInto (world : Known) (states : KnownStates world.holds) (setting : Setting) (before : List Content) (name : List ℕ)
-    (after : Option Taken) (ended : Result Added Refused) : Type 0 where
+-- The state of a name was to be merged into what was folded, whatever that was, and that ended so.
+pub record MergesState (world : Known) (name : List ℕ) (ended : Result Added Refused) : Type 0 where
   pub goes_on : GoesOn ended
   pub absent : world.is_absent name ≡ true → by_fault ended ≡ Err (StateRead 0)
+  pub loaded : OnOk ended (IsSavedState world name)
   pub fault : IfErr ended (λ refused. IsMergesFault (world.holds name) refused.fault × IsHalfKnown refused.fault refused.between)
-  pub merges : MergesTold setting.complete before (world.is_absent name) (if_of_one (states.are_of_one before) (states.tells name)) after
-      (by_fault ended)
 
--- The same of what was read before, as far as that is known. Where segments are kept, no line merges a state.
+-- The same where this was read before, as far as that is known, and what that leads to. Where segments are kept, no line merges a state.
 abbrev pub MergesName : (world : Known) → KnownStates world.holds → Setting → Option Taken → List ℕ → Option Taken → Result Added Refused
     → Type 0
-MergesName world states setting None name after ended = after ≡ None
+MergesName world states setting None name after ended = MergesState world name ended × (after ≡ None)
 MergesName world states setting (Some (inputs texts)) name after ended = ⊥
-MergesName world states setting (Some (segments before)) name after ended = MergesInto world states setting before name after ended
+MergesName world states setting (Some (segments before)) name after ended =
+    MergesState world name ended × MergesTold setting.complete before (world.is_absent name)
+    (if_of_one (states.are_of_one before) (states.tells name)) after (by_fault ended)
 
 -- How the saving of these segments ends: so many bytes were written, which are their state. Nothing is saved where there is none, where
 -- there are too many stacks, or where the bytes couldn't be written.
 abbrev pub SavesSegments : List Content → Result ℕ RunFault → Type 0
 SavesSegments taken (Ok count) =
-    (bytes : List ℕ) × (count ≡ length bytes) × ((T : Trace) → taken ≢ [] → IsCollectionOf taken T → IsStateOf bytes taken)
+    (taken ≢ []) × (bytes : List ℕ) × (count ≡ length bytes) × ((T : Trace) → IsCollectionOf taken T → IsStateOf bytes taken)
 SavesSegments taken (Err (Case Empty)) = taken ≡ []
 SavesSegments taken (Err StateStacks) = taken ≢ []
 SavesSegments taken (Err StateWrite) = ⊤
@@ -267,59 +265,7 @@ answers_over world states setting forgets symbols =
     answers_by forgets (is_some symbols) (IsOutcomeOver setting symbols) (IsAbsenceOver setting) (ReadsMore world setting)
     (MergesName world states setting) SavesName
 
--- ---- the beginning
-
--- what a speaker is told before the first line: how much of their trace the inputs have, and which of them end within a segment
-pub record Opening : Type 0 where
-  pub coverage : Coverage
-  pub cut : Option CutInputs
-
--- All segments of the inputs were loaded, with the names of the table, as a run does before its answer; and what is told holds of them.
-pub record OpensLoaded (setting : Setting) (symbols : Option (List ℕ)) (texts : List (List ℕ)) (opening : Opening) : Type 0 where
-  pub case : Trace
-  pub names : List Range
-  pub loaded : AreLoadedOf texts symbols setting None case names
-  pub coverage : IsCoverage case opening.coverage
-  pub cut : AreCut setting.form.hex texts opening.cut
-
--- All segments of the inputs were taken and folded, and the table has no fault. It is told how much of their trace the segments have that
--- are a case.
-pub record OpensFolded (setting : Setting) (symbols : Option (List ℕ)) (texts : List (List ℕ)) (taken : List Content) (opening : Opening)
-    : Type 0 where
-  pub added : Added
-  pub folded : IsFolded setting [] texts (λ all. all ≡ taken) added
-  pub names : List Range
-  pub named : HasSymbols symbols names
-  pub coverage : opening.coverage ≡ added.coverage
-  pub cut : opening.cut ≡ added.cut
-
--- What was read before the first line, of inputs of these texts and of a table of symbols. So no dialogue begins over a table that has a
--- fault, or over a gap where a complete trace is asked for.
-abbrev pub Begins : Bool → Setting → Option (List ℕ) → List (List ℕ) → Taken → Opening → Type 0
-Begins false setting symbols texts (inputs read) opening = (read ≡ texts) × OpensLoaded setting symbols texts opening
-Begins true setting symbols texts (segments taken) opening = OpensFolded setting symbols texts taken opening
-Begins folds setting symbols texts read opening = ⊥
-
--- A sink got these replies, and the speaker these notes, after they were told this of the files of these names.
-abbrev pub BeginsAndGets : {Speaker : Type 0} → List (List ℕ) → Option (List ℕ) → Option (List ℕ) → (Speaker → OwnNote → Speaker)
-    → Speaker → Speaker → Opening → List ℕ → List OwnNote → Type 0
-BeginsAndGets names old new told speaker after opening replies notes =
-    Gets old new told speaker after replies (hear.Begins names opening.coverage opening.cut ∷ notes)
-
--- why a run of its own over sources of these bytes would end, whatever it is asked of all events
-abbrev pub IsRunsCause : Setting → Option (List ℕ) → List (List ℕ) → List SourceState → RunFault → Type 0
-IsRunsCause setting symbols texts sources fault =
-    (job : Job) → job.until ≡ None → IsSourcesCause (in_setting setting job) texts (lefts sources) (ends sources) symbols fault
-
--- why nothing can be asked, in each form
-abbrev pub IsBeginsCause : Bool → Setting → Option (List ℕ) → List (List ℕ) → List SourceState → RunFault → Type 0
-IsBeginsCause false setting symbols texts sources fault = IsRunsCause setting symbols texts sources fault
-IsBeginsCause true setting symbols texts sources fault = IsBeginningRefused setting symbols texts sources fault
-
--- which two segments that is about
-abbrev pub IsBeginsBetween : Bool → Setting → List (List ℕ) → RunFault → Between → Type 0
-IsBeginsBetween false setting texts fault between = IsBetween setting.form texts fault between
-IsBeginsBetween true setting texts fault between = IsHalfKnown fault between
+-- ---- devices
 
 -- After 2^32 reads that gave bytes, or as many lines where the text is known, the questions are taken for endless.
 abbrev pub AreEndless : Option (List ℕ) → SourceState → Type 0

@@ -1,6 +1,7 @@
 -- What public contracts cite.
-pub mod LineRounds
 pub mod Asking
+pub mod Beginnings
+pub mod LineRounds
 pub mod Outcomes
 -- What only private contracts cite.
 pub mod Loads

@@ -1,8 +1,9 @@
 -- For the clauses of private functions: what is kept answers the lines of a dialogue, before files are read and after; and saved states are
 -- merged into it, and made of it.
 use Rattle.std.specs.Prelude.{◌≡◌, ◌≢◌, ◌⊎◌, ◌∷◌, [], ⊤, ℕ, Bool, true, false, List, IfErr, IfOk, IfSome, OnOk, None, Some, Option}
-use Rattle.std.specs.Prelude.{Result, Ok, Err, length, map}
+use Rattle.std.specs.Prelude.{All, Result, Ok, Err, is_some, length, map, string_bytes}
 use Rattle.htl_command.specs.Needs.{needs_events}
+use Rattle.htl_command.specs.declared.command.Dialogue.{Dialogue}
 use Rattle.htl_command.specs.declared.question.Job.{Job}
 use Rattle.htl_command.specs.declared.question.Setting.{Setting}
 use Rattle.htl_device.specs.States.{SourceState, IfKnown}
@@ -29,10 +30,14 @@ use Rattle.htl_main.specs.declared.printing.AnswerText.{AnswerText}
 use Rattle.htl_main.specs.declared.refused.Refused.{Refused}
 use Rattle.htl_segment.specs.Content.{Content}
 use Rattle.htl_segment.specs.Traces.{Trace}
+use Rattle.htl_world.specs.Rounds.{Asks}
 use Rattle.htl_world.specs.Worlds.{IsAsked, Known, WorldChange, to_write}
 use Rattle.htl_world.specs.declared.world.OpenFault.TheVariants as opens
-use Rattle.htl_ask.specs.Asking.{Begins, GoesOn, IsAnswerText, IsBeginsBetween, IsBeginsCause, IsFolding, ReadsNames, Taken, found}
-use Rattle.htl_ask.specs.Asking.{inputs, one_is_absent, segments}
+use Rattle.htl_ask.specs.Asking.{GoesOn, IsAnswerText, IsFolding, IsSavedState, KnownStates, ReadsNames, Taken, found, inputs}
+use Rattle.htl_ask.specs.Asking.{one_is_absent, segments}
+use Rattle.htl_ask.specs.Beginnings.{AllFit, Begins, EndsAtState, IsBeginsBetween, IsBeginsCause, forgets}
+use Rattle.htl_ask.specs.LineRounds.{EndsReading, all_read}
+use Rattle.htl_ask.specs.Outcomes.{told_before}
 use Rattle.htl_ask.specs.declared.kept.Begun.{Begun}
 use Rattle.htl_ask.specs.declared.kept.Kept.{Kept}
 use Rattle.htl_ask.specs.declared.kept.Kept.TheVariants.{Case, State}
@@ -156,11 +161,33 @@ answers_from world setting forgets has_table =
     answers_by forgets has_table (HasOutcomeIn setting.complete) HasAbsenceIn (ReadsFiles world setting)
     (MergesFile world setting) SavesFile
 
--- What there is before the first line, by what was read.
-pub record IsBegun (folds : Bool) (setting : Setting) (symbols : Option (List ℕ)) (texts : List (List ℕ)) (begun : Begun) : Type 0 where
-  pub read : Taken
-  pub kept : AreKept setting symbols begun.kept read
-  pub opens : Begins folds setting symbols texts read (record { coverage = begun.coverage; cut = begun.cut })
+-- What was folded of states is of these segments, where they are known; or nothing is folded.
+abbrev pub IsOfTold : Option Folded → Option (List Content) → Type 0
+IsOfTold None told = ⊤
+IsOfTold (Some folded) told = IfSome told (AreFolded folded.analyst)
+
+-- The world was asked for all bytes of each of the names, or of those up to the one at which that ended.
+abbrev pub AsksForStates : {S : Type 0} → WorldChange → List (List ℕ) → Result S RunFault → Type 0
+AsksForStates world names (Ok read) = IsAsked world.old world.new (all_read names)
+AsksForStates world names (Err fault) = Asks world (EndsReading names fault)
+
+-- The states that a dialogue begins with were read and merged, where it folds what is read; or that ended at one of them.
+pub record RestoresAs (world : WorldChange) (of : Dialogue) (result : Result (Option Folded) Refused) : Type 0 where
+  pub told : (states : KnownStates world.old.known.holds) → IfOk result (λ before. IsOfTold before (told_before states of))
+  pub form : IfOk result (λ before. is_some before ≡ forgets of)
+  pub states : OnOk result (All (IsSavedState world.old.known) (map string_bytes of.states.items))
+  pub fit : (states : KnownStates world.old.known.holds) → OnOk result (AllFit states (Some []) (map string_bytes of.states.items))
+  pub refused : (states : KnownStates world.old.known.holds)
+      → IfErr result (λ refused. EndsAtState world.old.known states (map string_bytes of.states.items) refused.fault)
+  pub between : IfErr result (λ refused. IsHalfKnown refused.fault refused.between)
+  pub asked : AsksForStates world (map string_bytes of.states.items) (by_fault result)
+
+-- What there is before the first line, by what was read, as far as that is known.
+pub record IsBegun (folds : Bool) (setting : Setting) (told : Option (List Content)) (symbols : Option (List ℕ)) (texts : List (List ℕ))
+    (begun : Begun) : Type 0 where
+  pub read : Option Taken
+  pub kept : IfSome read (AreKept setting symbols begun.kept)
+  pub opens : Begins folds setting told symbols texts read (record { coverage = begun.coverage; cut = begun.cut })
 
 -- how much of its trace a case has is known
 abbrev pub IsCovered : Kept → Type 0
@@ -168,16 +195,18 @@ IsCovered (Case loaded) = IsCoverage loaded.case loaded.coverage
 IsCovered (State folded) = ⊤
 
 -- A dialogue has something before its first line; or there is a reason why not, and two segments that it is about.
-abbrev pub EndsKeeping : Bool → Setting → Option (List ℕ) → List (List ℕ) → List SourceState → Result Begun Refused → Type 0
-EndsKeeping folds setting symbols texts new (Ok begun) = IsBegun folds setting symbols texts begun
-EndsKeeping folds setting symbols texts new (Err refused) =
-    IsBeginsCause folds setting symbols texts new refused.fault × IsBeginsBetween folds setting texts refused.fault refused.between
+abbrev pub EndsKeeping : Bool → Setting → Option (List Content) → Option (List ℕ) → List (List ℕ) → List SourceState
+    → Result Begun Refused → Type 0
+EndsKeeping folds setting told symbols texts new (Ok begun) = IsBegun folds setting told symbols texts begun
+EndsKeeping folds setting told symbols texts new (Err refused) =
+    IsBeginsCause folds setting told symbols texts new refused.fault × IsBeginsBetween folds setting texts refused.fault refused.between
 
--- Inputs were read, and their segments kept or folded.
-pub record KeepsAs (folds : Bool) (setting : Setting) (symbols : Option (List ℕ)) (old new : List SourceState)
+-- Inputs were read, and their segments folded behind what was folded before, or kept where nothing is folded.
+pub record KeepsAs (before : Option Folded) (setting : Setting) (symbols : Option (List ℕ)) (old new : List SourceState)
     (result : Result Begun Refused) : Type 0 where
-  pub outcome : IfKnown old (λ texts. EndsKeeping folds setting symbols texts new result)
-  pub form : IfOk result (λ begun. is_state begun.kept ≡ folds)
+  pub outcome : (told : Option (List Content)) → IsOfTold before told
+      → IfKnown old (λ texts. EndsKeeping (is_some before) setting told symbols texts new result)
+  pub form : IfOk result (λ begun. is_state begun.kept ≡ is_some before)
   pub coverage : IfOk result (λ begun. IsCovered begun.kept)
   pub workers : OnOk result (WorkersFit setting.workers)
   pub reading : AreRead setting.form.hex old new (by_fault result)

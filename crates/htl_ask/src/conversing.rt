@@ -1,29 +1,35 @@
-//! A dialogue in a world: the files are read once, and each line of standard input gets its reply.
+//! A dialogue in a world: states and files are read once, and each line of standard input gets its
+//! reply.
 
-ghost use Rattle.std.specs.Prelude.{◌≡◌, IfErr, false, map, option_copied};
+ghost use Rattle.std.specs.Prelude.{◌≡◌, All, IfErr, OnOk, false, map, option_copied};
+ghost use Rattle.std.specs.Prelude.{string_bytes};
 ghost use Rattle.htl_device.specs.States.{AreOpen, IfKnown, IsOpen};
-ghost use Rattle.htl_inputs.specs.Readings.{AreRead, AskForReaders};
+ghost use Rattle.htl_inputs.specs.Readings.{AskForReaders};
 ghost use Rattle.htl_main.specs.Origins.{by_fault};
 ghost use Rattle.htl_world.specs.Rounds.{Asks};
 ghost use Rattle.htl_world.specs.Worlds.{change};
-ghost use Rattle.htl_ask.specs.Asking.{IsBeginsBetween, KnownStates, ReportsDevices};
+ghost use Rattle.htl_ask.specs.Asking.{IsSavedState, KnownStates, ReportsDevices};
 ghost use Rattle.htl_ask.specs.Asking.{before_dialogue};
+ghost use Rattle.htl_ask.specs.Beginnings.{IsBeginsBetween, ReadsBehind, forgets};
 ghost use Rattle.htl_ask.specs.Outcomes.{EndsConversing, IsConversed, talk};
-ghost use Rattle.htl_ask.specs.LineRounds.{AsksLater};
+ghost use Rattle.htl_ask.specs.LineRounds.{AsksLater, ReadsStates};
 
 use crate::ask_fault::AskFault;
 use crate::dialogue::converse_lines;
 use crate::files::Files;
 use crate::kept::{Begun, begin};
+use crate::restoring::restored;
 use htl_device::{Sink, Source};
 use htl_dialogue::{Conversed, Note, Speaker};
 use htl_main::{Between, Refused};
-use htl_world::{World, as_bytes, open_all};
+use htl_world::{World, as_bytes, open_named};
 use std::alloc::Global;
 use std::thread::Threads;
 
-/// Opens the named files and the table of symbols, and then replies to each line of the questions.
-/// The first file that can't be opened is reported, or else the table, before a question is read.
+/// Opens the named files and the table of symbols, reads and merges the saved states in their order,
+/// and then replies to each line of the questions. The first file that can't be opened is reported,
+/// or else the table, or else the first state that is refused, before a question is read. Nothing of
+/// a file is read before all states are merged.
 ///
 /// Afterwards `inputs` has what was opened, as far as it was read.
 pub fn converse<Rt: Threads + Sync, W: World, Q: Source, O: Sink, S: Speaker>(
@@ -46,7 +52,7 @@ pub fn converse<Rt: Threads + Sync, W: World, Q: Source, O: Sink, S: Speaker>(
         × (speaker.new ≡ speaker.old)) }
 {
     let of = files.dialogue;
-    match open_all(alloc, world, &of.files, of.symbols.as_ref(), inputs) {
+    match open_named(alloc, world, &of.files, of.symbols.as_ref(), inputs) {
         Ok(table) => {
             let symbols = as_bytes(&table);
             ask_opened(
@@ -60,7 +66,7 @@ pub fn converse<Rt: Threads + Sync, W: World, Q: Source, O: Sink, S: Speaker>(
     }
 }
 
-/// Replies to the lines over opened inputs.
+/// Reads the states and the opened inputs, and replies to the lines.
 fn ask_opened<Rt: Threads + Sync, W: World, Q: Source, O: Sink, S: Speaker>(
     alloc: Global,
     world: &mut W,
@@ -83,21 +89,28 @@ fn ask_opened<Rt: Threads + Sync, W: World, Q: Source, O: Sink, S: Speaker>(
     ensures devices { ReportsDevices (Q.state questions.old).remaining (Q.state questions.new)
         (O.state out.new).failed result }
     ensures between { IfKnown (map W.Input.state inputs.old.items) (λ texts.
-        IfErr (before_dialogue result) (λ refused. IsBeginsBetween files.now.dialogue.now.folds
-        files.now.dialogue.now.setting texts refused.fault refused.between)) }
-    ensures reading { AreRead files.now.dialogue.now.setting.form.hex
+        IfErr (before_dialogue result) (λ refused. IsBeginsBetween
+        (forgets files.now.dialogue.now) files.now.dialogue.now.setting texts refused.fault
+        refused.between)) }
+    ensures states { OnOk (before_dialogue result) (All (IsSavedState (W.state world.old).known)
+        (map string_bytes files.now.dialogue.now.states.items)) }
+    ensures reading { (states : KnownStates (W.state world.old).known.holds) → ReadsBehind
+        (W.state world.old).known states files.now.dialogue.now.setting.form.hex
+        (map string_bytes files.now.dialogue.now.states.items)
         (map W.Input.state inputs.old.items) (map W.Input.state inputs.new.items)
         (by_fault (before_dialogue result)) }
     ensures readers { AskForReaders files.now.dialogue.now.setting.form.hex
         files.now.dialogue.now.setting.workers (map W.Input.state inputs.old.items)
         (map W.Input.state inputs.new.items) }
-    ensures asked { Asks (change (W.state world.old) (W.state world.new))
-        (AsksLater files.now.dialogue.now.folds (Q.state questions.old).remaining
-        (before_dialogue result)) }
+    ensures asked { Asks (change (W.state world.old) (W.state world.new)) (ReadsStates
+        (map string_bytes files.now.dialogue.now.states.items) (by_fault (before_dialogue result))
+        (AsksLater (forgets files.now.dialogue.now) (Q.state questions.old).remaining
+        (before_dialogue result))) }
     ensures untouched { IfErr (before_dialogue result)
         (λ _. (questions.new ≡ questions.old) × (out.new ≡ out.old)
         × (speaker.new ≡ speaker.old)) }
 {
+    let before = restored(alloc, world, files.dialogue)?;
     let Begun {
         mut kept,
         coverage,
@@ -105,7 +118,7 @@ fn ask_opened<Rt: Threads + Sync, W: World, Q: Source, O: Sink, S: Speaker>(
     } = begin(
         files.rt,
         alloc,
-        files.dialogue.folds,
+        before,
         files.dialogue.setting,
         inputs,
         symbols,

@@ -19,7 +19,7 @@ use std::thread::Threads;
 pub struct Files<'a, Rt> {
     /// What starts the threads that read.
     pub rt: &'a Rt,
-    /// The files at the beginning, the table of symbols, and how all files are read.
+    /// The states and files at the beginning, the table of symbols, and how all files are read.
     pub dialogue: &'a Dialogue,
 }
 

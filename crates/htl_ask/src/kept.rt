@@ -78,33 +78,38 @@ pub(crate) struct Begun {
     pub cut: Option<CutInputs>,
 }
 
-/// Reads all inputs, and keeps their segments or folds them.
+/// Reads all inputs, and folds their segments behind what was folded before, or keeps them where
+/// nothing is folded.
 pub(crate) fn begin<Rt: Threads + Sync, R: Parted>(
     rt: &Rt,
     alloc: Global,
-    folds: bool,
+    before: Option<Folded>,
     setting: Setting,
     inputs: &mut [R],
     symbols: Option<&[u8]>,
 ) -> Result<Begun, Refused>
     requires { AreOpen (map R.state inputs.old) }
-    ensures { KeepsAs folds setting (option_copied symbols.entry) (map R.state inputs.old)
+    ensures { KeepsAs before setting (option_copied symbols.entry) (map R.state inputs.old)
         (map R.state inputs.new) result }
 {
-    if folds {
-        let (folded, added) = load_folded(rt, alloc, setting, inputs, symbols)?;
-        return Ok(Begun {
-            kept: Kept::State(folded),
-            coverage: added.coverage,
-            cut: added.cut,
-        });
+    match before {
+        Some(folded) => {
+            let (folded, added) = load_folded(rt, alloc, setting, folded, inputs, symbols)?;
+            Ok(Begun {
+                kept: Kept::State(folded),
+                coverage: added.coverage,
+                cut: added.cut,
+            })
+        }
+        None => {
+            let loaded = load(rt, alloc, setting, None, inputs, symbols)?;
+            let coverage = loaded.coverage;
+            let cut = loaded.cut;
+            Ok(Begun {
+                kept: Kept::Case(loaded),
+                coverage,
+                cut,
+            })
+        }
     }
-    let loaded = load(rt, alloc, setting, None, inputs, symbols)?;
-    let coverage = loaded.coverage;
-    let cut = loaded.cut;
-    Ok(Begun {
-        kept: Kept::Case(loaded),
-        coverage,
-        cut,
-    })
 }

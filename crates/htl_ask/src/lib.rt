@@ -1,17 +1,18 @@
-//! Dialogues in a world: the files are read once, and each line gets its reply, as by a run over all
-//! that was read so far. A line may name more files to read, or a saved state to merge or to write.
+//! Dialogues in a world: saved states and files are read once, and each line gets its reply, as by a
+//! run over all that was read so far. A line may name more files to read, or a saved state to merge or
+//! to write.
 //!
 //! What a dialogue is, whoever answers, stands in `htl_dialogue`: lines, what they say, and replies.
 //! Here the answers come from what is kept of the files, all segments or what was folded of them.
 //!
 //! Files, in reading order: `conversing.rt` (a dialogue, from the names that it begins with to its
-//! end), `ask_fault.rt` (why it ends before its lines do), `dialogue.rt` (the replies to the lines),
-//! `files.rt` (the files that a line names), `states.rt` (the saved states that a line names),
-//! `kept.rt` (what is kept of them).
+//! end), `ask_fault.rt` (why it ends before its lines do), `restoring.rt` (the saved states that it
+//! begins with), `dialogue.rt` (the replies to the lines), `files.rt` (the files that a line names),
+//! `states.rt` (the saved states that a line names), `kept.rt` (what is kept of them).
 //!
-//! `specs/` is read in the order of `specs/Lib`: `LineRounds` (which names lines ask for), `Asking`
-//! (who answers from what was read), `Outcomes` (what comes of a dialogue), `Loads` (the same of what
-//! is kept).
+//! `specs/` is read in the order of `specs/Lib`: `Asking` (who answers from what was read),
+//! `Beginnings` (what was read before the first line), `LineRounds` (which names the states and the
+//! lines ask for), `Outcomes` (what comes of a dialogue), `Loads` (the same of what is kept).
 #![tactic(auto)]
 
 mod ask_fault;
@@ -19,6 +20,7 @@ mod conversing;
 mod dialogue;
 mod files;
 mod kept;
+mod restoring;
 mod states;
 
 pub use ask_fault::AskFault;

@@ -9,12 +9,13 @@ ghost use Rattle.htl_main.specs.Folding.{IsHalfKnown};
 ghost use Rattle.htl_world.specs.Rounds.{Asks};
 ghost use Rattle.htl_world.specs.Worlds.{Known, change};
 ghost use Rattle.htl_ask.specs.Loads.{MergesFile, MergesFolded, WritesFile, answers_from, is_state};
-ghost use Rattle.htl_ask.specs.LineRounds.{ReadsOne, WritesOne};
+ghost use Rattle.htl_ask.specs.LineRounds.{ReadsFor, ReadsOne, WritesOne};
 
 use crate::dialogue::{fault_of, write};
 use crate::files::Files;
 use crate::kept::Kept;
 use htl_case::CaseFault;
+use htl_command::Setting;
 use htl_device::Sink;
 use htl_dialogue::{Conversed, DialogueFault, Merged, Note, Speaker};
 use htl_event::NoMemory;
@@ -148,29 +149,10 @@ impl<Rt: Threads + Sync> Files<'_, Rt> {
         let Kept::State(folded) = kept else {
             unreachable!()
         };
-        match self.merge_named(alloc, world, folded, name) {
+        match merge_named(alloc, world, self.dialogue.setting, folded, name) {
             Ok(added) => Ok(Ok(added)),
             Err(RunFault::Memory) => Err(NoMemory),
             Err(fault) => Ok(Err(half_known(fault))),
-        }
-    }
-
-    /// Reads the state of a name and merges it into what was folded.
-    fn merge_named<W: World>(
-        &self,
-        alloc: Global,
-        world: &mut W,
-        folded: &mut Folded,
-        name: &str,
-    ) -> Result<Added, RunFault>
-        ensures merged { MergesFolded (W.state world.old).known self.now.dialogue.now.setting
-            folded.old name.now folded.new result }
-        ensures asked { Asks (change (W.state world.old) (W.state world.new)) (ReadsOne name.now) }
-    {
-        match world.read(name) {
-            Ok(bytes) => merge_state(alloc, self.dialogue.setting, folded, &bytes),
-            Err(OpenFault::Refused) => Err(RunFault::StateRead { state: 0 }),
-            Err(OpenFault::NoMemory) => Err(RunFault::Memory),
         }
     }
 
@@ -203,8 +185,28 @@ impl<Rt: Threads + Sync> Files<'_, Rt> {
     }
 }
 
+/// Reads the state of a name and merges it into what was folded.
+pub(crate) fn merge_named<W: World>(
+    alloc: Global,
+    world: &mut W,
+    setting: Setting,
+    folded: &mut Folded,
+    name: &str,
+) -> Result<Added, RunFault>
+    ensures merged { MergesFolded (W.state world.old).known setting folded.old name.now folded.new
+        result }
+    ensures asked { Asks (change (W.state world.old) (W.state world.new))
+        (ReadsFor name.now result) }
+{
+    match world.read(name) {
+        Ok(bytes) => merge_state(alloc, setting, folded, &bytes),
+        Err(OpenFault::Refused) => Err(RunFault::StateRead { state: 0 }),
+        Err(OpenFault::NoMemory) => Err(RunFault::Memory),
+    }
+}
+
 /// A fault of a state. Where it is about two segments, these are forgotten.
-fn half_known(fault: RunFault) -> Refused
+pub(crate) fn half_known(fault: RunFault) -> Refused
     ensures fault { result.fault ≡ fault }
     ensures between { IsHalfKnown result.fault result.between }
 {

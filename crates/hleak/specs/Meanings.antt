@@ -29,8 +29,10 @@ use Rattle.htl_text.specs.declared.fault.LineFault.{LineFault}
 use Rattle.htl_text.specs.declared.fault.LineFault.TheVariants as lines
 use Rattle.htl_text.specs.declared.field.Field.{Field}
 use Rattle.hleak.specs.declared.explaining.meaning.Meaning.{Meaning}
+use Rattle.hleak.specs.declared.explaining.task.Task.{Task}
 use Rattle.hleak.specs.declared.reason.Reason.{Reason}
 use Rattle.hleak.specs.Reasons.{advice_by, unsaved_advice_by, unsaved_by, wrong_by}
+use Rattle.hleak.specs.Subjects.{part_at}
 
 -- what is wrong with a part, or by itself, and what to do
 abbrev pub said : Option NamedPart → List ℕ → List ℕ → List ℕ
@@ -102,14 +104,14 @@ line_text (lines.Form fault) = form_text fault
 line_text lines.Order = coded E2 None
 line_text (lines.Segment fault) = segment_text fault
 
-abbrev pub case_text : CaseFault → List ℕ
-case_text cases.Empty = coded C1 None
-case_text (cases.OtherTrace place) = coded C2 (Some (parts.Segment place))
-case_text (cases.OtherProcessors place) = coded C3 (Some (parts.Segment place))
-case_text (cases.TwoContents processor number) = coded C4 (Some (parts.Key processor number))
-case_text (cases.SequenceTwice sequence) = coded C5 (Some (parts.Sequence sequence))
-case_text cases.NoMemory = coded C6 None
-case_text (cases.Falling processor number) = coded C7 (Some (parts.Key processor number))
+abbrev pub case_text : Task → CaseFault → List ℕ
+case_text task cases.Empty = coded C1 None
+case_text task (cases.OtherTrace place) = coded C2 (Some (part_at task place))
+case_text task (cases.OtherProcessors place) = coded C3 (Some (part_at task place))
+case_text task (cases.TwoContents processor number) = coded C4 (Some (parts.Key processor number))
+case_text task (cases.SequenceTwice sequence) = coded C5 (Some (parts.Sequence sequence))
+case_text task cases.NoMemory = coded C6 None
+case_text task (cases.Falling processor number) = coded C7 (Some (parts.Key processor number))
 
 abbrev pub missing_text : ℕ → ℕ → List ℕ
 missing_text processor number = coded C8 (Some (parts.Key processor number))

@@ -1,7 +1,8 @@
 -- What a fault is about, as a person calls it (this project's own).
-use Rattle.std.specs.Prelude.{◌≡◌, ◌∷◌, [], ⊤, ℕ, Bool, false, List, Option, None, Some, String, codes, is_some, slice_get, string_bytes}
+use Rattle.std.specs.Prelude.{◌≡◌, ◌∷◌, ◌&&◌, ◌==◌, [], ⊤, ℕ, Bool, false, List, Option, None, Some, String, codes, if◌then◌else◌}
+use Rattle.std.specs.Prelude.{is_some, length, nat_lt, slice_get, string_bytes}
 use Rattle.std.specs.Option.{option_map_or}
-use Rattle.htl_case.specs.declared.fault.CaseFault.TheVariants.{Empty}
+use Rattle.htl_case.specs.declared.fault.CaseFault.TheVariants.{Empty, OtherTrace, OtherProcessors}
 use Rattle.htl_command.specs.declared.command.Command.{Command}
 use Rattle.htl_command.specs.declared.command.Command.TheVariants as wish
 use Rattle.htl_inputs.specs.declared.fault.RunFault.{RunFault}
@@ -9,6 +10,8 @@ use Rattle.htl_inputs.specs.declared.fault.RunFault.TheVariants.{Segment, Hex, T
 use Rattle.htl_inputs.specs.declared.fault.RunFault.TheVariants.{SymbolsRead, UnknownCut, Write}
 use Rattle.htl_inputs.specs.declared.fault.RunFault.TheVariants.{State, Unbounded, StateRead, StateWrite, StateStacks}
 use Rattle.htl_main.specs.Subjects.{since_of}
+use Rattle.htl_program.specs.declared.explained.named_part.NamedPart.{NamedPart}
+use Rattle.htl_program.specs.declared.explained.named_part.NamedPart.TheVariants as parts
 use Rattle.htl_question.specs.Questions.{subject_of as asks_about}
 use Rattle.htl_question.specs.declared.subject.Subject.{Subject}
 use Rattle.hleak.specs.declared.explaining.task.Task.{Task}
@@ -19,6 +22,7 @@ abbrev pub IsTaskOf : Command → Option Task → Type 0
 IsTaskOf (wish.Question run) (Some (Question of)) = of.now ≡ run
 IsTaskOf (wish.Dump form files) (Some (Convert of)) = of.now ≡ files.items
 IsTaskOf (wish.Encode hex files) (Some (Convert of)) = of.now ≡ files.items
+IsTaskOf (wish.Fold setting files) (Some (Convert of)) = of.now ≡ files.items
 IsTaskOf (wish.Ask dialogue) (Some (Ask of)) = of.now ≡ dialogue
 IsTaskOf (wish.Explain code) None = ⊤
 IsTaskOf command other = ⊥
@@ -31,19 +35,46 @@ input_name (Convert of) place = option_map_or string_bytes (slice_get of.now pla
 input_name (Ask of) place = option_map_or string_bytes (slice_get of.now.files.items place) (codes "standard input")
 input_name (Reads of) place = option_map_or string_bytes (slice_get of.now place) (codes "what was read before")
 
--- the saved state at a place: the file, where a line of a dialogue merges one
+-- the saved state at a place: the file, where a line of a dialogue merges one, or where a dialogue begins with it
 abbrev pub state_name : Task → ℕ → List ℕ
 state_name (Reads of) place = input_name (Reads of) place
+state_name (Ask of) place = option_map_or string_bytes (slice_get of.now.states.items place) (codes "the state")
 state_name task place = codes "the state"
 
--- what does not fit what was read before: the file, where a line of a dialogue reads one alone or merges one, and else the program
+-- what does not fit what was read before: the file, where a line of a dialogue reads one alone or merges one, or where a dialogue begins
+-- with one after a saved state, and else the program
 abbrev pub alone : {A : Type 0} → List (String A) → List ℕ
 alone (name ∷ []) = string_bytes name
 alone names = codes "hleak"
 
+abbrev pub alone_after : {A : Type 0} → List (String A) → List (String A) → List ℕ
+alone_after (first ∷ []) files = alone files
+alone_after (first ∷ name ∷ []) [] = string_bytes name
+alone_after states files = codes "hleak"
+
 abbrev pub alone_name : Task → List ℕ
 alone_name (Reads of) = alone of.now
+alone_name (Ask of) = alone_after of.now.states.items of.now.files.items
 alone_name task = codes "hleak"
+
+-- What the fault of a case names by a place: a segment; or, where a dialogue begins with so many saved states and with no file, a state; or
+-- one of both, with files behind the states. The first state fits.
+abbrev pub part_among : ℕ → Bool → ℕ → NamedPart
+part_among states is_of_states place =
+    if nat_lt 0 place && nat_lt place states then (if is_of_states then parts.State place else parts.StateOrSegment place) else
+    parts.Segment place
+
+abbrev pub part_at : Task → ℕ → NamedPart
+part_at (Ask of) place = part_among (length of.now.states.items) (length of.now.files.items == 0) place
+part_at task place = parts.Segment place
+
+-- what a person calls that
+abbrev pub name_of : Task → NamedPart → List ℕ
+name_of task (parts.State place) = state_name task place
+name_of task part = alone_name task
+
+abbrev pub name_at : Task → ℕ → List ℕ
+name_at task place = name_of task (part_at task place)
 
 -- the file with the symbols
 abbrev pub symbols_name : Task → List ℕ
@@ -84,6 +115,8 @@ subject_of task (State state offset fault) = state_name task state
 subject_of task (Unbounded state processor) = state_name task state
 subject_of task (StateRead state) = state_name task state
 subject_of task (Case Empty) = input_name task 0
+subject_of task (Case (OtherTrace place)) = name_at task place
+subject_of task (Case (OtherProcessors place)) = name_at task place
 subject_of task (Case fault) = alone_name task
 subject_of task (Symbols fault) = symbols_name task
 subject_of task SymbolsRead = symbols_name task

@@ -28,6 +28,7 @@ impl Terminal<'_> {
             Command::Question(run) if run.files.is_empty() => self.await_typing("segments are"),
             Command::Dump { files, .. } if files.is_empty() => self.await_typing("segments are"),
             Command::Encode { files, .. } if files.is_empty() => self.await_typing("text is"),
+            Command::Fold { files, .. } if files.is_empty() => self.await_typing("segments are"),
             _ => {}
         }
         if let (Some(progress), Command::Dump { .. }, true) = (

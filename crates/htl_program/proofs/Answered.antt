@@ -1,5 +1,5 @@
 -- A run over the inputs that were opened for a question answers it.
-use Rattle.std.proofs.Common.{◌≡◌, List, [], inl, inr, map, refl, string_bytes}
+use Rattle.std.proofs.Common.{List, [], inl, inr, map, refl, string_bytes}
 use Rattle.std.specs.Prelude.{ℕ, Option, Result, Ok, Vec, option_map}
 use Rattle.htl_command.specs.declared.command.Run.{Run}
 use Rattle.htl_device.specs.States.{SinkState, SourceState}

@@ -13,6 +13,7 @@ use Rattle.htl_dialogue.specs.declared.dialogue.DialogueFault.{DialogueFault}
 use Rattle.htl_main.specs.Moments.{is_above}
 use Rattle.htl_main.specs.declared.completed.Completed.{Completed}
 use Rattle.htl_main.specs.declared.coverage.Coverage.{Coverage}
+use Rattle.htl_main.specs.declared.loading.adding.Added.{Added}
 use Rattle.htl_main.specs.declared.origin.Between.TheVariants.{Nothing}
 use Rattle.htl_main.specs.declared.refused.Refused.{Refused}
 use Rattle.htl_program.specs.AskedAbout.{lack_of}
@@ -76,17 +77,26 @@ abbrev pub cut_said : Command → Option CutInputs → List Said
 cut_said command None = []
 cut_said command (Some inputs) = say.Cut command inputs ∷ []
 
+-- what is said of the inputs of a command: that segments are missing, and which inputs end within one
+abbrev pub inputs_said : Command → Coverage → Option Moment → Option CutInputs → List Said
+inputs_said command coverage until cut = gaps_said coverage until ++ cut_said command cut
+
 -- what is said beside the text of segments, where words are wanted
 abbrev pub cut_noted : Bool → Command → Option CutInputs → List Said
 cut_noted false command inputs = []
 cut_noted true command inputs = cut_said command inputs
+
+-- what is said beside a state, where words are wanted
+abbrev pub added_noted : Bool → Command → Added → List Said
+added_noted false command added = []
+added_noted true command added = inputs_said command added.coverage None added.cut
 
 -- what is said beside an answer, where words are wanted
 abbrev pub notes_said : Bool → Command → Run → Completed → List Said
 notes_said false command run completed = []
 notes_said true command run completed =
     lack_said run.job completed ++ (unnamed_said (is_some run.symbols && completed.remarks.is_unnamed)
-    ++ (gaps_said completed.coverage run.job.until ++ cut_said command completed.cut))
+    ++ inputs_said command completed.coverage run.job.until completed.cut)
 
 -- These messages were given, one after the other, and nothing else.
 abbrev pub HearsAll : Option (List Said) → Option (List Said) → List Said → Type 0

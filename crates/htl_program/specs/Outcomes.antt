@@ -12,8 +12,8 @@ use Rattle.htl_command.specs.declared.question.Job.{Job}
 use Rattle.htl_main.specs.Causes.{IsSourcesCause}
 use Rattle.htl_world.specs.Endings.{IsUnopened, IsUntabled}
 use Rattle.htl_world.specs.Readings.{AreAskedFor, IsUnopenedFor, ReadsInputs}
-use Rattle.htl_world.specs.Rounds.{Asks, OpensAgain, OpensInputs, OpensOnce}
-use Rattle.htl_world.specs.Worlds.{IsTable, IsTableAbsent, Known, WorldChange, HaveTexts, IsAbsentAt, of_each, of_inputs}
+use Rattle.htl_world.specs.Rounds.{Asks, EndsEarly, OpensAgain, OpensInputs, inputs_opened}
+use Rattle.htl_world.specs.Worlds.{IsAsked, IsTable, IsTableAbsent, WorldChange, HaveTexts, IsAbsentAt, of_each, of_inputs}
 
 -- The answer was printed over inputs of these texts, or there is a reason why not, where the sources are these by then.
 abbrev pub EndsRun : Job → List (List ℕ) → Option (List ℕ) → List SourceState → Option (List ℕ) → Option (List ℕ)
@@ -38,25 +38,28 @@ pub record IsAnswered (world : WorldChange) (inputs : List SourceState) (run : R
       (OpensAgain world.old.known run.job.setting.form.hex (map string_bytes run.files.items) (by_fault ended)))
 
 -- Not all inputs of the names could be opened, as is reported. None is left open, and nothing was written.
-pub record IsNoneOpened {A S : Type 0} (world : Known) (names : List (String A)) (inputs : List SourceState) (old new : SinkState)
-    (ended : Result S RunFault) : Type 0 where
+pub record IsNoneOpened {A S E : Type 0} (refusal : RunFault → E) (world : WorldChange) (names : List (String A))
+    (inputs : List SourceState) (old new : SinkState) (ended : Result S E) : Type 0 where
   pub fault : RunFault
-  pub reported : ended ≡ Err fault
-  pub unopened : IsUnopenedFor (of_each world.holds names) (of_each world.is_absent names) fault
+  pub reported : ended ≡ Err (refusal fault)
+  pub unopened : IsUnopenedFor (of_each world.old.known.holds names) (of_each world.old.known.is_absent names) fault
+  pub asked : Asks world (EndsEarly (map string_bytes names) (inputs_opened (map string_bytes names)) fault)
   pub none : inputs ≡ []
   pub unwritten : new ≡ old
   pub fine : new.failed ≡ false
 
--- All inputs of the names were opened: none is absent. What a conversion promises of sources holds of these.
-pub record IsConvertedOf {A S : Type 0}
-    (Converts : List SourceState → List SourceState → SinkState → SinkState → Result S RunFault → Type 0) (world : Known)
-    (names : List (String A)) (inputs : List SourceState) (old new : SinkState) (ended : Result S RunFault) : Type 0 where
-  pub there : All (λ absent. absent ≡ false) (of_each world.is_absent names)
-  pub converted : Converts (map fresh (of_inputs world.holds world.standard names)) inputs old new ended
+-- All inputs of the names were opened, each once and in order: none is absent. What a conversion promises of sources holds of these.
+pub record IsConvertedOf {A S E : Type 0}
+    (Converts : List SourceState → List SourceState → SinkState → SinkState → Result S E → Type 0) (world : WorldChange)
+    (names : List (String A)) (inputs : List SourceState) (old new : SinkState) (ended : Result S E) : Type 0 where
+  pub there : All (λ absent. absent ≡ false) (of_each world.old.known.is_absent names)
+  pub asked : IsAsked world.old world.new (inputs_opened (map string_bytes names))
+  pub converted : Converts (map fresh (of_inputs world.old.known.holds world.old.known.standard names)) inputs old new ended
 
--- Segments were printed as text, or made of texts, which a conversion of sources promises. Each file was opened once, in order.
-pub record IsConverted {A S : Type 0}
-    (Converts : List SourceState → List SourceState → SinkState → SinkState → Result S RunFault → Type 0) (world : WorldChange)
-    (inputs : List SourceState) (names : List (String A)) (old new : SinkState) (ended : Result S RunFault) : Type 0 where
-  pub is : IsConvertedOf Converts world.old.known names inputs old new ended ⊎ IsNoneOpened world.old.known names inputs old new ended
-  pub asked : Asks world (OpensOnce (map string_bytes names) ended)
+-- Segments were printed as text, made of texts, or folded, which a conversion of sources promises; or not all inputs could be opened, which
+-- is reported so.
+abbrev pub IsConverted : {A S E : Type 0} → (RunFault → E)
+    → (List SourceState → List SourceState → SinkState → SinkState → Result S E → Type 0) → WorldChange → List SourceState
+    → List (String A) → SinkState → SinkState → Result S E → Type 0
+IsConverted refusal Converts world inputs names old new ended =
+    IsConvertedOf Converts world names inputs old new ended ⊎ IsNoneOpened refusal world names inputs old new ended

@@ -23,6 +23,9 @@ part_text (parts.Field name) = codes "the line's " ++ name.now
 part_text (parts.Subject subject) = subject_text subject
 part_text (parts.Unnumbered words) = words.now
 part_text (parts.Input input) = codes "input " ++ decimal input
+part_text (parts.State place) = codes "state " ++ decimal place
+part_text (parts.StateOrSegment place) =
+    codes "state " ++ (decimal place ++ (codes " or segment " ++ (decimal place ++ codes " of all inputs")))
 
 -- the part that the number of a fault names, or its two numbers, or its field
 abbrev pub number_part : Code → ℕ → Option NamedPart

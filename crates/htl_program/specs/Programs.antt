@@ -12,6 +12,7 @@ use Rattle.htl_command.specs.declared.command.Dialogue.{Dialogue}
 use Rattle.htl_command.specs.declared.fault.ParseFault.{ParseFault}
 use Rattle.htl_command.specs.declared.fault.ParseFault.TheVariants.{Help, Usage, Memory}
 use Rattle.htl_command.specs.declared.question.InputForm.{InputForm}
+use Rattle.htl_command.specs.declared.question.Setting.{Setting}
 use Rattle.htl_device.specs.Devices.{AppendsPrefix}
 use Rattle.htl_device.specs.States.{SinkState, SourceState, fresh}
 use Rattle.htl_inputs.specs.declared.cuts.CutInputs.{CutInputs}
@@ -24,7 +25,9 @@ use Rattle.htl_dialogue.specs.declared.dialogue.Conversed.{Conversed}
 use Rattle.htl_dialogue.specs.declared.dialogue.DialogueFault.{DialogueFault}
 use Rattle.htl_dialogue.specs.declared.dialogue.DialogueFault.TheVariants as dialogues
 use Rattle.htl_main.specs.Origins.{by_fault}
+use Rattle.htl_main.specs.StateRuns.{IsFoldedFrom}
 use Rattle.htl_main.specs.declared.completed.Completed.{Completed}
+use Rattle.htl_main.specs.declared.loading.adding.Added.{Added}
 use Rattle.htl_main.specs.declared.refused.Refused.{Refused}
 use Rattle.htl_world.specs.Worlds.{IsAsked, WorldState, change, for_questions}
 use Rattle.htl_ask.specs.Asking.{before_dialogue}
@@ -33,7 +36,7 @@ use Rattle.htl_ask.specs.declared.ask_fault.AskFault.{AskFault}
 use Rattle.htl_ask.specs.declared.ask_fault.AskFault.TheVariants as asks
 use Rattle.htl_program.specs.Opened.{IsUntouched, Reach}
 use Rattle.htl_program.specs.Outcomes.{IsAnswered, IsConverted}
-use Rattle.htl_program.specs.Messages.{Hears, HearsAll, HearsRun, Said, alone, cut_noted, fault_said, notes_said}
+use Rattle.htl_program.specs.Messages.{Hears, HearsAll, HearsRun, Said, added_noted, alone, cut_noted, fault_said, notes_said}
 use Rattle.htl_program.specs.Messages.{stop_said}
 use Rattle.htl_program.specs.Statuses.{conversion_status, dialogue_status, end_status}
 use Rattle.htl_program.specs.Words.{explained}
@@ -115,13 +118,24 @@ SaysDump quiet in_words command (Err reported) old new = SaysFault quiet in_word
 
 abbrev pub DoesDump : {A : Type 0} → Bool → Bool → Reach → Told → Told → Command → InputForm → List (String A) → ℕ → Type 0
 DoesDump watches in_words reach old new command form files status =
-    Performs reach (IsConverted (IsDumpedFrom form) reach.world reach.after.files files old.out new.out) conversion_status
+    Performs reach (IsConverted (λ fault. fault) (IsDumpedFrom form) reach.world reach.after.files files old.out new.out) conversion_status
     (SaysDump (is_quiet watches new) in_words command) command old new status
 
 abbrev pub DoesEncode : {A : Type 0} → Bool → Bool → Reach → Told → Told → Command → Bool → List (String A) → ℕ → Type 0
 DoesEncode watches in_words reach old new command hex files status =
-    Performs reach (IsConverted (IsEncodedFrom {S = Unit {0}} hex) reach.world reach.after.files files old.out new.out) conversion_status
-    (SaysConversion (is_quiet watches new) in_words command) command old new status
+    Performs reach
+    (IsConverted (λ fault. fault) (IsEncodedFrom {S = Unit {0}} hex) reach.world reach.after.files files old.out new.out)
+    conversion_status (SaysConversion (is_quiet watches new) in_words command) command old new status
+
+-- the same where segments were folded: that some are missing, and which inputs end within one, where they may
+abbrev pub SaysFolding : Bool → Bool → Command → Result Added Refused → Option (List Said) → Option (List Said) → Type 0
+SaysFolding quiet in_words command (Ok added) old new = HearsAll old new (added_noted in_words command added)
+SaysFolding quiet in_words command (Err refused) old new = SaysFault quiet in_words command refused old new
+
+abbrev pub DoesFold : {A : Type 0} → Bool → Bool → Reach → Told → Told → Command → Setting → List (String A) → ℕ → Type 0
+DoesFold watches in_words reach old new command setting files status =
+    Performs reach (IsConverted alone (IsFoldedFrom setting) reach.world reach.after.files files old.out new.out)
+    (λ ended. conversion_status (by_fault ended)) (SaysFolding (is_quiet watches new) in_words command) command old new status
 
 -- A text that was asked for: it is written and nothing is said, with status 0; or its write fails, with status 5, which is said unless a
 -- person watches and the output's reader has gone.
@@ -143,12 +157,11 @@ Explains watches old new bytes status =
     IsPrinted watches bytes old new status
     ⊎ ((status ≡ 6) × (new.out ≡ old.out) × Hears old.heard new.heard (say.Fault (alone faults.Memory)))
 
--- Segments are made of text, but their bytes aren't shown to a person.
-abbrev pub EncodesOrRefuses : {A : Type 0} → Bool → Bool → Bool → Reach → Told → Told → Command → Bool → List (String A) → ℕ → Type 0
-EncodesOrRefuses true watches in_words reach old new command hex files status =
+-- Bytes aren't shown to a person: where they would be (`true`), the program refuses to, and else it does this.
+abbrev pub OrRefuses : Bool → Bool → Reach → Told → Told → (ℕ → Type 0) → ℕ → Type 0
+OrRefuses true watches reach old new Does status =
     (why : ParseFault) × IsUsageWith ⊤ why × Refuses watches old new why status × IsUntouched reach
-EncodesOrRefuses false watches in_words reach old new command hex files status =
-    DoesEncode watches in_words reach old new command hex files status
+OrRefuses false watches reach old new Does status = Does status
 
 -- how a dialogue's end is said: nothing, if it ended well
 abbrev pub SaysDialogue : {S : Type 0} → Bool → Bool → Command → Result S AskFault → Option (List Said) → Option (List Said) → Type 0
@@ -214,7 +227,10 @@ Does sees watches in_words speaker reach old new (wish.Explain reported) status 
 Does sees watches in_words speaker reach old new (wish.Dump form files) status =
     DoesDump watches in_words reach old new (wish.Dump form files) form files.items status
 Does sees watches in_words speaker reach old new (wish.Encode hex files) status =
-    EncodesOrRefuses (not hex && sees) watches in_words reach old new (wish.Encode hex files) hex files.items status
+    OrRefuses (not hex && sees) watches reach old new
+    (DoesEncode watches in_words reach old new (wish.Encode hex files) hex files.items) status
+Does sees watches in_words speaker reach old new (wish.Fold setting files) status =
+    OrRefuses sees watches reach old new (DoesFold watches in_words reach old new (wish.Fold setting files) setting files.items) status
 Does sees watches in_words speaker reach old new (wish.Ask of) status =
     DoesConverse watches in_words speaker reach old new (wish.Ask of) of status
 

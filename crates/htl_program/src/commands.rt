@@ -7,7 +7,7 @@ ghost use Rattle.htl_program.specs.Programs.{Obeys, spoken, told};
 use crate::console::Console;
 use crate::inputs::Inputs;
 use crate::output::Output;
-use crate::performing::{do_answer, do_converse, do_dump, do_encode};
+use crate::performing::{do_answer, do_converse, do_dump, do_encode, do_fold};
 use crate::printing::{do_explain, refuse};
 use crate::saying::Person;
 use htl_ask::{Files, Speaker};
@@ -46,6 +46,9 @@ pub fn program<Rt: Threads + Sync, W: World, O: Output, P: Person, S: Speaker>(
         }
         Command::Encode { hex, files } => {
             do_encode(alloc, world, &line, *hex, files, inputs, console)
+        }
+        Command::Fold { setting, files } => {
+            do_fold(rt, alloc, world, &line, *setting, files, inputs, console)
         }
         Command::Ask(dialogue) => {
             let files = Files { rt, dialogue };

@@ -7,7 +7,7 @@ ghost use Rattle.htl_program.specs.Statuses.{end_status, stop_status};
 
 use htl_ask::AskFault;
 use htl_dialogue::{Conversed, DialogueFault};
-use htl_main::{Completed, Refused, RunFault};
+use htl_main::{Added, Completed, Refused, RunFault};
 
 /// The status after a question: that of its fault; or else 1 if the answer finds something and the
 /// status is to say so; or else 0.
@@ -33,6 +33,16 @@ pub(crate) fn status_of_conversion<T: Drop>(ended: Result<T, RunFault>) -> u8
     match ended {
         Ok(_) => 0,
         Err(fault) => fault.status(),
+    }
+}
+
+/// The same where segments were folded.
+pub(crate) fn status_of_fold(ended: Result<Added, Refused>) -> u8
+    ensures { result ≡ conversion_status (by_fault ended) }
+{
+    match ended {
+        Ok(_) => 0,
+        Err(refused) => refused.fault.status(),
     }
 }
 

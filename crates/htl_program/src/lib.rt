@@ -8,8 +8,8 @@
 //! what a person hears of them), `console.rt` (where the program writes and speaks), `output.rt`
 //! (where answers go), `saying.rt` with `saying/` (what is said of how a run ended, and to whom),
 //! `ending.rt` (the statuses), `inputs.rt` (what was opened), `answering.rt` (a question, from the
-//! names that it is asked of to its end), `converting.rt` (`dump` and `encode`), `explained.rt` with
-//! `explained/` (what a fault means).
+//! names that it is asked of to its end), `converting.rt` (`dump`, `encode` and `fold`),
+//! `explained.rt` with `explained/` (what a fault means).
 #![tactic(auto)]
 
 mod answering;
@@ -27,7 +27,7 @@ mod saying;
 pub use answering::answer;
 pub use commands::program;
 pub use console::Console;
-pub use converting::{dump, encode};
+pub use converting::{dump, encode, fold};
 pub use explained::{FREE_MEMORY, NamedPart, SubjectText, advice, form_wrong, wrong};
 pub use inputs::Inputs;
 pub use output::Output;

@@ -3,19 +3,19 @@
 
 ghost use Rattle.std.specs.Prelude.{◌≡◌, ◌&&◌, ◌||◌, false, not};
 ghost use Rattle.htl_program.specs.Opened.{reach};
-ghost use Rattle.htl_program.specs.Programs.{DoesAnswer, DoesConverse, DoesDump};
-ghost use Rattle.htl_program.specs.Programs.{EncodesOrRefuses, spoken, told};
+ghost use Rattle.htl_program.specs.Programs.{DoesAnswer, DoesConverse, DoesDump, DoesEncode};
+ghost use Rattle.htl_program.specs.Programs.{DoesFold, OrRefuses, spoken, told};
 
 use crate::answering::answer;
 use crate::console::Console;
-use crate::converting::{dump, encode};
-use crate::ending::{status_after, status_of_answer, status_of_conversion};
+use crate::converting::{dump, encode, fold};
+use crate::ending::{status_after, status_of_answer, status_of_conversion, status_of_fold};
 use crate::inputs::Inputs;
 use crate::output::Output;
 use crate::printing::refuse;
-use crate::saying::{Person, say_answer, say_dialogue, say_dump, say_encoding};
+use crate::saying::{Person, say_answer, say_dialogue, say_dump, say_encoding, say_folding};
 use htl_ask::{Files, Speaker, converse};
-use htl_command::{CommandLine, InputForm, ParseFault, Run};
+use htl_command::{CommandLine, InputForm, ParseFault, Run, Setting};
 use htl_device::Source;
 use htl_world::World;
 use std::alloc::Global;
@@ -89,13 +89,14 @@ pub(crate) fn do_encode<W: World, O: Output, P: Person>(
     console: &mut Console<O, P>,
 ) -> u8
     requires { (O.state console.old.out).failed ≡ false }
-    ensures { EncodesOrRefuses (not hex && P.sees_output console.old.person)
-        (P.is_watching console.old.person)
-        (P.is_watching console.old.person || line.now.notes)
-        (reach W.Input.state (W.state world.old) (W.state world.new) inputs.old inputs.new)
-        (told O.state O.has_lost_reader P.heard console.old)
-        (told O.state O.has_lost_reader P.heard console.new)
-        line.now.command hex files.now result }
+    ensures { let of = reach W.Input.state (W.state world.old) (W.state world.new) inputs.old
+        inputs.new in
+        let before = told O.state O.has_lost_reader P.heard console.old in
+        let after = told O.state O.has_lost_reader P.heard console.new in
+        OrRefuses (not hex && P.sees_output console.old.person) (P.is_watching console.old.person)
+        of before after (DoesEncode (P.is_watching console.old.person)
+        (P.is_watching console.old.person || line.now.notes) of before after line.now.command hex
+        files.now) result }
 {
     if !hex && console.person.sees_output() {
         return refuse(&ParseFault::bytes_at_terminal(alloc), console);
@@ -112,6 +113,45 @@ pub(crate) fn do_encode<W: World, O: Output, P: Person>(
     let manner = console.end(audience);
     say_encoding(&line.command, manner, ended, &mut console.person);
     status_of_conversion(ended)
+}
+
+/// Folds segments and writes their state. It refuses to write its bytes to a terminal.
+pub(crate) fn do_fold<Rt: Threads + Sync, W: World, O: Output, P: Person>(
+    rt: &Rt,
+    alloc: Global,
+    world: &mut W,
+    line: &CommandLine,
+    setting: Setting,
+    files: &[String],
+    inputs: &mut Inputs<W::Input>,
+    console: &mut Console<O, P>,
+) -> u8
+    requires { (O.state console.old.out).failed ≡ false }
+    ensures { let of = reach W.Input.state (W.state world.old) (W.state world.new) inputs.old
+        inputs.new in
+        let before = told O.state O.has_lost_reader P.heard console.old in
+        let after = told O.state O.has_lost_reader P.heard console.new in
+        OrRefuses (P.sees_output console.old.person) (P.is_watching console.old.person) of before
+        after (DoesFold (P.is_watching console.old.person)
+        (P.is_watching console.old.person || line.now.notes) of before after line.now.command
+        setting files.now) result }
+{
+    if console.person.sees_output() {
+        return refuse(&ParseFault::state_at_terminal(alloc), console);
+    }
+    let audience = console.begin(line);
+    let ended = fold(
+        rt,
+        alloc,
+        world,
+        setting,
+        files,
+        &mut inputs.files,
+        &mut console.out,
+    );
+    let manner = console.end(audience);
+    say_folding(&line.command, manner, ended, &mut console.person);
+    status_of_fold(ended)
 }
 
 /// Replies to the lines of standard input.

@@ -10,15 +10,15 @@ mod person;
 
 ghost use Rattle.std.specs.Prelude.{◌≡◌, ◌&&◌, is_some};
 ghost use Rattle.htl_program.specs.Programs.{SaysAnswer, SaysConversion, SaysDialogue, SaysDump};
-ghost use Rattle.htl_program.specs.Programs.{SaysFault, is_stop_unsaid, is_unsaid};
+ghost use Rattle.htl_program.specs.Programs.{SaysFault, SaysFolding, is_stop_unsaid, is_unsaid};
 ghost use Rattle.htl_program.specs.Messages.{HearsAll, alone as alone_of, cut_said, fault_said};
-ghost use Rattle.htl_program.specs.Messages.{gaps_said, lack_said, notes_said, stop_said};
-ghost use Rattle.htl_program.specs.Messages.{unnamed_said};
+ghost use Rattle.htl_program.specs.Messages.{gaps_said, inputs_said, lack_said, notes_said};
+ghost use Rattle.htl_program.specs.Messages.{stop_said, unnamed_said};
 
 use htl_ask::AskFault;
 use htl_command::{Command, Job, Moment, Run};
 use htl_dialogue::{Conversed, DialogueFault};
-use htl_main::{Between, Completed, Coverage, CutInputs, Refused, RunFault};
+use htl_main::{Added, Between, Completed, Coverage, CutInputs, Refused, RunFault};
 pub use lack::Lack;
 pub(crate) use manner::{Audience, Manner};
 pub use message::Message;
@@ -59,8 +59,8 @@ fn note<P: Person>(
     }
     note_lack(&run.job, completed, person);
     note_names(misses_names(run, completed), person);
-    note_gaps(completed.coverage, run.job.until, person);
-    note_cut(command, completed.cut, person);
+    let (coverage, until, cut) = (completed.coverage, run.job.until, completed.cut);
+    note_inputs(command, coverage, until, cut, person);
 }
 
 /// Says what the job's question lacks, if anything.
@@ -86,6 +86,22 @@ fn note_names<P: Person>(is_unnamed: bool, person: &mut P)
     if is_unnamed {
         person.hears(Message::Unnamed);
     }
+}
+
+/// Says that segments of the inputs are missing, if they may have events that count, and which inputs
+/// end within a segment.
+fn note_inputs<P: Person>(
+    command: &Command,
+    coverage: Coverage,
+    until: Option<Moment>,
+    cut: Option<CutInputs>,
+    person: &mut P,
+)
+    ensures { HearsAll (P.heard person.old) (P.heard person.new)
+        (inputs_said command.now coverage until cut) }
+{
+    note_gaps(coverage, until, person);
+    note_cut(command, cut, person);
 }
 
 /// Says that segments are missing, if they may have events that count.
@@ -135,6 +151,26 @@ pub(crate) fn say_encoding<P: Person>(
 {
     if let Err(fault) = ended {
         report(command, manner, alone(fault), person);
+    }
+}
+
+/// Says how the folding of segments ended: where words are wanted, that some are missing and which
+/// inputs end within one.
+pub(crate) fn say_folding<P: Person>(
+    command: &Command,
+    manner: Manner,
+    ended: Result<Added, Refused>,
+    person: &mut P,
+)
+    ensures { SaysFolding manner.is_quiet manner.in_words command.now ended
+        (P.heard person.old) (P.heard person.new) }
+{
+    match ended {
+        Ok(added) if manner.in_words => {
+            note_inputs(command, added.coverage, None, added.cut, person);
+        }
+        Ok(_) => {}
+        Err(refused) => report(command, manner, refused, person),
     }
 }
 

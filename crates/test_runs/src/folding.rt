@@ -57,7 +57,8 @@ fn loaded(
     source: Pieces,
 ) -> Result<(Folded, Added), Refused> {
     let mut sources = [Reading::new(source)];
-    load_folded(rt, alloc, setting, &mut sources, table_of(Some(SYMBOLS)))
+    let (none, table) = (Folded::none(alloc), table_of(Some(SYMBOLS)));
+    load_folded(rt, alloc, setting, none, &mut sources, table)
 }
 
 /// What was folded of a first source, to which the reply has this line.

@@ -8,12 +8,13 @@ use crate::worlds::{Memory, Named, Said, Silent, Witness};
 use htl_main::{RunFault, Writing};
 use htl_program::{Console, Inputs, Lack, program};
 use htl_question::Subject;
+use htl_state::Fault;
 use std::alloc::Global;
 use std::process::Abort;
 use std::thread::Threads;
 
-/// Words of a command line over the files `first`, `second`, `symbols` and `text`, and how the program
-/// ends that is given them, with a sink that fails when it holds `most` bytes.
+/// Words of a command line over the files `first`, `second`, `symbols`, `text` and `state`, and how the
+/// program ends that is given them, with a sink that fails when it holds `most` bytes.
 #[derive(Clone, Copy, Debug)]
 struct Line {
     words: &'static [&'static str],
@@ -34,8 +35,8 @@ const LINE: Line = Line {
     last: Said::Nothing,
 };
 
-/// The files of the world, by their names.
-fn files(rt: &impl Abort, alloc: Global) -> [Named; 4] {
+/// The files of the world, by their names. One has the bytes of a state.
+fn files(rt: &impl Abort, alloc: Global, state: Vec<u8>) -> [Named; 5] {
     [
         Named {
             name: "first",
@@ -53,6 +54,10 @@ fn files(rt: &impl Abort, alloc: Global) -> [Named; 4] {
             name: "text",
             bytes: copy_of(rt, alloc, TEXTS[0]),
         },
+        Named {
+            name: "state",
+            bytes: state,
+        },
     ]
 }
 
@@ -61,12 +66,32 @@ fn copy_of(rt: &impl Abort, alloc: Global, text: &str) -> Vec<u8> {
     Vec::from_slice(alloc, text.as_bytes()).expect(rt, "the memory")
 }
 
-/// Whether the program ends so. At most one thing is said.
+/// Whether the program ends so in a world without a state.
 fn is_obeyed(rt: &(impl Threads + Sync + Abort), alloc: Global, line: &Line) {
-    let files = files(rt, alloc);
+    is_obeyed_with(rt, alloc, Vec::new(alloc), line);
+}
+
+/// Whether the program ends so in a world with this state. At most one thing is said.
+fn is_obeyed_with(rt: &(impl Threads + Sync + Abort), alloc: Global, state: Vec<u8>, line: &Line) {
+    let files = files(rt, alloc, state);
+    let (status, written, witness) = ended(rt, alloc, &files, line);
+    let found = (status, written.as_slice(), witness.last);
+    let wanted = (line.status, line.printed.as_bytes(), line.last);
+    assert_row(rt, *line, found, wanted);
+    assert_eq!(rt; witness.count, u32::from(line.last != Said::Nothing));
+}
+
+/// The status with which the program ends in a world of these files, what it wrote, and who heard what
+/// was said.
+fn ended(
+    rt: &(impl Threads + Sync + Abort),
+    alloc: Global,
+    files: &[Named],
+    line: &Line,
+) -> (u8, Vec<u8>, Witness) {
     let mut world = Memory {
         alloc,
-        files: &files,
+        files,
         standard: line.input.as_bytes(),
     };
     let mut arguments = Vec::new(alloc);
@@ -93,10 +118,18 @@ fn is_obeyed(rt: &(impl Threads + Sync + Abort), alloc: Global, line: &Line) {
         &mut Silent { wants_notes: false },
     );
     let witness = console.person;
-    let found = (status, held.held.as_slice(), witness.last);
-    let wanted = (line.status, line.printed.as_bytes(), line.last);
-    assert_row(rt, *line, found, wanted);
-    assert_eq!(rt; witness.count, u32::from(line.last != Said::Nothing));
+    (status, held.held, witness)
+}
+
+/// The state that the program makes of both inputs.
+fn folded(rt: &(impl Threads + Sync + Abort), alloc: Global) -> Vec<u8> {
+    let line = Line {
+        words: &["fold", "second", "first"],
+        ..LINE
+    };
+    let (status, written, witness) = ended(rt, alloc, &files(rt, alloc, Vec::new(alloc)), &line);
+    assert_eq!(rt; (status, witness.last), (0, Said::Nothing));
+    written
 }
 
 #[test]
@@ -354,4 +387,46 @@ read segments=2 new=0 complete_to=7 gaps=0
         ..LINE
     };
     is_obeyed(&rt, rt.alloc(), &line);
+}
+
+#[test]
+fn a_dialogue_begins_with_a_state_that_was_folded(rt: HostRuntime) {
+    let line = Line {
+        words: &["ask", "--symbols", "symbols", "--state", "state"],
+        input: "\
+stacks --object 1000 --tag Lky8
+bad --process 4
+read first
+",
+        printed: "\
+stacks object=0x0000000000001000 tag=Lky8 count=1
+STACK refs=1 derefs=0
+  app!main+0x4
+
+bad process=4 count=1
+BAD REF handle=0x45 times=1
+  0x0000000000000030
+
+read segments=1 new=0 complete_to=7 gaps=0
+
+",
+        ..LINE
+    };
+    is_obeyed_with(&rt, rt.alloc(), folded(&rt, rt.alloc()), &line);
+}
+
+#[test]
+fn no_dialogue_begins_with_what_is_no_state(rt: HostRuntime) {
+    let line = Line {
+        words: &["ask", "--state", "state", "--state", "second", "first"],
+        input: "bad --process 4",
+        status: 3,
+        last: Said::Fault(RunFault::State {
+            state: 1,
+            offset: 0,
+            fault: Fault::Magic,
+        }),
+        ..LINE
+    };
+    is_obeyed_with(&rt, rt.alloc(), folded(&rt, rt.alloc()), &line);
 }

@@ -87,7 +87,7 @@ impl<'a> Explanation<'a> {
             RunFault::Segment { fault, .. } => Meaning::from_segment(fault),
             RunFault::Hex { fault, .. } => Meaning::from_hex(fault),
             RunFault::Text { fault, .. } => Meaning::from_line(fault),
-            RunFault::Case(fault) => Meaning::from_case(fault),
+            RunFault::Case(fault) => Meaning::from_case(self.task, fault),
             RunFault::Incomplete { processor, number } => Meaning::from_missing(processor, number),
             RunFault::UnknownCut { input } => Meaning::from_unknown_cut(input),
             RunFault::NoSubject => Meaning::from_absent(
@@ -133,6 +133,8 @@ impl<'a> Explanation<'a> {
             RunFault::Unbounded { state, .. } => self.task.state(state),
             RunFault::StateRead { state } => self.task.state(state),
             RunFault::Case(CaseFault::Empty) => self.task.input(0),
+            RunFault::Case(CaseFault::OtherTrace(place)) => self.task.name_at(place),
+            RunFault::Case(CaseFault::OtherProcessors(place)) => self.task.name_at(place),
             RunFault::Symbols(_) | RunFault::SymbolsRead => self.task.symbols(),
             RunFault::Write => "standard output",
             RunFault::StateWrite | RunFault::StateStacks => "the state",

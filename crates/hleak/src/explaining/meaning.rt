@@ -7,6 +7,7 @@ ghost use Rattle.hleak.specs.Meanings.{line_text, missing_text, no_memory, said,
 ghost use Rattle.hleak.specs.Meanings.{state_text, symbols_text, text_of, too_many_stacks};
 ghost use Rattle.hleak.specs.Meanings.{unbounded_text, unknown_cut_text, unread, unsaved, untaken};
 
+use crate::explaining::task::Task;
 use crate::reason::Reason;
 use htl_case::CaseFault;
 use htl_command::Code;
@@ -219,17 +220,14 @@ impl Meaning {
         }
     }
 
-    /// What a fault of all segments means.
-    pub fn from_case(fault: CaseFault) -> Meaning
-        ensures { text_of result ≡ case_text fault }
+    /// What a fault of all segments means, which the task reads.
+    pub fn from_case(task: Task, fault: CaseFault) -> Meaning
+        ensures { text_of result ≡ case_text task.entry fault }
     {
         match fault {
             CaseFault::Empty => Meaning::from_code(Code::C1),
-            CaseFault::OtherTrace(place) => Meaning::from_part(Code::C2, NamedPart::Segment(place)),
-            CaseFault::OtherProcessors(place) => Meaning::from_part(
-                Code::C3,
-                NamedPart::Segment(place),
-            ),
+            CaseFault::OtherTrace(place) => Meaning::from_part(Code::C2, task.part_at(place)),
+            CaseFault::OtherProcessors(place) => Meaning::from_part(Code::C3, task.part_at(place)),
             CaseFault::TwoContents(processor, number) => {
                 Meaning::from_part(Code::C4, key(processor, number))
             }

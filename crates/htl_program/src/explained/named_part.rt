@@ -31,6 +31,10 @@ pub enum NamedPart {
     Unnumbered(&'static str),
     /// An input, by its place.
     Input(u64),
+    /// A saved state, by its place among those that a dialogue begins with.
+    State(u64),
+    /// One or the other of this place, where it isn't known which.
+    StateOrSegment(u64),
 }
 
 impl NamedPart {
@@ -119,6 +123,10 @@ impl fmt::Display for NamedPart {
             NamedPart::Subject(subject) => write!(f, "{}", SubjectText { subject }),
             NamedPart::Unnumbered(words) => write!(f, "{words}"),
             NamedPart::Input(input) => write!(f, "input {input}"),
+            NamedPart::State(place) => write!(f, "state {place}"),
+            NamedPart::StateOrSegment(place) => {
+                write!(f, "state {place} or segment {place} of all inputs")
+            }
         }
     }
 }

@@ -149,7 +149,7 @@ pub fn advice(code: Code) -> &'static str
 is it a trace in bytes, and not digits (--hex), text (hleak encode) or a log (tools/from-htrace)?"
         }
         Code::S3 => "was it written for a newer hleak?",
-        Code::F2 => "did save write it? Segments go to read",
+        Code::F2 => "did fold or save write it? Segments are no state",
         Code::F3 => "was it saved by a newer hleak?",
         Code::S4
         | Code::S5

@@ -4,6 +4,7 @@ use Rattle.std.specs.Prelude.{Err, option_copied}
 use Rattle.std.proofs.lemmas.Result.{err_from_is_err_and}
 use Rattle.htl_lemmas.proofs.Lists.{take_front}
 use Rattle.htl_main.specs.Origins.{by_fault}
+use Rattle.htl_world.specs.Worlds.{of_inputs}
 use Rattle.htl_world.proofs.Asked.{again, all_ended}
 use Rattle.htl_world.proofs.NamesRead.{inputs_unread, unread_asks}
 use Rattle.htl_world.proofs.PassedOn.{ends_so}
@@ -26,7 +27,7 @@ returns-in_err-table g c =
           inr (ran_out c.from_residual.result p.0 p.1 (p.2.0 ∙ is.known texts table all has) p.2.1));
       absent = rw (← c.deref.ensures.value) (λ place absent. ends_so _ fault ended (is.absent place absent));
       untabled = rw (← c.deref.ensures.value, ← c.as_ref.ensures.value) (λ texts all gone. ends_so _ fault ended (is.untabled texts all gone));
-      reads = rw (← c.deref.ensures.value) (inputs_unread world _ names _ _ fault ended is.unread);
+      reads = rw (← c.deref.ensures.value) (inputs_unread world _ {known = of_inputs world.holds world.standard names} names _ _ fault ended is.unread);
       readers = rw (← c.deref.ensures.value) (unread_asks c.args.run.now.job.setting _ _ _ _ fault is.unread);
       sink = search rules;
       asked = rw (← c.deref.ensures.value, ← c.as_ref.ensures.value) (all_ended (map string_bytes names) (option_map string_bytes table)

@@ -11,7 +11,7 @@ pub returns-in_err-open_inputs-clause-dumped : goal.returns-in_err-open_inputs-c
 returns-in_err-open_inputs-clause-dumped g c =
     let fault = c.in_err-open_inputs.field-0.0 in
     let is : c.from_residual.result ≡ Err fault = search rules in
-    none_converted (IsDumpedFrom c.args.form) _ _ c.args.files.now _ _ _ fault c.requires is c.in_err-open_inputs.ensures
+    none_converted (λ f. f) (IsDumpedFrom c.args.form) _ _ c.args.files.now _ _ _ fault c.requires is c.in_err-open_inputs.ensures
 
 pub returns-clause-dumped : goal.returns-clause-dumped
 returns-clause-dumped g c =
@@ -19,7 +19,7 @@ returns-clause-dumped g c =
     let kept : length c.dump_from.new.inputs ≡ inputs.len = search rules in
     let back = take_front c.dump_from.new.inputs (drop (length c.dump_from.new.inputs) inputs.items) inputs.len kept in
     let is = rw c.deref_mut.ensures.value at c.dump_from.ensures in
-    rw back (all_converted (IsDumpedFrom c.args.form) _ _ c.args.files.now _ _ _ _ _ c.in_ok-open_inputs.ensures is)
+    rw back (all_converted (λ f. f) (IsDumpedFrom c.args.form) _ _ c.args.files.now _ _ _ _ _ c.in_ok-open_inputs.ensures is)
 
 pub returns-clause-untouched : goal.returns-clause-untouched
 returns-clause-untouched g c =

@@ -9,7 +9,7 @@ pub returns-in_err-open_inputs : goal.returns-in_err-open_inputs
 returns-in_err-open_inputs g c =
     let fault = c.in_err-open_inputs.field-0.0 in
     let is : c.from_residual.result ≡ Err fault = search rules in
-    none_converted (IsEncodedFrom c.args.hex) _ _ c.args.files.now _ _ _ fault c.requires is c.in_err-open_inputs.ensures
+    none_converted (λ f. f) (IsEncodedFrom c.args.hex) _ _ c.args.files.now _ _ _ fault c.requires is c.in_err-open_inputs.ensures
 
 pub returns : goal.returns
 returns g c =
@@ -17,4 +17,4 @@ returns g c =
     let kept : length c.encode_from.new.inputs ≡ inputs.len = search rules in
     let back = take_front c.encode_from.new.inputs (drop (length c.encode_from.new.inputs) inputs.items) inputs.len kept in
     let is = rw c.deref_mut.ensures.value at c.encode_from.ensures in
-    rw back (all_converted (IsEncodedFrom c.args.hex) _ _ c.args.files.now _ _ _ _ _ c.in_ok-open_inputs.ensures is)
+    rw back (all_converted (λ f. f) (IsEncodedFrom c.args.hex) _ _ c.args.files.now _ _ _ _ _ c.in_ok-open_inputs.ensures is)

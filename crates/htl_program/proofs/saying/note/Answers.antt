@@ -7,4 +7,4 @@ pub returns : goal.returns
 returns g c =
     let wanted : c.args.in_words ≡ true = search (rules, c.if-not-in_words.false) in
     rw wanted (all_told _ _ _ _ _ c.note_lack.ensures (all_told _ _ _ _ _ (rw c.misses_names.ensures at c.note_names.ensures)
-    (all_told _ _ _ _ _ c.note_gaps.ensures c.note_cut.ensures)))
+    c.note_inputs.ensures))

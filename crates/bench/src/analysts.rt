@@ -1,10 +1,10 @@
-//! How long an analyst takes to fold a trace, to be merged and to answer. The size is the number of
-//! events, at most 4,096, in each of 256 segments, of 4 and of 64 processors.
+//! How long an analyst takes to fold a trace and to be merged. The size is the number of events, at
+//! most 4,096, in each of 256 segments, of 4 and of 64 processors.
 
 use crate::stopwatch::Stopwatch;
 use anyhow::{Context, Result};
 use htl_analyst::Analyst;
-use htl_event::{Slot, number_of_events};
+use htl_event::number_of_events;
 use htl_samples::{RandomTrace, SMALL, TRACE};
 use htl_segment::Segment;
 use htl_tables::Latest;
@@ -12,12 +12,6 @@ use htl_tree::StackTree;
 use std::alloc::Global;
 
 const SEGMENTS: u32 = 256;
-
-const PROCESS: u32 = 8;
-
-const OBJECT: u64 = 0x1010;
-
-const TAG: [u8; 4] = *b"Lky8";
 
 /// A trace of 10,000 stacks and 16 processes, with 12 handles in each for every event of a segment
 /// (about 50,000 at most), and as many objects.
@@ -42,7 +36,6 @@ pub fn measure(watch: &mut Stopwatch<'_>, size: u32) -> Result<()> {
         watch.restart();
         let analyst = fold(watch, &trace)?;
         merge(watch, &trace, &analyst)?;
-        answer(watch, &analyst)?;
     }
     Ok(())
 }
@@ -71,7 +64,7 @@ fn alone(watch: &mut Stopwatch<'_>, segments: &[Segment]) -> Result<()> {
 }
 
 /// An analyst that holds the segments.
-pub fn taken(alloc: Global, processors: u16, segments: Vec<Segment>) -> Result<Analyst<Global>> {
+fn taken(alloc: Global, processors: u16, segments: Vec<Segment>) -> Result<Analyst<Global>> {
     let mut analyst = Analyst::new(alloc, TRACE.id, processors)
         .ok()
         .context("no analyst")?;
@@ -137,47 +130,4 @@ fn half(alloc: Global, trace: &RandomTrace, lower: bool) -> Result<Analyst<Globa
     let mut analyst = taken(alloc, trace.processors, segments)?;
     compact(&mut analyst)?;
     Ok(analyst)
-}
-
-/// Times every answer. The number is that of its rows, or the answer itself.
-fn answer(watch: &mut Stopwatch<'_>, analyst: &Analyst<Global>) -> Result<()> {
-    watch.restart();
-    without_memory(watch, analyst);
-    of_process(watch, analyst);
-    of_object(watch, analyst);
-    let bad = analyst.bad(watch.alloc(), PROCESS);
-    watch.lap_list("bad references", bad);
-    let tree = analyst.whole_tree()?;
-    watch.lap("events of the whole tree", tree.total());
-    Ok(())
-}
-
-/// Those that take no memory.
-fn without_memory(watch: &mut Stopwatch<'_>, analyst: &Analyst<Global>) {
-    let latest = analyst.latest(PROCESS, 4).map(|event| event.sequence);
-    watch.lap("latest event of a handle", latest.unwrap_or(0));
-    watch.lap("mark", analyst.mark(PROCESS));
-    let opens = analyst.under(&[], Slot::Handles { process: PROCESS });
-    watch.lap("opens under a path", opens.plus);
-    watch.lap(
-        "moment up to which nothing is missing",
-        analyst.complete_to(),
-    );
-}
-
-fn of_process(watch: &mut Stopwatch<'_>, analyst: &Analyst<Global>) {
-    let alloc = watch.alloc();
-    watch.lap_list("outstanding handles", analyst.outstanding(alloc, PROCESS));
-    let since = analyst.mark(PROCESS);
-    watch.lap_list(
-        "handles opened since the mark",
-        analyst.diff(alloc, PROCESS, since),
-    );
-    watch.lap_list("leaking stacks", analyst.leaks(alloc, PROCESS));
-}
-
-fn of_object(watch: &mut Stopwatch<'_>, analyst: &Analyst<Global>) {
-    let alloc = watch.alloc();
-    watch.lap_list("tags of an object", analyst.tags(alloc, OBJECT));
-    watch.lap_list("stacks of a tag", analyst.stacks(alloc, OBJECT, TAG));
 }

@@ -12,10 +12,8 @@ mod measurement;
 mod reports;
 mod segments;
 mod stopwatch;
-mod summaries;
 mod surveys;
 mod tables;
-mod texts;
 mod trees;
 
 use anyhow::{Context, Result};
@@ -38,11 +36,9 @@ fn measure<R: Threads + Wait + Sync>(
         Measurement::Trees => trees::measure(&mut watch, size),
         Measurement::Tables => tables::measure(&mut watch, size),
         Measurement::Analysts => analysts::measure(&mut watch, size),
-        Measurement::Summaries => summaries::measure(&mut watch, size),
         Measurement::Cases => cases::measure(&mut watch, size),
         Measurement::Surveys => surveys::measure(&mut watch, threads, size),
         Measurement::Reports => reports::measure(&mut watch, size),
-        Measurement::Texts => texts::measure(&mut watch, size),
     }?;
     watch.finish()
 }

@@ -7,11 +7,9 @@ pub enum Measurement {
     Trees,
     Tables,
     Analysts,
-    Summaries,
     Cases,
     Surveys,
     Reports,
-    Texts,
 }
 
 impl Measurement {
@@ -20,11 +18,9 @@ impl Measurement {
         Measurement::Trees,
         Measurement::Tables,
         Measurement::Analysts,
-        Measurement::Summaries,
         Measurement::Cases,
         Measurement::Surveys,
         Measurement::Reports,
-        Measurement::Texts,
     ];
 
     /// The measurement that has this word.
@@ -44,11 +40,9 @@ impl Measurement {
             Measurement::Trees => "trees",
             Measurement::Tables => "tables",
             Measurement::Analysts => "analysts",
-            Measurement::Summaries => "summaries",
             Measurement::Cases => "cases",
             Measurement::Surveys => "surveys",
             Measurement::Reports => "reports",
-            Measurement::Texts => "texts",
         }
     }
 
@@ -59,11 +53,9 @@ impl Measurement {
             Measurement::Trees => 1,
             Measurement::Tables => 2,
             Measurement::Analysts => 16,
-            Measurement::Summaries => 4,
             Measurement::Cases => 64,
             Measurement::Surveys => 16,
             Measurement::Reports => 1000,
-            Measurement::Texts => 1,
         }
     }
 }

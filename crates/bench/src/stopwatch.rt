@@ -82,13 +82,6 @@ impl<'a> Stopwatch<'a> {
         }
     }
 
-    /// Prints what is measured next.
-    pub fn print_title(&mut self, title: &str) {
-        if let Err(fault) = println!(self.rt; "{title}") {
-            self.fail(fault);
-        }
-    }
-
     fn fail<E: Error>(&mut self, fault: E) {
         if self.outcome.is_ok() {
             self.outcome = Err(fault.into());

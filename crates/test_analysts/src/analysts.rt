@@ -4,7 +4,7 @@ use crate::rows::{assert_is, assert_row};
 use htl_analyst::{Analyst, TakeFault, Took};
 use htl_samples::{TRACE, Trace};
 use htl_segment::Segment;
-use std::alloc::{Allocator, Global};
+use std::alloc::Global;
 use std::process::Abort;
 
 /// The samples' trace with two processors.
@@ -25,26 +25,18 @@ pub fn segment(rt: &impl Abort, alloc: Global, trace: Trace, line: &str) -> Segm
         .expect(rt, "the line is a segment")
 }
 
-/// What an analyst answers to a segment.
-pub fn take_segment<A: Allocator + Clone>(
-    analyst: &mut Analyst<A>,
-    segment: Segment,
-) -> Result<Took, TakeFault> {
-    match analyst.take(segment) {
-        Ok(took) => Ok(took),
-        Err((fault, _segment)) => Err(fault),
-    }
-}
-
 /// What an analyst answers to the segment of a line of this trace.
-pub fn take_of<A: Allocator + Clone>(
+pub fn take_of(
     rt: &impl Abort,
     alloc: Global,
-    analyst: &mut Analyst<A>,
+    analyst: &mut Analyst<Global>,
     trace: Trace,
     line: &str,
 ) -> Result<Took, TakeFault> {
-    take_segment(analyst, segment(rt, alloc, trace, line))
+    match analyst.take(segment(rt, alloc, trace, line)) {
+        Ok(took) => Ok(took),
+        Err((fault, _segment)) => Err(fault),
+    }
 }
 
 /// What an analyst answers to the segment of a line of its trace.
@@ -77,7 +69,7 @@ pub fn merge(rt: &impl Abort, analyst: &mut Analyst<Global>, other: &Analyst<Glo
 }
 
 /// Whether an analyst takes over the other by a move.
-pub fn is_absorbed<A: Allocator + Clone>(analyst: &mut Analyst<A>, other: Analyst<A>) -> bool {
+pub fn is_absorbed(analyst: &mut Analyst<Global>, other: Analyst<Global>) -> bool {
     match analyst.absorb(other) {
         Ok(()) => true,
         Err(_refused) => false,
@@ -109,13 +101,4 @@ pub fn has_numbers(rt: &impl Abort, analyst: &Analyst<Global>, wanted: (u32, u32
     let (front, other_front, held, taken) = wanted;
     assert_is(rt, analyst.front(1), other_front);
     has_sizes(rt, analyst, (front, held, taken));
-}
-
-/// What an analyst answered to a segment is this.
-pub fn assert_took(
-    rt: &impl Abort,
-    found: Result<Took, TakeFault>,
-    wanted: Result<Took, TakeFault>,
-) {
-    assert_is(rt, found, wanted);
 }

@@ -1,14 +1,13 @@
 //! Fronts, and what analysts take over from one another.
 
 use crate::analysts::{
-    TWO_PROCESSORS, assert_took, compact, compacted, has_numbers, has_sizes, is_absorbed, merge,
-    new, take, take_all, take_segment, taken,
+    TWO_PROCESSORS, compact, compacted, has_numbers, has_sizes, is_absorbed, merge, take, take_all,
+    taken,
 };
-use crate::rows::{assert_is, assert_list, assert_row, assert_sequences};
+use crate::rows::{assert_is, assert_list, assert_sequences};
 use htl_analyst::{Analyst, Took};
 use htl_event::Count;
 use htl_samples::TRACE;
-use htl_segment::{Segment, decode, from_hex};
 use std::alloc::Global;
 use std::process::Abort;
 
@@ -27,28 +26,17 @@ const OPEN: &str = "0/0: O 1 0x44";
 /// The close of what is opened, on another processor.
 const CLOSE: &str = "1/0: C 2 0x44";
 
-const EMPTY: &[u8] = b"484c5331 0100 0100 0000 0000 00000000 0700000000000000 00000000 20000000";
-
 /// The least number that no segment has, and no segment before it, is 0xffffffff.
 const LAST: &str = "0/0xfffffffe:";
 
-/// The segment of the bytes without an event.
-fn empty_segment(rt: &impl Abort, alloc: Global) -> Segment {
-    let bytes = from_hex(alloc, EMPTY).expect(rt, "hexadecimal digits");
-    let (segment, _len) = decode(alloc, &bytes).expect(rt, "a segment");
-    segment
-}
-
 /// The segment of a line was taken before.
 fn is_repeated(rt: &impl Abort, alloc: Global, analyst: &mut Analyst<Global>, line: &str) {
-    assert_took(rt, take(rt, alloc, analyst, line), Ok(Took::Repeat));
+    assert_is(rt, take(rt, alloc, analyst, line), Ok(Took::Repeat));
 }
 
 #[test]
 fn an_empty_segment(rt: HostRuntime) {
-    let mut analyst = new(&rt, rt.alloc(), TRACE);
-    let took = take_segment(&mut analyst, empty_segment(&rt, rt.alloc()));
-    assert_took(&rt, took, Ok(Took::New));
+    let mut analyst = taken(&rt, rt.alloc(), TRACE, &["0/0:"]);
     has_sizes(&rt, &analyst, (0, 1, 1));
     compact(&rt, &mut analyst);
     has_sizes(&rt, &analyst, (1, 0, 1));
@@ -150,34 +138,6 @@ fn repeats_count_once(rt: HostRuntime) {
     }
 }
 
-/// Segments with three, no, two and one events.
-const UNEVEN: [&str; 4] = [
-    "0/0: O 1 0x44, C 2 0x44, O 3 0x48",
-    "0/1:",
-    "0/2: R 4 0x1000 Lky8, D 5 0x1000 Lky8",
-    "0/3: S 6",
-];
-
-/// It has folded the first and the second, and holds the last.
-fn all_but_two_events(rt: &impl Abort, alloc: Global) -> Analyst<Global> {
-    let analyst = compacted(rt, alloc, TRACE, &[UNEVEN[3], UNEVEN[1], UNEVEN[0]]);
-    assert_is(rt, (analyst.held(), analyst.events()), (1, 4));
-    analyst
-}
-
-#[test]
-fn events_count_once(rt: HostRuntime) {
-    let mut analyst = taken(&rt, rt.alloc(), TRACE, &[UNEVEN[2], UNEVEN[0]]);
-    is_repeated(&rt, rt.alloc(), &mut analyst, UNEVEN[2]);
-    assert_is(&rt, analyst.events(), 5);
-    compact(&rt, &mut analyst);
-    assert_is(&rt, (analyst.held(), analyst.events()), (1, 5));
-    merge(&rt, &mut analyst, &all_but_two_events(&rt, rt.alloc()));
-    assert_is(&rt, (analyst.held(), analyst.events()), (2, 6));
-    compact(&rt, &mut analyst);
-    assert_is(&rt, (analyst.held(), analyst.events()), (0, 6));
-}
-
 #[test]
 fn an_analyst_merged_with_its_own_copy(rt: HostRuntime) {
     let mut analyst = compacted(&rt, rt.alloc(), TRACE, &[OPEN]);
@@ -193,45 +153,4 @@ fn two_processors(rt: HostRuntime) {
     has_numbers(&rt, &one, (1, 1, 0, 2));
     let other = compacted(&rt, rt.alloc(), TWO_PROCESSORS, &[CLOSE, OPEN]);
     are_same(&rt, &one, &other);
-}
-
-const LOOSE: &[&str] = &["0/0:", "0/1:", "0/3:"];
-
-#[test]
-fn fronts_and_loose_numbers(rt: HostRuntime) {
-    let mut analyst = taken(&rt, rt.alloc(), TWO_PROCESSORS, LOOSE);
-    is_repeated(&rt, rt.alloc(), &mut analyst, "0/3:");
-    has_numbers(&rt, &analyst, (0, 0, 3, 3));
-    compact(&rt, &mut analyst);
-    has_numbers(&rt, &analyst, (2, 0, 1, 3));
-}
-
-/// Processors and numbers, and whether the loose numbers have them.
-const HAS: &[(u16, u32, bool)] = &[
-    (0, 1, true),
-    (0, 2, false),
-    (0, 3, true),
-    (1, 0, false),
-    (2, 0, false),
-];
-
-#[test]
-fn taken_numbers(rt: HostRuntime) {
-    let analyst = compacted(&rt, rt.alloc(), TWO_PROCESSORS, LOOSE);
-    for (processor, number, has) in HAS {
-        let key = (*processor, *number);
-        assert_row(&rt, key, analyst.has(*processor, *number), *has);
-    }
-}
-
-const MORE: &[&str] = &["0/1:", "0/2:", "1/0:"];
-
-#[test]
-fn loose_numbers_are_united(rt: HostRuntime) {
-    let mut analyst = compacted(&rt, rt.alloc(), TWO_PROCESSORS, LOOSE);
-    let more = taken(&rt, rt.alloc(), TWO_PROCESSORS, MORE);
-    merge(&rt, &mut analyst, &more);
-    has_numbers(&rt, &analyst, (2, 0, 3, 5));
-    compact(&rt, &mut analyst);
-    has_numbers(&rt, &analyst, (4, 1, 0, 5));
 }

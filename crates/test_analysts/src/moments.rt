@@ -42,23 +42,6 @@ fn complete_to_a_moment(rt: HostRuntime) {
     is_complete_to(&rt, rt.alloc(), &mut analyst, LINES[3], 10);
 }
 
-/// What was folded last of both processors, and of one that isn't there.
-fn last_folded(analyst: &Analyst<Global>) -> (u64, u64, u64) {
-    (
-        analyst.last_folded(0),
-        analyst.last_folded(1),
-        analyst.last_folded(2),
-    )
-}
-
-#[test]
-fn what_is_held_was_not_folded(rt: HostRuntime) {
-    let mut analyst = taken(&rt, rt.alloc(), TWO_PROCESSORS, &LINES);
-    assert_is(&rt, last_folded(&analyst), (0, 0, 0));
-    compact(&rt, &mut analyst);
-    assert_is(&rt, last_folded(&analyst), (10, 20, 0));
-}
-
 #[test]
 fn a_merge_completes(rt: HostRuntime) {
     let mut analyst = compacted(&rt, rt.alloc(), TWO_PROCESSORS, &LINES[..1]);

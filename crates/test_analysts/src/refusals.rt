@@ -1,21 +1,13 @@
 //! What analysts refuse, and that a refusal changes nothing.
 
-use crate::analysts::{
-    TWO_PROCESSORS, compacted, merge, new, segment, take, take_of, take_segment, taken,
-};
+use crate::analysts::{TWO_PROCESSORS, compacted, merge, segment, take, take_of, taken};
 use crate::heaps::heap;
 use crate::rows::{assert_is, assert_list, assert_row};
 use htl_analyst::{Analyst, AnalystFault, MergeFault, TakeFault, Took};
-use htl_samples::{SampleFault, TRACE, Trace};
-use htl_segment::{Fault, Segment, decode, from_hex};
+use htl_samples::{TRACE, Trace};
+use htl_segment::Segment;
 use std::alloc::{Allocator, Global};
 use std::process::Abort;
-
-const STORED: &[u8] = b"484c5331 0100 0100 0000 0000 00000000 0700000000000000 03000000 9c000000
-    0100000000000000 01 00 0000 04000000 0c000000 44000000 0000000000000000 00000000
-    0200000000000000 02 00 0000 04000000 0c000000 44000000 0000000000000000 00000000
-    0300000000000000 01 02 0000 04000000 0c000000 48000000 0000000000000000 00000000
-    1010000000000000 0020000000000000";
 
 const OTHER_TRACE: Trace = Trace { id: 8, ..TRACE };
 
@@ -91,25 +83,6 @@ fn a_conflicting_segment_is_handed_back(rt: HostRuntime) {
     let mut analyst = taken(&rt, rt.alloc(), TRACE, &["0/3: O 1 0x44"]);
     let back = is_handed_back(&rt, rt.alloc(), &mut analyst, "0/3: O 2 0x44");
     assert_is(&rt, back, true);
-}
-
-/// The stored run's bytes, in this version.
-fn stored(rt: &impl Abort, alloc: Global, version: u8) -> Segment {
-    let mut bytes = from_hex(alloc, STORED).expect(rt, "hexadecimal digits");
-    if let Some(byte) = bytes.get_mut(4) {
-        *byte = version;
-    }
-    let (segment, _len) = decode(alloc, &bytes).expect(rt, "a segment");
-    segment
-}
-
-#[test]
-fn one_content_in_two_versions(rt: HostRuntime) {
-    let mut analyst = new(&rt, rt.alloc(), TRACE);
-    let first = take_segment(&mut analyst, stored(&rt, rt.alloc(), 1));
-    assert_is(&rt, first, Ok(Took::New));
-    let second = take_segment(&mut analyst, stored(&rt, rt.alloc(), 2));
-    assert_is(&rt, second, Err(TakeFault::Conflict(0, 0)));
 }
 
 // What was folded is no longer compared.
@@ -195,13 +168,6 @@ fn analysts_that_are_not_merged(rt: HostRuntime) {
         merge_is_refused(&rt, rt.alloc(), *trace, lines, *fault);
         absorb_is_refused(&rt, rt.alloc(), *trace, lines, *fault);
     }
-}
-
-// The number 0xffffffff is none.
-#[test]
-fn a_number_too_large(rt: HostRuntime) {
-    let fault = TRACE.segment(rt.alloc(), "0/0xffffffff:").err();
-    assert_is(&rt, fault, Some(SampleFault::Segment(Fault::Number)));
 }
 
 /// Why the first of the empty segments from number 1 on is refused that is, and its number.

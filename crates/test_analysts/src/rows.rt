@@ -32,19 +32,6 @@ where
     assert_is(rt, list.as_slice(), wanted);
 }
 
-/// Both lists were made, and are equal.
-pub fn assert_same_lists<T>(
-    rt: &impl Abort,
-    one: Result<Vec<T>, NoMemory>,
-    other: Result<Vec<T>, NoMemory>,
-)
-where
-    T: Debug + PartialEq + Drop,
-{
-    let other = other.expect(rt, "the memory");
-    assert_list(rt, one, &other);
-}
-
 /// The tree was made, and is this one.
 pub fn assert_tree(
     rt: &impl Abort,
@@ -53,24 +40,6 @@ pub fn assert_tree(
 ) {
     let tree = made.expect(rt, "the memory");
     assert_is(rt, tree.same(wanted), true);
-}
-
-/// The events were made, and are these.
-pub fn assert_events(
-    rt: &impl Abort,
-    made: Result<Vec<SharedEvent>, NoMemory>,
-    wanted: &[&SharedEvent],
-) {
-    let events = made.expect(rt, "the memory");
-    are_events(rt, &events, wanted);
-}
-
-fn are_events(rt: &impl Abort, events: &[SharedEvent], wanted: &[&SharedEvent]) {
-    assert_is(rt, events.len(), wanted.len());
-    let mut events = events.iter();
-    for row in wanted {
-        assert_is(rt, events.next(), Some(*row));
-    }
 }
 
 /// The events were made, and have these sequences.
@@ -85,31 +54,6 @@ fn have_sequences(rt: &impl Abort, events: &[SharedEvent], wanted: &[u64]) {
     for sequence in wanted {
         let event = events.next().expect(rt, "an event");
         assert_is(rt, event.sequence, *sequence);
-    }
-}
-
-/// The rows were made, and their stacks are these, each with its number.
-pub fn assert_counted<T>(
-    rt: &impl Abort,
-    made: Result<Vec<(SharedStack, T)>, NoMemory>,
-    wanted: &[(&SharedStack, T)],
-)
-where
-    T: Debug + PartialEq + Drop,
-{
-    let rows = made.expect(rt, "the memory");
-    have_stacks(rt, &rows, wanted);
-}
-
-fn have_stacks<T>(rt: &impl Abort, rows: &[(SharedStack, T)], wanted: &[(&SharedStack, T)])
-where
-    T: Debug + PartialEq + Drop,
-{
-    assert_is(rt, rows.len(), wanted.len());
-    let mut rows = rows.iter();
-    for (stack, number) in wanted {
-        let row = rows.next().expect(rt, "a row");
-        assert_is(rt, (&row.0, &row.1), (*stack, number));
     }
 }
 

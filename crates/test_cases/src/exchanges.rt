@@ -5,8 +5,7 @@ ghost use Rattle.htl_exchange.specs.Desks.{IsDeskOf};
 use htl_analyst::Analyst;
 use htl_case::Case;
 use htl_exchange::{
-    CloseFault, Collected, Desk, Exchange, Free, Gate, Posted, StartFault, SurveyFault, Why,
-    survey, survey_owned,
+    CloseFault, Collected, Desk, Exchange, Free, Gate, Posted, Why, survey, survey_owned,
 };
 use htl_samples::{TRACE, Trace};
 use htl_segment::Segment;
@@ -74,7 +73,7 @@ fn reference(rt: &impl Abort, alloc: Global, processor: u32, number: u32) -> Seg
 }
 
 /// One analyst that took all of the case and was compacted.
-pub fn alone(rt: &impl Abort, alloc: Global, case: &Case) -> Analyst<Global> {
+fn alone(rt: &impl Abort, alloc: Global, case: &Case) -> Analyst<Global> {
     let mut analyst = Analyst::new(alloc, case.trace_id(), case.processors()).expect(
         rt,
         "there is memory",
@@ -85,20 +84,6 @@ pub fn alone(rt: &impl Abort, alloc: Global, case: &Case) -> Analyst<Global> {
     }
     analyst.compact().expect(rt, "there is memory");
     analyst
-}
-
-/// Why no exchange is started with so many desks.
-fn start_refused<R: Wait>(rt: &R, alloc: Global, case: &Case, desks: u32) -> Option<StartFault> {
-    Exchange::start(rt, alloc, case, desks).err()
-}
-
-#[test]
-fn no_desk_and_nine_are_refused(rt: HostRuntime) {
-    let case = case_of(&rt, rt.alloc(), TRACE, &ONE_RUN);
-    for desks in [0, 9] {
-        let fault = start_refused(&rt, rt.alloc(), &case, desks);
-        assert!(rt; matches!(fault, Some(StartFault::Desks)));
-    }
 }
 
 /// What comes of a post.
@@ -282,15 +267,6 @@ fn two_workers_at_a_gate(rt: HostRuntime) {
     workers_come_to(&rt, rt.alloc(), &case, 1, &two);
     is_whole(&rt, rt.alloc(), &case, &two);
     assert!(rt; surveyed_owned(&rt, rt.alloc(), case).same(&two));
-}
-
-#[test]
-fn no_worker_and_nine_are_refused(rt: HostRuntime) {
-    let case = case_of(&rt, rt.alloc(), TWO_PROCESSORS, &TWO_RUNS);
-    for workers in [0, 9] {
-        let fault = survey(&rt, rt.alloc(), &case, workers, &Free).err();
-        assert!(rt; matches!(fault, Some(SurveyFault::Workers)));
-    }
 }
 
 /// Eight workers who wait for each other before their second turns. Each then has one whole run,

@@ -96,40 +96,31 @@ fn outstanding(rt: &impl Abort, alloc: Global, analyst: &Analyst<Global>) -> usi
     rows.len()
 }
 
-/// So many analysts come of the steps of two, or these are refused so.
-fn come_to(
-    rt: &impl Abort,
-    alloc: Global,
-    case: &Case,
-    steps: &[Step],
-    wanted: Result<usize, PlayFault>,
-) {
-    let found = play(alloc, case, 2, steps).map(|analysts| analysts.len());
-    assert_row(rt, steps, found, wanted);
-}
-
-/// The steps of two analysts are refused because one at this place names another analyst.
-fn name_no_analyst(rt: &impl Abort, alloc: Global, case: &Case, steps: &[Step], place: u64) {
-    come_to(rt, alloc, case, steps, Err(PlayFault::NoAnalyst(place)));
-}
-
-/// They are refused because one at this place names no segment.
-fn name_no_segment(rt: &impl Abort, alloc: Global, case: &Case, steps: &[Step], place: u64) {
-    come_to(rt, alloc, case, steps, Err(PlayFault::NoSegment(place)));
-}
+/// Steps of two analysts that name what isn't there, and why each is refused.
+const REFUSED: &[(Step, PlayFault)] = &[
+    (
+        Step::Take {
+            analyst: 2,
+            segment: 0,
+        },
+        PlayFault::NoAnalyst(0),
+    ),
+    (
+        Step::Take {
+            analyst: 0,
+            segment: 4,
+        },
+        PlayFault::NoSegment(0),
+    ),
+];
 
 #[test]
 fn steps_that_name_what_is_not_there(rt: HostRuntime) {
-    let (alloc, case) = (rt.alloc(), case_of(&rt, rt.alloc(), &FOUR));
-    come_to(&rt, alloc, &case, &[], Ok(2));
-    name_no_analyst(&rt, alloc, &case, &[take(2, 0)], 0);
-    name_no_segment(&rt, alloc, &case, &[take(0, 4)], 0);
-    name_no_analyst(&rt, alloc, &case, &[take(2, 4)], 0);
-    name_no_analyst(&rt, alloc, &case, &[take(1, 3), merge(0, 2)], 1);
-    name_no_analyst(&rt, alloc, &case, &[merge(2, 0), take(0, 4)], 0);
-    let steps = [compact(1), take(0, 4), compact(2)];
-    name_no_segment(&rt, alloc, &case, &steps, 1);
-    name_no_analyst(&rt, alloc, &case, &[merge(0, 1), compact(2)], 1);
+    let case = case_of(&rt, rt.alloc(), &FOUR);
+    for (step, fault) in REFUSED {
+        let found = play(rt.alloc(), &case, 2, &[*step]).map(|analysts| analysts.len());
+        assert_row(&rt, step, found, Err(*fault));
+    }
 }
 
 const CODES: &[(PlayFault, &str)] = &[

@@ -2,7 +2,7 @@
 
 use htl_event::{Count, Kind, SharedStack, Slot};
 use htl_segment::from_hex;
-use htl_state::{CountRow, Fault, LatestRow, PartRows, StateError, StateRows, decode, encode};
+use htl_state::{CountRow, LatestRow, PartRows, StateRows, decode, encode};
 use std::alloc::Global;
 use std::fmt::Debug;
 use std::process::Abort;
@@ -83,10 +83,6 @@ fn assert_row<R: Debug + Drop, T: Debug + PartialEq + Drop>(
     assert_eq!(rt; found, wanted, "of {row:?}");
 }
 
-fn error_of(alloc: Global, bytes: &[u8]) -> Option<StateError> {
-    decode(alloc, bytes).err()
-}
-
 #[test]
 fn worked_state_is_read_and_written(rt: HostRuntime) {
     let texts = [HEADER, STACKS, FRONT, COUNTS, LATEST, MOMENTS, HELD, END];
@@ -162,28 +158,6 @@ fn latest(sequence: u64, kind: Kind, handle: u32, stack: u32) -> LatestRow {
         thread: 12,
         handle,
         stack,
-    }
-}
-
-#[test]
-fn each_changed_byte_is_refused(rt: HostRuntime) {
-    let texts = [HEADER, STACKS, FRONT, COUNTS, LATEST, MOMENTS, HELD, END];
-    let mut bytes = joined(&rt, rt.alloc(), &texts);
-    for place in 0..bytes.len() {
-        change(&mut bytes, place);
-        let error = error_of(rt.alloc(), &bytes);
-        assert!(rt;
-            error.is_some_and(|error| error.fault != Fault::NoMemory),
-            "at {place}"
-        );
-        change(&mut bytes, place);
-    }
-    assert!(rt; error_of(rt.alloc(), &bytes).is_none());
-}
-
-fn change(bytes: &mut [u8], place: usize) {
-    if let Some(byte) = bytes.get_mut(place) {
-        *byte ^= 0x10;
     }
 }
 
@@ -360,7 +334,7 @@ fn faults_of_bytes(rt: HostRuntime) {
 }
 
 fn has_fault(rt: &impl Abort, alloc: Global, bytes: &[u8], wanted: (&str, u64)) {
-    let error = error_of(alloc, bytes).expect(rt, "a fault");
+    let error = decode(alloc, bytes).err().expect(rt, "a fault");
     let fault = error.fault;
     let code = format!(in alloc; "{fault}").expect(rt, "the code");
     assert_row(rt, wanted, (code.as_str(), error.offset), wanted);

@@ -1,4 +1,4 @@
-//! Heaps of a size, in which allocations are refused.
+//! Heaps of a size.
 
 use linked_list_allocator::LocalHeap;
 use std::alloc::Global;

@@ -46,8 +46,3 @@ where
         assert_is(rt, (row.0.frames(), &row.1), (*frames, number));
     }
 }
-
-/// Whether the call was done, and not refused.
-pub fn is_done<T: Drop>(outcome: Result<T, NoMemory>) -> bool {
-    outcome.is_ok()
-}

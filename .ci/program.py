@@ -97,7 +97,7 @@ class Asking:
 
     def answer(self, words, files, most=None, limit="true", lines=None):
         """The status, the text and the lines on standard error, in at most so many bytes of addresses or under another limit. These lines
-        are the standard input."""
+        are the standard input. Bytes that are no text stand in it as surrogates."""
         limit = f"ulimit -v {most // 1024}" if most else limit
         ended = subprocess.run(
             ["sh", "-c", limit + ' && exec "$0" "$@"', PROGRAM, *words.split(), *files],
@@ -106,7 +106,7 @@ class Asking:
             timeout=60,
             env={**os.environ, "MALLOC_ARENA_MAX": "1"},
         )
-        return ended.returncode, ended.stdout.decode(), ended.stderr.decode()
+        return ended.returncode, ended.stdout.decode(errors="surrogateescape"), ended.stderr.decode()
 
     def at_terminal(self, words, files, most=None):
         """The same with a terminal as the standard error, with the line ends that the program wrote."""

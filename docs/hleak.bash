@@ -13,7 +13,7 @@ _hleak_value() {
     --until) words='complete' ;;
     --workers) words='1 2 3 4 5 6 7 8' ;;
     --since) words='snapshot' ;;
-    --symbols) return ;;
+    --symbols|--state) return ;;
     --top|--process|--object|--at-least|--tag|--handle|--points) words='' ;;
     *) return 1 ;;
   esac
@@ -34,7 +34,8 @@ _hleak_command() {
     balance) options='--tag --top --all --exit-code --until --symbols --workers --json --complete --hex --partial --notes --help' needed='' words='' ;;
     trace) options='--process --handle --top --until --symbols --workers --json --complete --hex --partial --notes --help' needed='--process --handle' words='' ;;
     growth) options='--process --points --until --symbols --workers --json --complete --hex --partial --notes --help' needed='--process' words='' ;;
-    ask) options='--symbols --workers --fold --complete --hex --partial --notes --help' needed='' words='' ;;
+    ask) options='--symbols --workers --state --fold --complete --hex --partial --notes --help' needed='' words='' ;;
+    fold) options='--workers --complete --hex --partial --notes --help' needed='' words='' ;;
     explain) options='--notes --help' needed='' words='S1 S2 S3 S4 S5 S6 S7 S8 S9 S10 S11 S12 S13 S14 S15 S16 S17 H1 H2 H3 F1 F2 F3 F4 F5 F6 F7 F8 F9 F10 F11 F12 F13 F14 F15 F16 F17 C1 C2 C3 C4 C5 C6 C7 C8 C9 C10 Y1 Y2 Y3 Y4 Y5 Y6 Y7 E1 E2' ;;
     dump) options='--hex --partial --notes --help' needed='' words='' ;;
     encode) options='--hex --notes --help' needed='' words='' ;;
@@ -49,12 +50,12 @@ _hleak() {
   if ((COMP_CWORD == 1)); then
     case $typed in
       -*) _hleak_offer '--help --version' ;;
-      *) _hleak_offer 'summary outstanding diff tags bad leaks sites stacks balance trace growth ask explain dump encode help' ;;
+      *) _hleak_offer 'summary outstanding diff tags bad leaks sites stacks balance trace growth ask fold explain dump encode help' ;;
     esac
     return
   fi
   if [[ $command == help ]]; then
-    ((COMP_CWORD > 2)) || _hleak_offer 'summary outstanding diff tags bad leaks sites stacks balance trace growth ask explain dump encode'
+    ((COMP_CWORD > 2)) || _hleak_offer 'summary outstanding diff tags bad leaks sites stacks balance trace growth ask fold explain dump encode'
     return
   fi
   _hleak_command "$command" || return
@@ -68,7 +69,10 @@ _hleak() {
   fi
   [[ $typed ]] || options=$needed
   for option in $options; do
-    [[ " ${COMP_WORDS[*]:2} " == *" $option "* && $option != "$typed" ]] || left+="$option "
+    case $option in
+      --state) left+="$option " ;; # (it may stand many times)
+      *) [[ " ${COMP_WORDS[*]:2} " == *" $option "* && $option != "$typed" ]] || left+="$option " ;;
+    esac
   done
   if [[ $typed == -* || (! $typed && $left) ]]; then
     _hleak_offer "$left"

@@ -8,12 +8,13 @@ use Rattle.htl_device.specs.States.{SourceState, remaining}
 use Rattle.htl_inputs.specs.Readings.{AreRead}
 use Rattle.htl_inputs.specs.declared.fault.RunFault.{RunFault}
 use Rattle.htl_inputs.specs.declared.fault.RunFault.TheVariants as faults
-use Rattle.htl_main.specs.Folding.{AreFolded, AreReadToFold, Folding, IsFolded, IsFoldedUpTo, IsFoldingRefused, IsHalfKnown, folding}
+use Rattle.htl_main.specs.Folding.{AreFolded, AreReadToFold, Folding, IsFoldedUpTo, IsFoldingRefused, IsHalfKnown, folding}
 use Rattle.htl_main.specs.Origins.{by_fault}
 use Rattle.htl_main.specs.Runs.{BeginsAs, EndsFolding, FoldsAs}
 use Rattle.htl_main.specs.declared.loading.adding.Added.{Added}
 use Rattle.htl_main.specs.declared.folding.Folded.{Folded}
 use Rattle.htl_main.specs.declared.refused.Refused.{Refused}
+use Rattle.htl_main.proofs.FoldInputs.{took_all}
 use Rattle.htl_world.specs.Openings.{AreOpened}
 use Rattle.htl_world.specs.Readings.{IsUnopenedFor}
 use Rattle.htl_world.specs.Worlds.{Known, WorldChange}
@@ -27,29 +28,6 @@ use Rattle.htl_ask.proofs.LinesRead.{none_is_absent, all_read, none_read}
 
 -- What holds of all that were taken holds of a list that these are.
 module _ (setting : Setting) (before : List Content) (texts : List (List ℕ)) (Keeps : List Content → Type 0) where
-  -- what was folded, of which something holds, is of one list of segments of which it holds
-  pub took_all : (added : Added) → IsFolded setting before texts Keeps added
-      → (taken : List Content) × Keeps taken × IsFolded setting before texts (λ all. all ≡ taken) added
-  took_all added is = (
-    before ++ is.given,
-    is.kept,
-    record {
-      workers = is.workers;
-      given = is.given;
-      decoded = is.decoded;
-      accepted = is.accepted;
-      kept = refl;
-      some = is.some;
-      segments = is.segments;
-      new = is.new;
-      coverage = is.coverage;
-      cuts = is.cuts;
-      cut_ends = is.cut_ends;
-      whole = is.whole;
-      cut = is.cut;
-    },
-  )
-
   module _ (sources : List SourceState) where
     abbrev of : Folding
     of = folding setting before texts sources
@@ -95,7 +73,7 @@ module _ (setting : Setting) (before : List Content) (texts : List (List ℕ)) (
     -- what came of folding, where it goes on, is of one list of segments of which what is kept holds
     pub took : (ended : Result Added Refused) → GoesOn ended → IsFolding of Keeps ended
         → (taken : List Content) × Keeps taken × IsFolding of (λ all. all ≡ taken) ended
-    took (Ok added) known is = took_all added is
+    took (Ok added) known is = took_all setting before texts Keeps added is
     took (Err refused) known is =
         let part = took_before refused.fault known is.0 in (part.0, part.1, (part.2, is.1))
 

@@ -22,12 +22,11 @@ use Rattle.htl_segment.specs.declared.fault.Fault.{Fault}
 use Rattle.htl_segment.proofs.BundleLaws.{late_stays, no_fault_stays, splits_one}
 use Rattle.htl_text.specs.Texts.{segment_text}
 use Rattle.htl_inputs.specs.Faults.{of_digits}
-use Rattle.htl_inputs.specs.Inputs.{AsksMemory, HasBytes, IsReportedOfInput}
-use Rattle.htl_inputs.specs.Reads.{IsOfDigits}
+use Rattle.htl_inputs.specs.Inputs.{AsksMemory, HasBytes}
 use Rattle.htl_inputs.specs.Sources.{EndsBefore}
 use Rattle.htl_inputs.specs.Ends.{IsEnd, IsEndRefused}
 use Rattle.htl_inputs.specs.declared.fault.RunFault.{RunFault}
-use Rattle.htl_inputs.specs.declared.fault.RunFault.TheVariants.{Hex, Segment, Read, Memory, Write}
+use Rattle.htl_inputs.specs.declared.fault.RunFault.TheVariants.{Segment, Read, Memory, Write}
 use Rattle.htl_inputs.proofs.DigitsLaws.{digits_reported}
 use Rattle.htl_inputs.proofs.EndLaws.{input_of, rest_at}
 use Rattle.htl_inputs.proofs.InputLaws.{asks_at, decode_next, late_reported}
@@ -136,7 +135,7 @@ front_unwritten place start bytes rest n s old mid new so_far front part = recor
 -- ---- all bytes of an input
 
 -- a dump that stops whatever bytes follow stops for the whole bytes
-pub whole_of_front : (form : InputForm) (place : ℕ) (bytes : List ℕ) (old new : Option (List ℕ)) (fault : RunFault)
+whole_of_front : (form : InputForm) (place : ℕ) (bytes : List ℕ) (old new : Option (List ℕ)) (fault : RunFault)
     → FrontStops place 0 bytes old new fault → WholeStops form place bytes old new fault
 whole_of_front form place bytes old new fault stops = record {
   segments = stops.segments;
@@ -251,29 +250,21 @@ pub text_dumped : (form : InputForm) (text bytes : List ℕ) (old new : Option (
 text_dumped form text bytes old new (Ok end) has dumped = dumps_front form text bytes dumped.0 end old new has dumped.1 dumped.2
 text_dumped form text bytes old new (Err fault) has dumped = tt
 
--- where the dump of them stops, that of the text does
+-- where the dump of their front stops, that of the text does
+pub front_stops_text : (form : InputForm) (left : Option (List ℕ)) (ended : Bool) (place : ℕ) (text bytes : List ℕ) (old new : Option (List ℕ))
+    (fault : RunFault) → form.hex ≡ true → HasBytes form.hex text bytes → FrontStops place 0 bytes old new fault
+    → InputStops form left ended place text old new fault
+front_stops_text form left ended place text bytes old new fault hex has stops =
+    input_stops form left ended place text bytes old new fault has (whole_of_front form place bytes old new fault stops)
+    (tells_text form left ended place text fault hex)
+
+-- where the dump of all of them stops, that of the text does
 pub text_stops : (form : InputForm) (left : Option (List ℕ)) (ended : Bool) (place : ℕ) (text bytes : List ℕ) (old new : Option (List ℕ))
     (result : Result (Option EarlyEnd) RunFault) → form.hex ≡ true → HasBytes form.hex text bytes
     → IfErr result (WholeStops form place bytes old new) → IfErr result (InputStops form left ended place text old new)
 text_stops form left ended place text bytes old new (Ok end) hex has stops = tt
 text_stops form left ended place text bytes old new (Err fault) hex has stops =
     input_stops form left ended place text bytes old new fault has stops (tells_text form left ended place text fault hex)
-
--- nothing is dumped of digits that are refused
-pub digits_stop : (form : InputForm) (left : Option (List ℕ)) (ended : Bool) (place : ℕ) (input : List ℕ) (out : Option (List ℕ)) (fault : RunFault)
-    → form.hex ≡ true → IsReportedOfInput form place input fault → IsOfDigits place fault
-    → InputStops form left ended place input out out fault
-digits_stop form left ended place input out fault hex told (inl is) =
-    let asked : IsReportedOfInput form place input Memory = subst (IsReportedOfInput form place input) is told in
-    rw is (record {
-      reported = tells_text form left ended place input Memory hex asked;
-      segments = [];
-      are = inl refl;
-      written = Appends-nil out;
-    })
-digits_stop form left ended place input out fault hex told (inr digits) =
-    let found : IsReportedOfInput form place input (Hex place digits.0) = subst (IsReportedOfInput form place input) digits.1 told in
-    rw (digits.1) (record { reported = found; segments = []; are = refl; written = Appends-nil out })
 
 abbrev unread : DigitsFault → Result (Vec ℕ Global) DigitsFault
 unread fault = Err fault
@@ -285,6 +276,12 @@ pub unread_dump : (old new : SourceState) (form : InputForm) (place : ℕ) (give
 unread_dump old new form place None fault out hex is = tt
 unread_dump old new form place (Some input) (digits_faults.Foreign at) out hex is = record {
   reported = digits_reported old new form place (Some input) (digits_faults.Foreign at) hex is;
+  segments = [];
+  are = refl;
+  written = Appends-nil out;
+}
+unread_dump old new form place (Some input) digits_faults.Odd out hex is = record {
+  reported = digits_reported old new form place (Some input) digits_faults.Odd hex is;
   segments = [];
   are = refl;
   written = Appends-nil out;

@@ -29,7 +29,7 @@ abbrev pub is_failed_write : {S : Type 0} → Result S RunFault → Bool
 is_failed_write (Err Write) = true
 is_failed_write other = false
 
--- what is kept of what was read of an input before it is dumped: all bytes, and of a text in hexadecimal the digits
+-- for what memory is asked before an input is dumped, of what was read of it: all bytes, and of a text in hexadecimal the digits
 abbrev pub kept_of : Bool → List ℕ → List ℕ
 kept_of true read = digits_of read
 kept_of false read = read

@@ -11,15 +11,15 @@ ghost use Rattle.htl_text.specs.Texts.{segment_text};
 ghost use Rattle.htl_reading.specs.Sources.{IsReadToFault};
 ghost use Rattle.htl_device.specs.States.{AreOpen, IsOpen};
 ghost use Rattle.htl_inputs.specs.Ends.{IsEnd, IsEndRefused, IsSegmentOf};
-ghost use Rattle.htl_inputs.specs.Inputs.{SameDigits};
+ghost use Rattle.htl_inputs.specs.Inputs.{HasBytes};
 ghost use Rattle.htl_inputs.specs.Reads.{FailsOnly, IsRead, NamesOnly, NeverRead};
 ghost use Rattle.htl_convert.specs.Dumping.{DumpsInput, EndsInput, FrontDumped, FrontStops};
-ghost use Rattle.htl_convert.specs.Dumping.{OthersFit, WholeStops, with_input};
+ghost use Rattle.htl_convert.specs.Dumping.{OthersFit, with_input};
 ghost use Rattle.htl_convert.specs.Dumps.{InputStops, IsDumpedFrom, is_failed_write};
 
 use htl_command::InputForm;
 use htl_device::{MAX_READ_LEN, MAX_READS, MIN_READ_LEN, Sink, Source};
-use htl_inputs::{CutInputs, RunFault, bytes_of_digits, check_end, write_lines};
+use htl_inputs::{CutInputs, RunFault, check_end, write_lines};
 use htl_reading::{EarlyEnd, early_end, read_digits};
 use htl_segment::SegmentBytes;
 use htl_text::dump;
@@ -30,8 +30,8 @@ use std::alloc::Global;
 ///
 /// The first fault ends the run: nothing is read after the read that showed it. By then the texts
 /// of all segments before the fault were written, or a first part of them if a write failed. A text
-/// in hexadecimal is read to its end or its first foreign byte before it is dumped; of bytes only one
-/// incomplete segment and one read are kept.
+/// in hexadecimal is read to its end or its first foreign byte before it is dumped, and the bytes that
+/// it writes are kept; of bytes only one incomplete segment and one read are.
 pub fn dump_from<R: Source, W: Sink>(
     alloc: Global,
     form: InputForm,
@@ -71,8 +71,8 @@ fn with_input(cut: Option<CutInputs>, place: u64, is_cut: bool) -> Option<CutInp
     }
 }
 
-/// Dumps the source at a place. A text in hexadecimal is gathered whole first; of bytes each read
-/// is dumped at once.
+/// Dumps the source at a place. The bytes that a text in hexadecimal writes are gathered first; of a
+/// source of bytes each read is dumped at once.
 fn dump_input<R: Source, W: Sink>(
     alloc: Global,
     form: InputForm,
@@ -91,7 +91,7 @@ fn dump_input<R: Source, W: Sink>(
 {
     if form.hex {
         return match read_digits(alloc, source) {
-            Ok(text) => dump_text(alloc, form, place, &text, out),
+            Ok(bytes) => dump_text(alloc, form, place, &bytes, out),
             Err(fault) => Err(RunFault::from_digits(place, fault)),
         };
     }
@@ -99,45 +99,24 @@ fn dump_input<R: Source, W: Sink>(
     dump_within(alloc, form, place, source, &mut buffer, MAX_READS, out)
 }
 
-/// Dumps the input at a place, which has the digits of this text.
+/// Dumps the input at a place, a text in hexadecimal that writes these bytes.
 fn dump_text<W: Sink>(
-    alloc: Global,
-    form: InputForm,
-    place: u64,
-    text: &[u8],
-    out: &mut W,
-) -> Result<Option<EarlyEnd>, RunFault>
-    requires out { (W.state out.old).failed ≡ false }
-    requires digits { form.hex ≡ true }
-    ensures ok { (input : List ℕ) → SameDigits input text.now → IfOk result (λ end.
-        DumpsInput form input end (W.state out.old).contents (W.state out.new).contents) }
-    ensures stops { (input : List ℕ) (left : Option (List ℕ)) (ended : Bool)
-        → SameDigits input text.now → IfErr result (InputStops form left ended place input
-        (W.state out.old).contents (W.state out.new).contents) }
-    ensures failed { (W.state out.new).failed ≡ is_failed_write result }
-    ensures no_read { NeverRead result }
-    ensures named { NamesOnly place result }
-{
-    let bytes = bytes_of_digits(alloc, place, text)?;
-    dump_whole(alloc, form, place, &bytes, out)
-}
-
-/// Dumps all bytes of the input at a place.
-fn dump_whole<W: Sink>(
     alloc: Global,
     form: InputForm,
     place: u64,
     bytes: &[u8],
     out: &mut W,
 ) -> Result<Option<EarlyEnd>, RunFault>
-    requires { (W.state out.old).failed ≡ false }
-    ensures ok { IfOk result (λ end. (rest : List ℕ)
-        × (front : FrontDumped bytes.now rest (W.state out.old).contents (W.state out.new).contents)
-        × IsEnd form front.segments rest end) }
-    ensures stops { IfErr result (λ fault.
-        WholeStops form place bytes.now (W.state out.old).contents (W.state out.new).contents
-        fault) }
+    requires out { (W.state out.old).failed ≡ false }
+    requires digits { form.hex ≡ true }
+    ensures ok { (input : List ℕ) → HasBytes form.hex input bytes.now → IfOk result (λ end.
+        DumpsInput form input end (W.state out.old).contents (W.state out.new).contents) }
+    ensures stops { (input : List ℕ) (left : Option (List ℕ)) (ended : Bool)
+        → HasBytes form.hex input bytes.now → IfErr result (InputStops form left ended place input
+        (W.state out.old).contents (W.state out.new).contents) }
     ensures failed { (W.state out.new).failed ≡ is_failed_write result }
+    ensures no_read { NeverRead result }
+    ensures named { NamesOnly place result }
 {
     let rest = dump_front(alloc, place, 0, bytes, &mut Vec::new(alloc), out)?;
     finish(form, place, (bytes.len() - rest.len()) as u64, rest)

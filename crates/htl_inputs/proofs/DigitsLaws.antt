@@ -6,28 +6,19 @@ use Rattle.std.proofs.lemmas.List.{nil_from_length}
 use Rattle.htl_command.specs.declared.question.InputForm.{InputForm}
 use Rattle.htl_device.specs.States.{SourceState}
 use Rattle.htl_device.specs.declared.whole.TheConstants.{MAX_READS}
-use Rattle.htl_reading.specs.Digits.{IsTextOf, ReadsDigits}
+use Rattle.htl_reading.specs.Digits.{ReadsDigits}
 use Rattle.htl_reading.specs.declared.digits.DigitsFault.{DigitsFault}
-use Rattle.htl_reading.specs.declared.digits.DigitsFault.TheVariants.{Foreign, Read, NoMemory}
+use Rattle.htl_reading.specs.declared.digits.DigitsFault.TheVariants.{Foreign, Odd, Read, NoMemory}
 use Rattle.hex.specs.Hex.{decode_pairs}
 use Rattle.htl_segment.specs.Hexadecimal.{WritesBytes, digits_of, fault_of_digits, hex_fault, is_foreign}
 use Rattle.htl_segment.specs.declared.hexadecimal.HexFault.{HexFault}
 use Rattle.htl_segment.specs.declared.hexadecimal.HexFault.TheVariants as codes
 use Rattle.htl_inputs.specs.Faults.{of_digits}
-use Rattle.htl_inputs.specs.Inputs.{IsReportedOfInput, SameDigits}
+use Rattle.htl_inputs.specs.Inputs.{HasBytes, IsReportedOfInput}
 use Rattle.htl_inputs.specs.Reads.{FailsOnly, IsRead}
 use Rattle.htl_inputs.specs.Sources.{EndsBefore, IsReportedOfSource}
 use Rattle.htl_inputs.specs.declared.fault.RunFault.{RunFault}
 use Rattle.htl_inputs.specs.declared.fault.RunFault.TheVariants as faults
-
--- a text without a foreign byte writes the bytes of an input without one that has the same digits
-same_digits : (known text : List ℕ) → IsTextOf (Some known) text → SameDigits known text
-same_digits known text is =
-    let of_text : hex_fault text ≡ fault_of_digits None (digits_of text) =
-    ap (λ found. fault_of_digits found (digits_of text)) is.clean in
-    let of_known : hex_fault known ≡ fault_of_digits None (digits_of known) =
-    ap (λ found. fault_of_digits found (digits_of known)) is.of_known.0 in
-    (of_text ∙ ap (fault_of_digits None) is.of_known.1 ∙ sym of_known, is.of_known.1)
 
 -- ---- the bytes that a text writes
 
@@ -51,12 +42,11 @@ module _ (text : List ℕ) where
       absurd (no_memory (position is_foreign text) (digits_of text) (is ∙ ap Some memory))
 
   -- without a digit there are no bytes, where memory was refused too
-  pub nothing_written : Refuses (Err codes.NoMemory) → length (digits_of text) ≡ 0 → (input : List ℕ) → SameDigits input text
-      → WritesBytes input []
+  pub nothing_written : Refuses (Err codes.NoMemory) → length (digits_of text) ≡ 0 → WritesBytes text []
   unfolding decode_pairs
-  nothing_written refuses none input same =
-      let empty : digits_of input ≡ [] = sym same.1 ∙ nil_from_length (digits_of text) none in
-      (sym same.0 ∙ no_fault (hex_fault text) refl refuses, rw empty refl)
+  nothing_written refuses none =
+      let empty : digits_of text ≡ [] = nil_from_length (digits_of text) none in
+      (no_fault (hex_fault text) refl refuses, rw empty refl)
 
 abbrev refused : DigitsFault → Result (Vec ℕ Global) DigitsFault
 refused fault = Err fault
@@ -66,23 +56,29 @@ ill fault = Err fault
 
 names_place : (place : ℕ) (fault : DigitsFault) (later : ℕ) → EndsBefore (of_digits place fault) later → place < later
 names_place place (Foreign at) later before = before
+names_place place Odd later before = before
 names_place place Read later before = before
 names_place place NoMemory later before = absurd before
 
 -- ---- a source that was read
 
--- its bytes are those that the text writes which was read of it
-pub ok_known : {A E : Type 0} (P : A → List ℕ → Type 0) (given : Option (List ℕ)) (text : List ℕ) (result : Result A E) → IsTextOf given text
-    → ((input : List ℕ) → SameDigits input text → IfOk result (λ a. P a input)) → IfOk result (λ a. IfSome given (P a))
-ok_known P None text (Ok a) is each = tt
-ok_known P (Some known) text (Ok a) is each = each known (same_digits known text is)
-ok_known P given text (Err e) is each = tt
+has_bytes : (form : InputForm) (input bytes : List ℕ) → form.hex ≡ true → WritesBytes input bytes → HasBytes form.hex input bytes
+has_bytes form input bytes hex is = rw hex is
 
-pub err_known : {A E : Type 0} (P : E → List ℕ → Type 0) (given : Option (List ℕ)) (text : List ℕ) (result : Result A E) → IsTextOf given text
-    → ((input : List ℕ) → SameDigits input text → IfErr result (λ e. P e input)) → IfErr result (λ e. IfSome given (P e))
-err_known P given text (Ok a) is each = tt
-err_known P None text (Err e) is each = tt
-err_known P (Some known) text (Err e) is each = each known (same_digits known text is)
+-- its bytes are those that its digits write
+pub ok_known : {A E : Type 0} (P : A → List ℕ → Type 0) (form : InputForm) (given : Option (List ℕ)) (bytes : List ℕ) (result : Result A E)
+    → form.hex ≡ true → IfSome given (λ known. WritesBytes known bytes)
+    → ((input : List ℕ) → HasBytes form.hex input bytes → IfOk result (λ a. P a input)) → IfOk result (λ a. IfSome given (P a))
+ok_known P form None bytes (Ok a) hex written each = tt
+ok_known P form (Some known) bytes (Ok a) hex written each = each known (has_bytes form known bytes hex written)
+ok_known P form given bytes (Err e) hex written each = tt
+
+pub err_known : {A E : Type 0} (P : E → List ℕ → Type 0) (form : InputForm) (given : Option (List ℕ)) (bytes : List ℕ) (result : Result A E)
+    → form.hex ≡ true → IfSome given (λ known. WritesBytes known bytes)
+    → ((input : List ℕ) → HasBytes form.hex input bytes → IfErr result (λ e. P e input)) → IfErr result (λ e. IfSome given (P e))
+err_known P form given bytes (Ok a) hex written each = tt
+err_known P form None bytes (Err e) hex written each = tt
+err_known P form (Some known) bytes (Err e) hex written each = each known (has_bytes form known bytes hex written)
 
 -- what is reported of an input is reported of a source that gave all of it
 source_told : (form : InputForm) (left : Option (List ℕ)) (ended : Bool) (place : ℕ) (input : List ℕ) (fault : RunFault)
@@ -91,14 +87,14 @@ source_told form left ended place input (faults.Read at) told = absurd told
 source_told form left ended place input faults.Memory told = inl told
 source_told form left ended place input fault told = told
 
-pub told_known : {A : Type 0} (form : InputForm) (left : Option (List ℕ)) (ended : Bool) (place : ℕ) (given : Option (List ℕ)) (text : List ℕ)
-    (result : Result A RunFault) → IsTextOf given text
-    → ((input : List ℕ) → SameDigits input text → IfErr result (IsReportedOfInput form place input))
+pub told_known : {A : Type 0} (form : InputForm) (left : Option (List ℕ)) (ended : Bool) (place : ℕ) (given : Option (List ℕ)) (bytes : List ℕ)
+    (result : Result A RunFault) → form.hex ≡ true → IfSome given (λ known. WritesBytes known bytes)
+    → ((input : List ℕ) → HasBytes form.hex input bytes → IfErr result (IsReportedOfInput form place input))
     → IfErr result (λ fault. IfSome given (λ input. IsReportedOfSource form left ended place input fault))
-told_known form left ended place given text (Ok a) is each = tt
-told_known form left ended place None text (Err fault) is each = tt
-told_known form left ended place (Some known) text (Err fault) is each =
-    source_told form left ended place known fault (each known (same_digits known text is))
+told_known form left ended place given bytes (Ok a) hex written each = tt
+told_known form left ended place None bytes (Err fault) hex written each = tt
+told_known form left ended place (Some known) bytes (Err fault) hex written each =
+    source_told form left ended place known fault (each known (has_bytes form known bytes hex written))
 
 -- ---- the fault of a source
 
@@ -109,6 +105,7 @@ module _ (old new : SourceState) (form : InputForm) (place : ℕ) where
   digits_reported None fault hex is = tt
   digits_reported (Some bytes) (Foreign at) hex is =
       (refl, (hex, ap (λ found. fault_of_digits found (digits_of bytes)) ((is.foreign at refl).first)))
+  digits_reported (Some bytes) Odd hex is = (refl, (hex, (is.odd refl).1))
   digits_reported (Some bytes) Read hex is = refl
   digits_reported (Some bytes) NoMemory hex is = let kept = is.memory refl in inr (kept.0, kept.1, kept.2, rw hex (kept.3))
 
@@ -116,6 +113,7 @@ module _ (old new : SourceState) (form : InputForm) (place : ℕ) where
       → ReadsDigits MAX_READS old.remaining old new (refused fault)
       → FailsOnly {S = S} place new.failed new.good_reads old.remaining MAX_READS (ill (of_digits place fault))
   fails_only (Foreign byte) is = λ at same. absurd (cc same)
+  fails_only Odd is = λ at same. absurd (cc same)
   fails_only Read is = λ at same. (cc same, is.failed refl)
   fails_only NoMemory is = λ at same. absurd (cc same)
 

@@ -39,6 +39,7 @@ of_read input reads.Failed = Read input
 -- of the reading of an input of digits
 abbrev pub of_digits : ℕ → DigitsFault → RunFault
 of_digits input (texts_of_digits.Foreign place) = Hex input (digits.BadDigit place)
+of_digits input texts_of_digits.Odd = Hex input digits.Odd
 of_digits input texts_of_digits.Read = Read input
 of_digits input texts_of_digits.NoMemory = Memory
 

@@ -65,10 +65,6 @@ HasHexFault hex input fault = (hex ≡ true) × (hex_fault input ≡ Some fault)
 abbrev pub IsCutAt : Bool → List ℕ → ℕ → Type 0
 IsCutAt partial input offset = (partial ≡ true) × (there : RestAt input offset) × MayBeLeft true there.rest
 
--- the text writes the bytes of this input in hexadecimal, or has its fault
-abbrev pub SameDigits : List ℕ → List ℕ → Type 0
-SameDigits input text = (hex_fault text ≡ hex_fault input) × (digits_of text ≡ digits_of input)
-
 -- Memory is asked for where there are digits without a fault, and where a segment begins, also one that is cut where inputs may be partial.
 abbrev pub AsksMemory : Bool → Bool → List ℕ → Type 0
 AsksMemory true partial input = (hex_fault input ≡ None) × (0 < length (digits_of input))

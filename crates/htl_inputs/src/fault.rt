@@ -186,6 +186,10 @@ impl RunFault {
                 input,
                 fault: HexFault::BadDigit(place),
             },
+            DigitsFault::Odd => RunFault::Hex {
+                input,
+                fault: HexFault::Odd,
+            },
             DigitsFault::Read => RunFault::Read { input },
             DigitsFault::NoMemory => RunFault::Memory,
         }

@@ -1,18 +1,18 @@
 //! The segments of inputs that lie in memory.
 
-ghost use Rattle.std.specs.Prelude.{◌≡◌, ℕ, List, IfOk, IfErr, map, true};
-ghost use Rattle.htl_segment.specs.Hexadecimal.{WritesBytes};
+ghost use Rattle.std.specs.Prelude.{◌≡◌, ℕ, List, IfOk, IfErr, length, map, true};
+ghost use Rattle.htl_segment.specs.Hexadecimal.{WritesBytes, digits_of};
 ghost use Rattle.htl_inputs.specs.Ends.{IsInput};
-ghost use Rattle.htl_inputs.specs.Inputs.{HasBytes, IsReportedOfInput, SameDigits, StopsAtInput};
+ghost use Rattle.htl_inputs.specs.Inputs.{HasBytes, IsReportedOfInput, StopsAtInput};
 ghost use Rattle.htl_inputs.specs.Spans.{AreDecoded};
-ghost use Rattle.htl_inputs.specs.Reads.{IsOfDigits, NamesOnly, NeverRead};
+ghost use Rattle.htl_inputs.specs.Reads.{IsOfDigits, NamesOnly, NeverRead, NeverWrite};
 
 use crate::cuts::{Accepted, accept};
 use crate::decoded::Decoded;
 use crate::fault::RunFault;
 use htl_command::InputForm;
-use htl_reading::{Bundle, digit_count, early_end};
-use htl_segment::{HexFault, Segment, Segments, from_hex, split};
+use htl_reading::{Bundle, early_end};
+use htl_segment::{HexFault, Segment, Segments, from_hex, is_digit, split};
 use std::alloc::Global;
 
 /// The segments of all inputs, those of the first input first. The first fault is reported.
@@ -49,43 +49,47 @@ fn decode_input(
     }
 }
 
-/// The segments of the input at a place, which has the digits of this text.
-pub(crate) fn decode_text(
+/// The segments of the input at a place, which is a text in hexadecimal.
+fn decode_text(
     alloc: Global,
     form: InputForm,
     place: u64,
-    text: &[u8],
+    input: &[u8],
 ) -> Result<Accepted<Vec<Segment>>, RunFault>
     requires { form.hex ≡ true }
-    ensures ok { (input : List ℕ) → SameDigits input text.now
-        → IfOk result (λ decoded. IsInput form input decoded.segments.items decoded.end) }
-    ensures err { (input : List ℕ) → SameDigits input text.now
-        → IfErr result (IsReportedOfInput form place input) }
+    ensures ok { IfOk result (λ decoded.
+        IsInput form input.now decoded.segments.items decoded.end) }
+    ensures err { IfErr result (IsReportedOfInput form place input.now) }
     ensures no_read { NeverRead result }
     ensures named { NamesOnly place result }
 {
-    let bytes = bytes_of_digits(alloc, place, text)?;
+    let bytes = bytes_of_digits(alloc, place, input)?;
     decode_bytes(alloc, form, place, &bytes)
 }
 
-/// The bytes of the input at a place, which has the digits of this text. Where it has none, no memory
-/// is asked for.
-pub fn bytes_of_digits(alloc: Global, place: u64, text: &[u8]) -> Result<Vec<u8>, RunFault>
-    ensures ok { IfOk result (λ bytes. (input : List ℕ) → SameDigits input text.now
-        → WritesBytes input bytes.items) }
-    ensures err { IfErr result (λ fault. (form : InputForm) (input : List ℕ) → form.hex ≡ true
-        → SameDigits input text.now → IsReportedOfInput form place input fault) }
+/// The bytes that the digits of the input at a place write. Where it has none, no memory is asked for.
+fn bytes_of_digits(alloc: Global, place: u64, input: &[u8]) -> Result<Vec<u8>, RunFault>
+    ensures ok { IfOk result (λ bytes. WritesBytes input.now bytes.items) }
+    ensures err { IfErr result (λ fault. (form : InputForm) → form.hex ≡ true
+        → IsReportedOfInput form place input.now fault) }
     ensures digits { IfErr result (IsOfDigits place) }
 {
-    match from_hex(alloc, text) {
+    match from_hex(alloc, input) {
         Ok(bytes) => Ok(bytes),
-        Err(HexFault::NoMemory) if digit_count(text) == 0 => Ok(Vec::new(alloc)),
+        Err(HexFault::NoMemory) if digit_count(input) == 0 => Ok(Vec::new(alloc)),
         Err(fault) => Err(RunFault::from_hex(place, fault)),
     }
 }
 
+/// How many of these bytes are hexadecimal digits.
+fn digit_count(bytes: &[u8]) -> usize
+    ensures { result ≡ length (digits_of bytes.now) }
+{
+    bytes.iter().filter(|byte| is_digit(**byte)).count()
+}
+
 /// The segments that the bytes of the input at a place encode.
-fn decode_bytes(
+pub(crate) fn decode_bytes(
     alloc: Global,
     form: InputForm,
     place: u64,
@@ -96,6 +100,7 @@ fn decode_bytes(
     ensures err { (input : List ℕ) → HasBytes form.hex input bytes.now
         → IfErr result (IsReportedOfInput form place input) }
     ensures no_read { NeverRead result }
+    ensures no_write { NeverWrite result }
     ensures named { NamesOnly place result }
 {
     let mut segments = Segments::new(alloc);

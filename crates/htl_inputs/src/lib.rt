@@ -26,6 +26,6 @@ mod sources;
 pub use cuts::{Accepted, CutEnd, CutInputs, accept, add_end, check_end, cut_inputs};
 pub use decoded::{Decoded, InputSpan, span_at};
 pub use fault::RunFault;
-pub use inputs::{bytes_of_digits, decode_all};
+pub use inputs::decode_all;
 pub use output::write_lines;
 pub use sources::read_all;

@@ -12,7 +12,7 @@ ghost use Rattle.htl_inputs.specs.Readings.{readers_of};
 use crate::cuts::{Accepted, accept};
 use crate::decoded::Decoded;
 use crate::fault::RunFault;
-use crate::inputs::decode_text;
+use crate::inputs::decode_bytes;
 use htl_command::InputForm;
 use htl_device::{MAX_READS, Parted};
 use htl_reading::{read_bundle, read_digits};
@@ -42,8 +42,9 @@ pub fn read_all<Rt: Threads + Sync, R: Parted>(
     Ok(decoded)
 }
 
-/// The segments of the source at a place, read by this number of workers. One worker gathers a text
-/// in hexadecimal, and then decodes it. It is read no further than its first foreign byte.
+/// The segments of the source at a place, read by this number of workers. One worker gathers the bytes
+/// that a text in hexadecimal writes, and then decodes them. It is read no further than its first
+/// foreign byte.
 fn read_input<Rt: Threads + Sync, R: Parted>(
     rt: &Rt,
     alloc: Global,
@@ -66,7 +67,7 @@ fn read_input<Rt: Threads + Sync, R: Parted>(
 {
     if form.hex {
         return match read_digits(alloc, source) {
-            Ok(text) => decode_text(alloc, form, place, &text),
+            Ok(bytes) => decode_bytes(alloc, form, place, &bytes),
             Err(fault) => Err(RunFault::from_digits(place, fault)),
         };
     }

@@ -30,7 +30,6 @@ use Rattle.htl_inputs.specs.Ends.{IsEnd, IsEndRefused, IsInput}
 use Rattle.htl_inputs.specs.Faults.{of_case, of_digits, of_segment, of_source}
 use Rattle.htl_inputs.specs.Inputs.{DecodeAll, HasBytes}
 use Rattle.htl_inputs.specs.Readings.{AreRead}
-use Rattle.htl_inputs.specs.Reads.{IsOfDigits}
 use Rattle.htl_inputs.specs.Sources.{IsReportedOfSource}
 use Rattle.htl_inputs.specs.declared.cuts.CutEnd.{CutEnd}
 use Rattle.htl_inputs.specs.declared.fault.RunFault.{RunFault}
@@ -161,18 +160,13 @@ module _ {S K : Type 0} (gathers : S → K → List Content → Type 0) where
 
   -- ---- digits
 
-  -- nothing was taken of digits that are refused
-  pub digits_kept : (k : K) (form : InputForm) (place : ℕ) (left : Option (List ℕ)) (text : List ℕ) (fault : RunFault) → IsOfDigits place fault
-      → TookOwn k k form left text fault
-  digits_kept k form place left text fault (inl is) other = absurd (other is)
-  digits_kept k form place left text fault (inr is) other = rw (is.1) ([], refl, took_none k)
-
-  -- and nothing of those that couldn't be gathered
+  -- nothing was taken of digits that give no bytes
   pub unread_kept : (k : K) (form : InputForm) (place : ℕ) (first left : Option (List ℕ)) (fault : DigitsFault) → form.hex ≡ true
       → IfSome first (λ text. TookOwn k k form left text (of_digits place fault))
   unread_kept k form place None left fault is = tt
   unread_kept k form place (Some text) left reads.NoMemory is = λ other. absurd (other refl)
   unread_kept k form place (Some text) left reads.Read is = λ other. ([], rw is refl, took_none k)
+  unread_kept k form place (Some text) left reads.Odd is = λ other. ([], refl, took_none k)
   unread_kept k form place (Some text) left (reads.Foreign at) is = λ other. ([], refl, took_none k)
 
 -- ---- one input after another

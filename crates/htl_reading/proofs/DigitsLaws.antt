@@ -1,78 +1,57 @@
--- A text that has the digits of what was read of a source, which is digits and blanks.
-use Rattle.std.proofs.Common.{◌≡◌, ◌<◌, ◌≤◌, ◌+◌, ◌++◌, [], ◌⊎◌, inl, inr, ℕ, List, Option, Some, None}
-use Rattle.std.proofs.Common.{length, arith, refl, sym, subst, ap, ◌∙◌, length-append}
-use Rattle.std.proofs.KnownBytes.{Consumes-all, Consumes-trans}
-use Rattle.std.proofs.lemmas.List.{append-nil, nil_from_length}
+-- The bytes that the digits write of what was read of a source, which is digits and blanks.
+use Rattle.std.proofs.Common.{◌≡◌, ◌<◌, ◌≤◌, ◌+◌, ◌%◌, ◌++◌, [], ℕ, true, false, List, Option, Some, None, Vec, Global}
+use Rattle.std.proofs.Common.{length, arith, refl, ap, subst, ◌∙◌, length-append}
+use Rattle.std.proofs.KnownBytes.{Consumes-nil, Consumes-trans, Consumes-whole}
+use Rattle.std.proofs.lemmas.List.{append-nil}
 use Rattle.std.proofs.lemmas.List.Elements.{filter-append}
-use Rattle.std.specs.Prelude.{position, IfSome}
+use Rattle.std.specs.Prelude.{IfSome, IsSome, MatchOption, ok_or, position}
 use Rattle.std.specs.Io.KnownBytes.{Consumes, IsAtEnd}
+use Rattle.hex.proofs.HexLemmas.{decode_of-ok}
+use Rattle.htl_device.specs.States.{SourceState}
 use Rattle.htl_device.specs.declared.source.TheConstants.{MAX_READ_LEN}
-use Rattle.htl_segment.specs.Hexadecimal.{digits_of, is_foreign}
-use Rattle.htl_reading.specs.Digits.{IsTextOf, StopsAtForeign}
+use Rattle.htl_segment.specs.Hexadecimal.{WritesBytes, digits_of, fault_of_digits, hex_fault, is_foreign}
+use Rattle.htl_segment.specs.declared.hexadecimal.HexFault.TheVariants as texts
+use Rattle.htl_reading.specs.Digits.{ReadsDigits, StopsAtForeign}
+use Rattle.htl_reading.specs.Pairs.{ArePairs}
+use Rattle.htl_reading.specs.declared.digits.DigitsFault.TheVariants.{Odd}
 use Rattle.htl_reading.proofs.Foreign.{clean_more, found_known}
+use Rattle.htl_reading.proofs.PairsLaws.{digits_odd, digits_write}
 
--- So many bytes were read, all digits and blanks. The text has their digits, and no blank before the first read that gave one.
-pub record IsKept (given left : Option (List ℕ)) (start : ℕ) (text : List ℕ) : Type 0 where
+-- So many bytes were read, all digits and blanks, and their digits are these pairs.
+pub record IsKept (given left : Option (List ℕ)) (start : ℕ) (bytes : List ℕ) (high : Option ℕ) : Type 0 where
   pub read : List ℕ
   pub gave : Consumes given left read
   pub start_is : start ≡ length read
   pub clean : position is_foreign read ≡ None
-  pub text_clean : position is_foreign text ≡ None
-  pub same : digits_of text ≡ digits_of read
-  pub some : 0 < length text → 0 < length (digits_of text)
+  pub pairs : ArePairs read bytes high
 
-more_digits : (xs ys : List ℕ) → length (digits_of (xs ++ ys)) ≡ length (digits_of xs) + length (digits_of ys)
-more_digits xs ys = ap length (filter-append _ xs ys) ∙ length-append (digits_of xs) (digits_of ys)
+-- before the first read
+pub kept_none : (given : Option (List ℕ)) (bytes : List ℕ) (high : Option ℕ) → ArePairs [] bytes high → IsKept given given 0 bytes high
+kept_none given bytes high are = record { read = []; gave = Consumes-nil given; start_is = refl; clean = refl; pairs = are }
 
-text_is : (read text : List ℕ) (given : Option (List ℕ)) → position is_foreign read ≡ None → digits_of text ≡ digits_of read
-    → IfSome given (λ known. read ≡ known) → IfSome given (λ known. (position is_foreign known ≡ None) × (digits_of text ≡ digits_of known))
-text_is read text None clean same whole = tt
-text_is read text (Some known) clean same whole = (ap (position is_foreign) (sym whole) ∙ clean, same ∙ ap digits_of whole)
-
-module _ (given left after : Option (List ℕ)) (start : ℕ) (text piece : List ℕ) (kept : IsKept given left start text)
-    (gave : Consumes left after piece) where
+module _ (given left after : Option (List ℕ)) (start : ℕ) (bytes : List ℕ) (high : Option ℕ) (piece : List ℕ)
+    (kept : IsKept given left start bytes high) (gave : Consumes left after piece) where
   read_more : Consumes given after (kept.read ++ piece)
   read_more = Consumes-trans given left after kept.read piece kept.gave gave
 
-  -- where a digit was read, the text has one
-  some_kept : (0 < length text) ⊎ (0 < length (digits_of piece)) → 0 < length (digits_of (text ++ piece))
-  some_kept (inl begun) = omega (arith, kept.some begun, more_digits text piece)
-  some_kept (inr any) = omega (arith, any, more_digits text piece)
-
-  pub kept_more : (0 < length text) ⊎ (0 < length (digits_of piece)) → position is_foreign piece ≡ None
-      → IsKept given after (start + length piece) (text ++ piece)
-  kept_more some clean = record {
+  -- a piece more
+  pub kept_more : (more : List ℕ) (half : Option ℕ) → position is_foreign piece ≡ None
+      → ((text : List ℕ) → ArePairs text bytes high → ArePairs (text ++ piece) more half)
+      → IsKept given after (start + length piece) more half
+  kept_more more half clean adds = record {
     read = kept.read ++ piece;
     gave = read_more;
     start_is = omega (arith, kept.start_is, length-append kept.read piece);
     clean = clean_more is_foreign kept.read piece kept.clean clean;
-    text_clean = clean_more is_foreign text piece kept.text_clean clean;
-    same = filter-append _ text piece ∙ ap (λ (l : List ℕ). l ++ digits_of piece) kept.same
-        ∙ sym (filter-append _ kept.read piece);
-    some = λ _. some_kept some;
-  }
-
-  -- blanks before the first digit are dropped
-  pub kept_blanks : length (digits_of piece) ≡ 0 → position is_foreign piece ≡ None → IsKept given after (start + length piece) text
-  kept_blanks none clean = record {
-    read = kept.read ++ piece;
-    gave = read_more;
-    start_is = omega (arith, kept.start_is, length-append kept.read piece);
-    clean = clean_more is_foreign kept.read piece kept.clean clean;
-    text_clean = kept.text_clean;
-    same = kept.same ∙ sym (filter-append _ kept.read piece
-        ∙ ap (λ (l : List ℕ). digits_of kept.read ++ l) (nil_from_length (digits_of piece) none) ∙ append-nil (digits_of kept.read));
-    some = kept.some;
+    pairs = adds kept.read kept.pairs;
   }
 
   -- memory is asked for only where a digit was read
-  pub digit_read : (0 < length text) ⊎ (0 < length (digits_of piece))
-      → (read : List ℕ) × Consumes given after read × (0 < length (digits_of read))
-  digit_read some = (
-    kept.read ++ piece,
-    read_more,
-    omega (arith, some_kept some, more_digits text piece, more_digits kept.read piece, ap length kept.same),
-  )
+  pub digit_read : 0 < length (digits_of piece) → (read : List ℕ) × Consumes given after read × (0 < length (digits_of read))
+  digit_read some =
+      let both : length (digits_of (kept.read ++ piece)) ≡ length (digits_of kept.read) + length (digits_of piece) =
+      ap length (filter-append _ kept.read piece) ∙ length-append (digits_of kept.read) (digits_of piece) in
+      (kept.read ++ piece, read_more, omega (arith, some, both))
 
   pub stops_there : (place : ℕ) → position is_foreign piece ≡ Some place → length piece ≤ MAX_READ_LEN
       → StopsAtForeign given after (start + place)
@@ -83,13 +62,71 @@ module _ (given left after : Option (List ℕ)) (start : ℕ) (text piece : List
     few = omega (arith, few, kept.start_is, length-append kept.read piece);
   }
 
--- the text of a source whose end was found
-pub kept_all : (given left after : Option (List ℕ)) (start : ℕ) (text : List ℕ) → IsKept given left start text → Consumes left after []
-    → IsAtEnd after → IsTextOf given text
-kept_all given left after start text kept none end =
+-- ---- at the end
+
+-- the text is digits and blanks, and its digits are these pairs
+abbrev pub AreAll : List ℕ → Option ℕ → List ℕ → Type 0
+AreAll bytes high text = (position is_foreign text ≡ None) × ArePairs text bytes high
+
+-- as all bytes of a source are whose end was found
+pub all_are : (given left after : Option (List ℕ)) (start : ℕ) (bytes : List ℕ) (high : Option ℕ) → IsKept given left start bytes high
+    → Consumes left after [] → IsAtEnd after → IfSome given (AreAll bytes high)
+all_are given left after start bytes high kept none end =
     let all : Consumes given after kept.read =
     subst (Consumes given after) (append-nil kept.read) (Consumes-trans given left after kept.read [] kept.gave none) in
-    record {
-      clean = kept.text_clean;
-      of_known = text_is kept.read text given kept.clean kept.same (Consumes-all given after kept.read [] kept.read all end refl);
-    }
+    Consumes-whole given after kept.read (AreAll bytes high) all end (kept.clean, kept.pairs)
+
+clean_fault : (text : List ℕ) → position is_foreign text ≡ None → hex_fault text ≡ fault_of_digits None (digits_of text)
+clean_fault text clean = ap (λ (found : Option ℕ). fault_of_digits found (digits_of text)) clean
+
+even_fault : (digits : List ℕ) → length digits % 2 ≡ 0 → fault_of_digits None digits ≡ None
+even_fault digits even = rw even refl
+
+odd_fault : (digits : List ℕ) → length digits % 2 ≡ 1 → fault_of_digits None digits ≡ Some texts.Odd
+odd_fault digits odd = rw odd refl
+
+-- pairs alone write the bytes
+all_written : (given : Option (List ℕ)) (bytes : List ℕ) → IfSome given (AreAll bytes None)
+    → IfSome given (λ known. WritesBytes known bytes)
+all_written None bytes are = tt
+all_written (Some known) bytes are =
+    let decoded = digits_write known bytes are.1 in
+    (clean_fault known are.0 ∙ even_fault (digits_of known) (decode_of-ok (digits_of known) bytes decoded).0, decoded)
+
+-- and with half of one more their number is odd
+all_odd : (given : Option (List ℕ)) (bytes : List ℕ) (high : Option ℕ) → IsSome high → IfSome given (AreAll bytes high)
+    → IfSome given (λ known. hex_fault known ≡ Some texts.Odd)
+all_odd None bytes high half are = tt
+all_odd (Some known) bytes None half are = absurd (cc half)
+all_odd (Some known) bytes (Some high) half are =
+    clean_fault known are.0 ∙ odd_fault (digits_of known) (digits_odd known bytes high are.1)
+
+-- How a source was read whose end was found.
+pub ended_read : (most : ℕ) (given : Option (List ℕ)) (old new : SourceState) (bytes : List ℕ) (high : Option ℕ) (made : Option (Vec ℕ Global))
+    → IfSome given (AreAll bytes high) → MatchOption made (IsSome high) (λ all. (high ≡ None) × (all.items ≡ bytes))
+    → new.ended ≡ true → new.failed ≡ false → new.good_reads ≤ old.good_reads + most → new.tails ≡ old.tails
+    → ReadsDigits most given old new (ok_or made Odd)
+ended_read most given old new bytes high None are half ended fine bounded tails = record {
+  ok = tt;
+  ended = tt;
+  foreign = λ place is. absurd (cc is);
+  odd = λ is. (ended, all_odd given bytes high half are);
+  reported = λ failed. absurd (cc (fine, failed));
+  memory = λ is. absurd (cc is);
+  failed = λ is. absurd (cc is);
+  bounded = bounded;
+  tails = tails;
+}
+ended_read most given old new bytes high (Some all) are is ended fine bounded tails = record {
+  ok =
+      let pairs : IfSome given (AreAll bytes None) = subst (λ (h : Option ℕ). IfSome given (AreAll bytes h)) is.0 are in
+      rw (is.1) (all_written given bytes pairs);
+  ended = ended;
+  foreign = λ place is. absurd (cc is);
+  odd = λ is. absurd (cc is);
+  reported = λ failed. absurd (cc (fine, failed));
+  memory = λ is. absurd (cc is);
+  failed = λ is. absurd (cc is);
+  bounded = bounded;
+  tails = tails;
+}

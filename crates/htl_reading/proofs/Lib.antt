@@ -7,4 +7,5 @@ pub mod TailLaws
 pub mod SkipLaws
 pub mod RoundLaws
 pub mod Foreign
+pub mod PairsLaws
 pub mod DigitsLaws

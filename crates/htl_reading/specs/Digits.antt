@@ -1,18 +1,14 @@
--- How a text in hexadecimal is read: no further than its first foreign byte (this project's own).
-use Rattle.std.specs.Prelude.{◌≡◌, ◌<◌, ◌≤◌, ◌+◌, ◌⊎◌, ℕ, true, false, List, length, position, Option, Some, None, IfOk, IfSome, OnOk}
+-- How digits are read as the bytes that they write: no further than the first foreign byte (this project's own).
+use Rattle.std.specs.Prelude.{◌≡◌, ◌<◌, ◌≤◌, ◌+◌, ◌⊎◌, ℕ, true, false, List, length, position, Option, Some, IfOk, IfSome, OnOk}
 use Rattle.std.specs.Global.{Vec}
 use Rattle.std.specs.Prelude.{Result, Err}
 use Rattle.std.specs.Io.KnownBytes.{Consumes}
 use Rattle.htl_device.specs.States.{SourceState}
 use Rattle.htl_device.specs.declared.source.TheConstants.{MAX_READ_LEN}
-use Rattle.htl_segment.specs.Hexadecimal.{digits_of, is_foreign}
+use Rattle.htl_segment.specs.Hexadecimal.{WritesBytes, digits_of, hex_fault, is_foreign}
+use Rattle.htl_segment.specs.declared.hexadecimal.HexFault.TheVariants as texts
 use Rattle.htl_reading.specs.declared.digits.DigitsFault.{DigitsFault}
-use Rattle.htl_reading.specs.declared.digits.DigitsFault.TheVariants.{Foreign, Read, NoMemory}
-
--- The bytes of the source are digits and blanks, as those of the text are, which has the same digits.
-pub record IsTextOf (given : Option (List ℕ)) (text : List ℕ) : Type 0 where
-  pub clean : position is_foreign text ≡ None
-  pub of_known : IfSome given (λ known. (position is_foreign known ≡ None) × (digits_of text ≡ digits_of known))
+use Rattle.htl_reading.specs.declared.digits.DigitsFault.TheVariants.{Foreign, Odd, Read, NoMemory}
 
 -- The first foreign byte of the text stands at this place, and at most one read's bytes were read from there on.
 pub record StopsAtForeign (given left : Option (List ℕ)) (place : ℕ) : Type 0 where
@@ -23,9 +19,11 @@ pub record StopsAtForeign (given left : Option (List ℕ)) (place : ℕ) : Type 
 
 -- How a source of these bytes is read by a call that ends with this result, and in which at most `most` reads give bytes.
 pub record ReadsDigits (most : ℕ) (given : Option (List ℕ)) (old new : SourceState) (result : Result (Vec ℕ) DigitsFault) : Type 0 where
-  pub ok : IfOk result (λ text. IsTextOf given text.items)
+  pub ok : IfOk result (λ bytes. IfSome given (λ known. WritesBytes known bytes.items))
   pub ended : OnOk result (new.ended ≡ true)
   pub foreign : (place : ℕ) → result ≡ Err (Foreign place) → StopsAtForeign given new.remaining place
+  -- An odd number of digits is found only at the end.
+  pub odd : result ≡ Err Odd → (new.ended ≡ true) × IfSome given (λ known. hex_fault known ≡ Some texts.Odd)
   pub reported : new.failed ≡ true → result ≡ Err Read
   -- Memory was refused: a digit was read, and the end was not found.
   pub memory :

@@ -6,3 +6,4 @@ pub mod Taking
 pub mod Keepers
 pub mod Parts
 pub mod Blocks
+pub mod Pairs

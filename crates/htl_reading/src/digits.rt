@@ -1,20 +1,24 @@
-//! A text in hexadecimal, which is read no further than its first foreign byte.
+//! A text in hexadecimal, which is read as the bytes that it writes, no further than its first foreign
+//! byte.
 
 ghost use Rattle.std.specs.Prelude.{◌≡◌, ◌<◌, ◌*◌, ◌^◌, length, position};
 ghost use Rattle.htl_device.specs.States.{IsOpen};
-ghost use Rattle.htl_segment.specs.Hexadecimal.{digits_of, is_foreign};
+ghost use Rattle.htl_segment.specs.Hexadecimal.{is_foreign};
 ghost use Rattle.htl_reading.specs.Digits.{ReadsDigits};
 
+use crate::pairs::Pairs;
 use htl_device::{MAX_READS, MIN_READ_LEN, Source};
 use htl_event::NoMemory;
 use htl_segment::is_digit;
 use std::alloc::Global;
 
-/// Why a text in hexadecimal is not read to its end.
+/// Why a text in hexadecimal gives no bytes.
 #[derive(Clone, Copy, Debug, PartialEq, Eq)]
 pub enum DigitsFault {
     /// The byte at this place is the first that is neither a digit nor a blank.
     Foreign(u64),
+    /// The source has an odd number of digits.
+    Odd,
     /// A read failed, or `MAX_READS` of them gave bytes.
     Read,
     /// An allocation was refused.
@@ -33,9 +37,9 @@ impl<R: Into<NoMemory>> From<R> for DigitsFault {
     }
 }
 
-/// The bytes of a source from the first read on that gave a digit, which are digits and blanks. So they
-/// have all digits of the source. No memory is asked for before a digit came, and nothing is read after
-/// the read that gave another byte.
+/// The bytes that the digits of a source write. Each is made as soon as its second digit was read, and
+/// nothing else is kept. No memory is asked for before a digit came, and nothing is read after the read
+/// that gave a byte that is neither a digit nor a blank. An odd number of digits is found at the end.
 pub fn read_digits<R: Source>(alloc: Global, source: &mut R) -> Result<Vec<u8>, DigitsFault>
     requires { IsOpen (R.state source.old) }
     ensures { ReadsDigits MAX_READS (R.state source.old).remaining (R.state source.old)
@@ -58,33 +62,24 @@ fn read_within<R: Source>(
     ensures { ReadsDigits most (R.state source.old).remaining (R.state source.old)
         (R.state source.new) result }
 {
-    let mut text = Vec::new(alloc);
+    let mut pairs = Pairs::new(alloc);
     let mut start = 0;
     for _read in 0..most {
         let Ok(count) = source.read(buffer) else {
             return Err(DigitsFault::Read);
         };
         if count == 0 {
-            return Ok(text);
+            return pairs.finish().ok_or(DigitsFault::Odd);
         }
         let piece = &buffer[..count];
         match first_foreign(piece) {
             Some(place) => return Err(DigitsFault::Foreign(start + place as u64)),
             None => {}
         }
-        if !text.is_empty() || digit_count(piece) > 0 {
-            text.extend_from_slice(piece)?;
-        }
+        pairs.add(piece)?;
         start += count as u64;
     }
     Err(DigitsFault::Read)
-}
-
-/// How many of these bytes are hexadecimal digits.
-pub fn digit_count(bytes: &[u8]) -> usize
-    ensures { result ≡ length (digits_of bytes.now) }
-{
-    bytes.iter().filter(|byte| is_digit(**byte)).count()
 }
 
 /// The place of the first byte that is neither a digit nor a blank.

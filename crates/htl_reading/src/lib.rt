@@ -14,15 +14,15 @@
 //! comes of one that doesn't), `reading.rt` (a source to its end), `block.rt` (the bytes that a read
 //! puts behind those that are held), `gathered.rt` (reading on by one worker), `parts.rt` (several
 //! workers), `ends.rt` (where their parts end), `rounds.rt` (several workers, some bytes at a time),
-//! `digits.rt` (a text in hexadecimal).
+//! `pairs.rt` (the bytes that digits write), `digits.rt` (a text in hexadecimal).
 //!
 //! `specs/Sources` says what is left at the end, what is reported and how far a source is read, and
 //! `specs/Taking` what a keeper took of it. In `proofs/`, `TakenLaws` shows which segments reads give,
 //! `FaultLaws` which faults are reported, `KeptLaws` which segments a keeper has after one, `ReadLaws`
 //! that how a source is read doesn't depend on the value that is returned, `PartLaws` that the parts of
 //! several workers give the segments of all bytes, `SkipLaws` and `RoundLaws` that their rounds do,
-//! `TailLaws` how many other readers are asked for, and `DigitsLaws` that the text of a source has its
-//! digits.
+//! `TailLaws` how many other readers are asked for, `PairsLaws` which bytes the digits of a text write
+//! that comes piece by piece, and `DigitsLaws` that those of a source are read so.
 #![tactic(auto)]
 
 mod block;
@@ -31,11 +31,12 @@ mod ends;
 mod fault;
 mod gathered;
 mod outcome;
+mod pairs;
 mod parts;
 mod reading;
 mod rounds;
 
-pub use digits::{DigitsFault, digit_count, read_digits};
+pub use digits::{DigitsFault, read_digits};
 pub use fault::SourceFault;
 pub use outcome::{Bundle, EarlyEnd, SegmentName, early_end};
 pub use reading::{gather_bundle, read_bundle, take_source};

@@ -1,13 +1,13 @@
 //! Takes the segments of sources into a folder, up to the first fault.
 
-ghost use Rattle.std.specs.Prelude.{◌≡◌, ◌≢◌, [], ℕ, List, Option, true, map, IfErr, IfOk, IfSome};
+ghost use Rattle.std.specs.Prelude.{◌≡◌, ◌≢◌, [], ℕ, List, Option, map, IfErr, IfOk, IfSome};
 ghost use Rattle.std.specs.Prelude.{OnOk};
 ghost use Rattle.htl_segment.specs.Content.{Content};
 ghost use Rattle.htl_device.specs.declared.whole.TheConstants.{MAX_READS};
 ghost use Rattle.htl_segment.specs.Keepers.{Took};
 ghost use Rattle.htl_device.specs.States.{AreOpen, IfKnown, IsOpen};
 ghost use Rattle.htl_inputs.specs.Ends.{IsInput};
-ghost use Rattle.htl_inputs.specs.Inputs.{HasBytes, IsReportedOfInput, SameDigits};
+ghost use Rattle.htl_inputs.specs.Inputs.{HasBytes, IsReportedOfInput};
 ghost use Rattle.htl_inputs.specs.Faults.{of_case};
 ghost use Rattle.htl_inputs.specs.Readings.{AreRead, AskForReaders, readers_of};
 ghost use Rattle.htl_inputs.specs.Reads.{IsRead, NamesOnly, NeverRead, NeverWrite, ReadsAll};
@@ -26,7 +26,7 @@ use htl_case::CaseFault;
 use htl_command::{InputForm, Setting};
 use htl_device::Parted;
 use htl_event::NoMemory;
-use htl_inputs::{CutEnd, RunFault, add_end, bytes_of_digits, check_end};
+use htl_inputs::{CutEnd, RunFault, add_end, check_end};
 use htl_reading::{EarlyEnd, early_end, read_digits, take_source};
 use htl_segment::split;
 use std::alloc::Global;
@@ -136,7 +136,7 @@ fn read_input<Rt: Threads + Sync, R: Parted>(
 {
     if setting.form.hex {
         return match read_digits(alloc, source) {
-            Ok(text) => take_text(alloc, setting.form, place, &text, folder),
+            Ok(bytes) => take_bytes(alloc, setting.form, place, &bytes, folder),
             Err(fault) => Err(RunFault::from_digits(place, fault)),
         };
     }
@@ -147,32 +147,6 @@ fn read_input<Rt: Threads + Sync, R: Parted>(
         Ok(end) => check_end(setting.form, place, end),
         Err(fault) => Err(RunFault::from_source(place, fault)),
     }
-}
-
-/// Has a folder take the segments of the input at a place, which has the digits of this text.
-fn take_text(
-    alloc: Global,
-    form: InputForm,
-    place: u64,
-    text: &[u8],
-    folder: &mut Folder,
-) -> Result<Option<EarlyEnd>, RunFault>
-    requires { form.hex ≡ true }
-    ensures ok { (input : List ℕ) → SameDigits input text.now
-        → IfOk result (λ end. (given : List Content) × IsInput form input given end
-        × Took folds_of folder.old folder.new given) }
-    ensures err { (input : List ℕ) → SameDigits input text.now
-        → IfErr result (IsReportedOfInput form place input) }
-    ensures kept { (input : List ℕ) (left : Option (List ℕ)) → SameDigits input text.now
-        → IfErr result (λ fault. fault ≢ RunFault.Memory → (given : List Content)
-        × GaveOwn form left input fault given
-        × Took folds_of folder.old folder.new given) }
-    ensures no_read { NeverRead result }
-    ensures named { NamesOnly place result }
-    ensures of_input { IfErr result IsOfInput }
-{
-    let bytes = bytes_of_digits(alloc, place, text)?;
-    take_bytes(alloc, form, place, &bytes, folder)
 }
 
 /// Has a folder take the segments that the bytes of the input at a place encode.

@@ -12,12 +12,14 @@ returns-in-Ok-clause-dumped g c =
     let new = g.R.Source.state c.read_digits.new.source in
     let old_out = (g.W.Sink.state c.args.out.now).contents in
     let new_out = (g.W.Sink.state c.dump_text.new.out).contents in
+    let bytes = c.in-Ok.bytes.items in
     let dumps = rw (c.deref.ensures.value) at c.dump_text.ensures.ok in
     let stops = rw (c.deref.ensures.value) at c.dump_text.ensures.stops in
     MatchResult-from_both c.dump_text.result _ _
-    (ok_known (λ end input. DumpsInput c.args.form input end old_out new_out) given c.in-Ok.text.items c.dump_text.result c.in-Ok.ensures.ok dumps)
-    (err_known (λ fault input. InputStops c.args.form new.remaining new.ended c.args.place input old_out new_out fault) given
-    c.in-Ok.text.items c.dump_text.result c.in-Ok.ensures.ok (λ input same. stops input new.remaining new.ended same))
+    (ok_known (λ end input. DumpsInput c.args.form input end old_out new_out) c.args.form given bytes c.dump_text.result c.if-form.true
+    c.in-Ok.ensures.ok dumps)
+    (err_known (λ fault input. InputStops c.args.form new.remaining new.ended c.args.place input old_out new_out fault) c.args.form given bytes
+    c.dump_text.result c.if-form.true c.in-Ok.ensures.ok (λ input has. stops input new.remaining new.ended has))
 
 pub returns-in-Err-clause-dumped : goal.returns-in-Err-clause-dumped
 returns-in-Err-clause-dumped g c =

@@ -7,8 +7,8 @@ use Rattle.htl_inputs.proofs.DigitsLaws.{Refuses, nothing_written}
 use Rattle.htl_inputs.proofs.inputs.bytes_of_digits.Goals as goal
 
 pub returns-in-Err-NoMemory-clause-ok : goal.returns-in-Err-NoMemory-clause-ok
-returns-in-Err-NoMemory-clause-ok c = λ input same.
+returns-in-Err-NoMemory-clause-ok c =
     let refused = c.in-Err-NoMemory.ensures.refused in
-    let refuses : Refuses c.args.text.now (Err NoMemory) = λ fault is. cc (refused fault is, c.in-Err-NoMemory.field-0-is) in
-    let none : length (digits_of c.args.text.now) ≡ 0 = grind (arith, common_steps) in
-    rw (c.new.ensures.items) (nothing_written c.args.text.now refuses none input same)
+    let refuses : Refuses c.args.input.now (Err NoMemory) = λ fault is. cc (refused fault is, c.in-Err-NoMemory.field-0-is) in
+    let none : length (digits_of c.args.input.now) ≡ 0 = grind (arith, common_steps) in
+    rw (c.new.ensures.items) (nothing_written c.args.input.now refuses none)

@@ -8,15 +8,15 @@ use Rattle.htl_reading.proofs.ReadLaws.{asks_none}
 
 pub returns-in-Ok-clause-ok : goal.returns-in-Ok-clause-ok
 returns-in-Ok-clause-ok g c =
-    let read = rw (c.deref.ensures.value) at c.decode_text.ensures.ok in
-    ok_known (λ read input. IsInput c.args.form input read.segments.items read.end) (g.R.Source.state c.args.source.now).remaining
-    c.in-Ok.text.items c.decode_text.result c.in-Ok.ensures.ok read
+    let read = rw (c.deref.ensures.value) at c.decode_bytes.ensures.ok in
+    ok_known (λ read input. IsInput c.args.form input read.segments.items read.end) c.args.form (g.R.Source.state c.args.source.now).remaining
+    c.in-Ok.bytes.items c.decode_bytes.result c.if-form.true c.in-Ok.ensures.ok read
 
 pub returns-in-Ok-clause-err : goal.returns-in-Ok-clause-err
 returns-in-Ok-clause-err g c =
-    let told = rw (c.deref.ensures.value) at c.decode_text.ensures.err in
-    told_known c.args.form _ _ c.args.place (g.R.Source.state c.args.source.now).remaining c.in-Ok.text.items c.decode_text.result
-    c.in-Ok.ensures.ok told
+    let told = rw (c.deref.ensures.value) at c.decode_bytes.ensures.err in
+    told_known c.args.form _ _ c.args.place (g.R.Source.state c.args.source.now).remaining c.in-Ok.bytes.items c.decode_bytes.result
+    c.if-form.true c.in-Ok.ensures.ok told
 
 pub returns-in-Err-clause-err : goal.returns-in-Err-clause-err
 returns-in-Err-clause-err g c =

@@ -1,4 +1,4 @@
--- The text has the digits of what was read so far, and each read gave bytes.
+-- The pairs are the digits of what was read so far, and each read gave bytes.
 use Rattle.std.proofs.Common.{◌≡◌, ◌≤◌, ◌+◌, ◌*◌, length, false}
 use Rattle.htl_device.specs.declared.source.TheConstants.{MIN_READ_LEN}
 use Rattle.htl_reading.proofs.DigitsLaws.{IsKept}
@@ -6,7 +6,8 @@ use Rattle.htl_reading.proofs.digits.read_within.Given as goal
 
 abbrev pub invariant-loop-read : goal.invariant-loop-read
 invariant-loop-read g l = record {
-  kept : IsKept (g.R.Source.state l.initial.source).remaining (g.R.Source.state l.source).remaining l.start l.text.items;
+  kept : IsKept (g.R.Source.state l.initial.source).remaining (g.R.Source.state l.source).remaining l.start
+      l.pairs.bytes l.pairs.high;
   fine : (g.R.Source.state l.source).failed ≡ false;
   inside : (g.R.Source.state l.source).ended ≡ false;
   each : l._read ≤ l.start;

@@ -8,23 +8,23 @@ use Rattle.htl_main.proofs.folding.taking.read_input.Goals as goal
 
 pub returns-in-Ok-clause-ok : goal.returns-in-Ok-clause-ok
 returns-in-Ok-clause-ok g c =
-    let taken = rw (c.deref.ensures.value) at c.take_text.ensures.ok in
-    ok_known (λ end input. TookInput folds_of c.args.folder.now c.take_text.new.folder c.args.setting.form input end)
-    (g.R.Source.state c.args.source.now).remaining c.in-Ok.text.items c.take_text.result c.in-Ok.ensures.ok taken
+    let taken = rw (c.deref.ensures.value) at c.take_bytes.ensures.ok in
+    ok_known (λ end input. TookInput folds_of c.args.folder.now c.take_bytes.new.folder c.args.setting.form input end) c.args.setting.form
+    (g.R.Source.state c.args.source.now).remaining c.in-Ok.bytes.items c.take_bytes.result c.if-setting.true c.in-Ok.ensures.ok taken
 
 pub returns-in-Ok-clause-err : goal.returns-in-Ok-clause-err
 returns-in-Ok-clause-err g c =
-    let told = rw (c.deref.ensures.value) at c.take_text.ensures.err in
-    told_known c.args.setting.form _ _ c.args.place (g.R.Source.state c.args.source.now).remaining c.in-Ok.text.items c.take_text.result
-    c.in-Ok.ensures.ok told
+    let told = rw (c.deref.ensures.value) at c.take_bytes.ensures.err in
+    told_known c.args.setting.form _ _ c.args.place (g.R.Source.state c.args.source.now).remaining c.in-Ok.bytes.items c.take_bytes.result
+    c.if-setting.true c.in-Ok.ensures.ok told
 
 pub returns-in-Ok-clause-kept : goal.returns-in-Ok-clause-kept
 returns-in-Ok-clause-kept g c =
     let left = (g.R.Source.state c.read_digits.new.source).remaining in
-    let kept = rw (c.deref.ensures.value) at c.take_text.ensures.kept in
-    err_known (λ fault input. TookOwn folds_of c.args.folder.now c.take_text.new.folder c.args.setting.form left input fault)
-    (g.R.Source.state c.args.source.now).remaining c.in-Ok.text.items c.take_text.result c.in-Ok.ensures.ok
-    (λ input same. kept input left same)
+    let kept = rw (c.deref.ensures.value) at c.take_bytes.ensures.kept in
+    err_known (λ fault input. TookOwn folds_of c.args.folder.now c.take_bytes.new.folder c.args.setting.form left input fault)
+    c.args.setting.form (g.R.Source.state c.args.source.now).remaining c.in-Ok.bytes.items c.take_bytes.result c.if-setting.true
+    c.in-Ok.ensures.ok (λ input has. kept input left has)
 
 pub returns-in-Err-clause-err : goal.returns-in-Err-clause-err
 returns-in-Err-clause-err g c =

@@ -14,7 +14,7 @@ use Rattle.hleak.specs.Meanings.{absent_text, case_text, hex_text, line_text, mi
 use Rattle.hleak.specs.Meanings.{state_text, too_many_stacks, unbounded_text, unknown_cut_text, unread, unsaved, untaken}
 use Rattle.hleak.specs.Shown.{shown_name, shown_text}
 use Rattle.hleak.specs.Sides.{side_text, label_of}
-use Rattle.hleak.specs.Subjects.{asked_about, event_line_of, has_moment, has_since, input_name, subject_of}
+use Rattle.hleak.specs.Subjects.{asked_about, event_line_of, forgets_events, has_moment, has_since, input_name, subject_of}
 use Rattle.hleak.specs.declared.explaining.explanation.About as declared
 use Rattle.hleak.specs.declared.explaining.explanation.About.TheVariants as abouts
 use Rattle.hleak.specs.declared.explaining.task.Task.{Task}
@@ -27,7 +27,7 @@ meaning_text task (Segment input offset fault) reason = segment_text fault
 meaning_text task (Hex input fault) reason = hex_text fault
 meaning_text task (Text input line fault event) reason = line_text fault
 meaning_text task (Case fault) reason = case_text task fault
-meaning_text task (Incomplete processor number) reason = missing_text processor number
+meaning_text task (Incomplete processor number) reason = missing_text (forgets_events task) processor number
 meaning_text task (UnknownCut input) reason = unknown_cut_text input
 meaning_text task NoSubject reason = absent_text (asked_about task) (has_moment task) (has_since task)
 meaning_text task (Symbols fault) reason = symbols_text fault

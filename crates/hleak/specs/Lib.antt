@@ -2,6 +2,7 @@ pub mod Arguments
 pub mod Disks
 pub mod Explanations
 pub mod Files
+pub mod Heard
 pub mod Meanings
 pub mod Notes
 pub mod Openings
@@ -11,4 +12,3 @@ pub mod Shown
 pub mod Sides
 pub mod Stages
 pub mod Subjects
-pub mod Wrongs

@@ -10,7 +10,7 @@ use Rattle.htl_command.specs.declared.code.Code.TheVariants.{C1, C2, C3, C4, C5,
 use Rattle.htl_command.specs.declared.code.Code.TheVariants.{Y1, Y2, Y3, Y4, Y5, Y6, Y7}
 use Rattle.htl_command.specs.declared.code.Code.TheVariants.{E1, E2}
 use Rattle.htl_program.specs.Parts.{part_text}
-use Rattle.htl_program.specs.Words.{advice_of, form_wrong_of, part_of, with_part, wrong_of}
+use Rattle.htl_program.specs.Words.{advice_of, form_wrong_of, give_missing, part_of, with_part, wrong_of}
 use Rattle.htl_program.specs.declared.explained.named_part.NamedPart.{NamedPart}
 use Rattle.htl_program.specs.declared.explained.named_part.NamedPart.TheVariants as parts
 use Rattle.htl_question.specs.declared.subject.Subject.{Subject}
@@ -113,8 +113,10 @@ case_text task (cases.SequenceTwice sequence) = coded C5 (Some (parts.Sequence s
 case_text task cases.NoMemory = coded C6 None
 case_text task (cases.Falling processor number) = coded C7 (Some (parts.Key processor number))
 
-abbrev pub missing_text : ℕ → ℕ → List ℕ
-missing_text processor number = coded C8 (Some (parts.Key processor number))
+-- a segment is missing, where events are forgotten (`true`) or not
+abbrev pub missing_text : Bool → ℕ → ℕ → List ℕ
+missing_text false processor number = coded C8 (Some (parts.Key processor number))
+missing_text true processor number = said (Some (parts.Key processor number)) (wrong_of C8) give_missing
 
 -- an input is cut within a segment of which it isn't known which it is
 abbrev pub unknown_cut_text : ℕ → List ℕ

@@ -1,6 +1,6 @@
 -- The notes that a person reads beside an answer (this project's own).
 use Rattle.std.specs.Fmt.{decimal}
-use Rattle.std.specs.Prelude.{◌==◌, ◌++◌, [], ℕ, Bool, List, Option, None, Some, codes, if◌then◌else◌}
+use Rattle.std.specs.Prelude.{◌==◌, ◌&&◌, ◌++◌, [], ℕ, Bool, List, Option, None, Some, codes, if◌then◌else◌, not}
 use Rattle.htl_inputs.specs.declared.cuts.CutInputs.{CutInputs}
 use Rattle.htl_main.specs.declared.coverage.Coverage.{Coverage}
 use Rattle.htl_program.specs.AskedAbout.{subject_text}
@@ -20,17 +20,21 @@ gap_word gaps = if gaps == 1 then codes "gap" else codes "gaps"
 abbrev pub others_text : ℕ → List ℕ
 others_text others = if others == 0 then [] else codes ", and " ++ (decimal others ++ codes " more")
 
+-- as of which moment questions can be asked, unless events are forgotten
+abbrev pub moment_advice : Bool → List ℕ
+moment_advice forgets = if forgets then [] else codes "; ask with --until complete"
+
 -- that segments are missing, or that the symbols have none of the addresses
 abbrev pub note_text : InputsNote → List ℕ
-note_text (Gaps coverage) =
+note_text (Gaps coverage forgets) =
     codes "hleak: note: " ++ (decimal coverage.gaps ++ (codes " " ++ (gap_word coverage.gaps
-    ++ (codes ": segments are missing (summary lists them); ask with --until complete: answers are complete to "
-    ++ decimal coverage.complete_to))))
+    ++ (codes ": segments are missing (summary lists them)" ++ (moment_advice forgets
+    ++ (codes ": answers are complete to " ++ decimal coverage.complete_to))))))
 note_text Unnamed = codes "hleak: note: the symbol table has none of the addresses: is it of this build?"
 
--- that segments are missing, where there is a gap
-abbrev pub gaps_noted : Coverage → Option InputsNote
-gaps_noted coverage = if coverage.gaps == 0 then None else Some (Gaps coverage)
+-- that segments are missing, where there is a gap and there was none before
+abbrev pub gaps_noted : ℕ → Coverage → Bool → Option InputsNote
+gaps_noted before coverage forgets = if before == 0 && not (coverage.gaps == 0) then Some (Gaps coverage forgets) else None
 
 -- that inputs end within a segment
 abbrev pub cut_text : Task → CutInputs → List ℕ

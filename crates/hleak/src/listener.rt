@@ -1,13 +1,13 @@
 //! What is read on standard error beside the replies of a dialogue.
 
 ghost use Rattle.std.specs.Prelude.{◌≡◌, ◌||◌, false, not};
-ghost use Rattle.hleak.specs.Wrongs.{is_refusal};
+ghost use Rattle.hleak.specs.Heard.{gaps_read, is_refusal};
 
 use crate::explaining::Task;
 use crate::lacking::Lacking;
 use crate::note::InputsNote;
 use crate::voice::Voice;
-use htl_ask::{Note, Speaker};
+use htl_ask::{Note, Opening, Speaker};
 use htl_command::{Job, ParseFault};
 use htl_main::{Absence, Added, Between, Coverage, CutInputs, Refused, Remarks, RunFault};
 use htl_program::Lack;
@@ -24,6 +24,10 @@ pub struct Listener<'p> {
     has_refused: bool,
     /// Whether the symbols had none of the addresses of an answer, which is said once.
     has_missed_names: bool,
+    /// Whether events are forgotten once they are read.
+    forgets: bool,
+    /// How many gaps there are in what was read. The first one is told.
+    gaps: u64,
 }
 
 impl<'p> Listener<'p> {
@@ -33,6 +37,8 @@ impl<'p> Listener<'p> {
         ensures typed { result.is_typed ≡ is_typed }
         ensures refused { result.has_refused ≡ false }
         ensures names { result.has_missed_names ≡ false }
+        ensures keeps { result.forgets ≡ false }
+        ensures gaps { result.gaps ≡ 0 }
     {
         Listener {
             voice,
@@ -40,6 +46,8 @@ impl<'p> Listener<'p> {
             is_typed,
             has_refused: false,
             has_missed_names: false,
+            forgets: false,
+            gaps: 0,
         }
     }
 
@@ -50,12 +58,29 @@ impl<'p> Listener<'p> {
         }
     }
 
-    /// Says where segments are missing, where notes are wanted, and which inputs are cut.
-    fn begin(&self, files: &[String], coverage: Coverage, cut: Option<CutInputs>) {
-        if let (Some(note), true) = (InputsNote::on_gaps(coverage), self.wants_notes) {
+    /// Says where segments are missing, where notes are wanted, and which inputs are cut. It is kept in
+    /// mind whether events are forgotten.
+    fn begin(&mut self, files: &[String], opening: Opening)
+        ensures { self.new ≡ record self.old {
+          forgets = opening.forgets;
+          gaps = opening.coverage.gaps;
+        } }
+    {
+        self.forgets = opening.forgets;
+        self.note_gaps(opening.coverage);
+        self.note_cut(Task::Convert(files), opening.cut);
+    }
+
+    /// Says that segments are missing, where notes are wanted and none was missing before. The number
+    /// of gaps is kept in mind.
+    fn note_gaps(&mut self, coverage: Coverage)
+        ensures { self.new ≡ record self.old { gaps = coverage.gaps } }
+    {
+        let note = InputsNote::on_gaps(self.gaps, coverage, self.forgets);
+        if let (Some(note), true) = (note, self.wants_notes) {
             self.voice.say(note);
         }
-        self.note_cut(Task::Convert(files), cut);
+        self.gaps = coverage.gaps;
     }
 
     /// Says which inputs end within a segment, where notes are wanted and some do.
@@ -65,10 +90,17 @@ impl<'p> Listener<'p> {
         }
     }
 
-    /// Says which of the files that were read are cut, or why they are refused.
-    fn end_reading(&self, files: &[String], ended: Result<Added, Refused>) {
+    /// Says that there is a gap since files were read, and which of them are cut; or why they are
+    /// refused.
+    fn end_reading(&mut self, files: &[String], ended: Result<Added, Refused>)
+        ensures { self.new ≡ record self.old { gaps = gaps_read self.old.gaps ended } }
+    {
         match ended {
-            Ok(added) => self.note_cut(Task::Read(files), added.cut),
+            Ok(added) => {
+                let forgets = self.forgets;
+                self.note_gaps(added.coverage);
+                self.note_cut(Task::Read { files, forgets }, added.cut);
+            }
             Err(refused) => self.report(files, refused),
         }
     }
@@ -90,7 +122,8 @@ impl<'p> Listener<'p> {
         }
         self.voice.say(refused);
         if self.wants_notes {
-            self.voice.explain(Task::Read(files), refused);
+            let forgets = self.forgets;
+            self.voice.explain(Task::Read { files, forgets }, refused);
         }
     }
 
@@ -129,12 +162,15 @@ fn is_refusal(fault: &ParseFault) -> bool
 }
 
 impl Speaker for Listener<'_> {
-    ghost use Rattle.hleak.specs.Wrongs.{counts_as_wrong, misses_names};
+    ghost use Rattle.hleak.specs.Heard.{counts_as_wrong, forgets_after, gaps_after, misses_names};
 
-    // A line that was refused is kept in mind, and an answer without names, and nothing else.
+    // A line that was refused is kept in mind, an answer without names, whether events are forgotten and
+    // how many gaps there are, and nothing else.
     ghost told = { λ s note. record s {
       has_refused = s.has_refused || counts_as_wrong note;
       has_missed_names = s.has_missed_names || misses_names note;
+      forgets = forgets_after s.forgets note;
+      gaps = gaps_after s.gaps note;
     } };
 
     ghost wants_notes = { λ s. s.wants_notes };
@@ -146,7 +182,7 @@ impl Speaker for Listener<'_> {
 
     fn hears(&mut self, note: Note<&[String], &ParseFault, &Job>) {
         match note {
-            Note::Begins(files, coverage, cut) => self.begin(files, coverage, cut),
+            Note::Begins(files, opening) => self.begin(files, opening),
             Note::Awaits => self.prompt(),
             Note::Refuses(fault) => self.refuse(fault),
             Note::Reads(files, ended) => self.end_reading(files, ended),

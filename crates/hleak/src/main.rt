@@ -1,6 +1,6 @@
-//! The program: answers one question over trace segments in files or from standard input, or many
-//! over those in files, prints segments as text or makes them of text, folds them into a state, or
-//! explains a code.
+//! The program: answers one question over trace segments in files or from standard input, or over
+//! saved states and files, or many over these, prints segments as text or makes them of text, folds
+//! them into a state, or explains a code.
 //!
 //! What its arguments ask for is done by `htl_program`, for any world. Here is the world of the
 //! machine (`machine.rt`): the files of its disk (`disk.rt`), which are opened once they are read

@@ -2,6 +2,7 @@
 
 ghost use Rattle.std.specs.Prelude.{◌≡◌};
 ghost use Rattle.hleak.specs.Notes.{gap_word as word_of, gaps_noted};
+ghost use Rattle.hleak.specs.Notes.{moment_advice as advice_of};
 
 use crate::explaining::Task;
 use crate::shown::Shown;
@@ -12,20 +13,26 @@ use std::fmt;
 #[derive(Clone, Copy)]
 pub enum InputsNote {
     /// Some are missing: the answer holds for those that are there.
-    Gaps(Coverage),
+    Gaps {
+        coverage: Coverage,
+        /// Whether events are forgotten once they are read. Then no question can be asked as of a
+        /// moment.
+        forgets: bool,
+    },
     /// The table of symbols has none of the addresses that an answer shows.
     Unnamed,
 }
 
 impl InputsNote {
-    /// The note on a case with a gap. There is none on another.
-    pub fn on_gaps(coverage: Coverage) -> Option<InputsNote>
-        ensures { result ≡ gaps_noted coverage }
+    /// The note on segments with a gap, where they had no gap before. There is none on others.
+    pub fn on_gaps(before: u64, coverage: Coverage, forgets: bool) -> Option<InputsNote>
+        ensures { result ≡ gaps_noted before coverage forgets }
     {
-        if coverage.gaps == 0 {
-            return None;
+        if before == 0 && coverage.gaps > 0 {
+            Some(InputsNote::Gaps { coverage, forgets })
+        } else {
+            None
         }
-        Some(InputsNote::Gaps(coverage))
     }
 }
 
@@ -37,13 +44,16 @@ impl fmt::Display for InputsNote {
 
     fn fmt<W: fmt::Write>(&self, f: &mut fmt::Formatter<W>) -> fmt::Result {
         match *self {
-            InputsNote::Gaps(Coverage { gaps, complete_to }) => {
-                let word = gap_word(gaps);
+            InputsNote::Gaps {
+                coverage: Coverage { gaps, complete_to },
+                forgets,
+            } => {
+                let (word, advice) = (gap_word(gaps), moment_advice(forgets));
                 write!(
                     f,
                     "\
-hleak: note: {gaps} {word}: segments are missing (summary lists them); ask with --until complete: \
-answers are complete to {complete_to}"
+hleak: note: {gaps} {word}: segments are missing (summary lists them){advice}: answers are complete to \
+{complete_to}"
                 )
             }
             InputsNote::Unnamed => write!(
@@ -59,6 +69,18 @@ fn gap_word(gaps: u64) -> &'static str
     ensures { result.now ≡ word_of gaps }
 {
     if gaps == 1 { "gap" } else { "gaps" }
+}
+
+/// As of which moment questions can be asked where there is a gap. Where events are forgotten there
+/// is none.
+fn moment_advice(forgets: bool) -> &'static str
+    ensures { result.now ≡ advice_of forgets }
+{
+    if forgets {
+        ""
+    } else {
+        "; ask with --until complete"
+    }
 }
 
 /// The note on inputs that end within a segment, which is left out.

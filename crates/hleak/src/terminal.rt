@@ -10,7 +10,7 @@ use crate::terminals::Terminals;
 use crate::voice::Voice;
 use htl_command::{Command, ParseFault};
 use htl_dialogue::DialogueFault;
-use htl_main::{CutInputs, Refused, RunFault};
+use htl_main::{Coverage, CutInputs, Refused, RunFault};
 use htl_program::{Message, Person};
 
 /// Who reads standard error, at a terminal or not.
@@ -25,7 +25,9 @@ impl Terminal<'_> {
     /// is written to a terminal.
     fn begin(self, command: &Command) {
         match command {
-            Command::Question(run) if run.files.is_empty() => self.await_typing("segments are"),
+            Command::Question(run) if run.states.is_empty() && run.files.is_empty() => {
+                self.await_typing("segments are")
+            }
             Command::Dump { files, .. } if files.is_empty() => self.await_typing("segments are"),
             Command::Encode { files, .. } if files.is_empty() => self.await_typing("text is"),
             Command::Fold { files, .. } if files.is_empty() => self.await_typing("segments are"),
@@ -51,6 +53,14 @@ impl Terminal<'_> {
     fn explain(self, command: &Command, refused: Refused) {
         if let Some(task) = Task::of(command) {
             self.voice.explain(task, refused);
+        }
+    }
+
+    /// Says that segments are missing whose events what the command gives may lack.
+    fn note_gaps(self, command: &Command, coverage: Coverage) {
+        if let Some(task) = Task::of(command) {
+            let forgets = task.forgets_events();
+            self.voice.say(InputsNote::Gaps { coverage, forgets });
         }
     }
 
@@ -104,7 +114,7 @@ impl Person for Terminal<'_> {
             Message::Meaning(command, refused) => self.explain(command, refused),
             Message::Lack(lack) => self.voice.say(Lacking { lack }),
             Message::Unnamed => self.voice.say(InputsNote::Unnamed),
-            Message::Gaps(coverage) => self.voice.say(InputsNote::Gaps(coverage)),
+            Message::Gaps(command, coverage) => self.note_gaps(command, coverage),
             Message::Cut(command, inputs) => self.note_cut(command, inputs),
             Message::Stop(stopped) => self.voice.say(stopped),
             Message::StopMeaning(stopped) => self.explain_stop(stopped),

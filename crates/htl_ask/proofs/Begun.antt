@@ -7,11 +7,12 @@ use Rattle.htl_dialogue.specs.declared.dialogue.Conversed.{Conversed}
 use Rattle.htl_dialogue.specs.declared.dialogue.DialogueFault.{DialogueFault}
 use Rattle.htl_dialogue.specs.declared.dialogue.DialogueFault.TheVariants.{Questions, Write, NoMemory}
 use Rattle.htl_dialogue.specs.declared.note.Note.TheVariants as hear
-use Rattle.htl_ask.specs.Beginnings.{BeginsAndGets, Opening}
+use Rattle.htl_dialogue.specs.declared.note.Opening.{Opening}
+use Rattle.htl_ask.specs.Beginnings.{BeginsAndGets}
 
 module _ {S Speaker : Type 0} (answers : Answers S) (wanted : Bool) (before : S) (text : List ℕ) (old new : Option (List ℕ))
     (told : Speaker → OwnNote → Speaker) (speaker begun after : Speaker) (names : List (List ℕ)) (opening : Opening)
-    (is : begun ≡ told speaker (hear.Begins names opening.coverage opening.cut)) where
+    (is : begun ≡ told speaker (hear.Begins names opening)) where
   gets : (replies : List ℕ) (notes : List OwnNote) → Gets old new told begun after replies notes
       → BeginsAndGets names old new told speaker after opening replies notes
   gets replies notes got = (got.0, rw is at got.1)

@@ -8,5 +8,7 @@ pub mod FirstFaults
 pub mod Written
 pub mod StateOutcomes
 pub mod Begun
+pub mod Unread
+pub mod Answered
 pub mod OfForm
 pub mod LinesAsked

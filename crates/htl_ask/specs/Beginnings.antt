@@ -10,9 +10,9 @@ use Rattle.htl_device.specs.States.{SourceState, ends, fresh, lefts}
 use Rattle.htl_dialogue.specs.Dialogues.{Gets}
 use Rattle.htl_dialogue.specs.Notes.{OwnNote}
 use Rattle.htl_dialogue.specs.declared.note.Note.TheVariants as hear
+use Rattle.htl_dialogue.specs.declared.note.Opening.{Opening}
 use Rattle.htl_inputs.specs.CutInputs.{AreCut}
 use Rattle.htl_inputs.specs.Readings.{AreRead}
-use Rattle.htl_inputs.specs.declared.cuts.CutInputs.{CutInputs}
 use Rattle.htl_inputs.specs.declared.fault.RunFault.{RunFault}
 use Rattle.htl_inputs.specs.declared.fault.RunFault.TheVariants.{Case, Memory, State, StateRead, Unbounded}
 use Rattle.htl_main.specs.Causes.{IsSourcesCause}
@@ -22,7 +22,6 @@ use Rattle.htl_main.specs.Loading.{AreLoadedOf, in_setting}
 use Rattle.htl_main.specs.Origins.{IsBetween}
 use Rattle.htl_main.specs.Printed.{HasSymbols}
 use Rattle.htl_main.specs.SavedStates.{EndsMerging, HaveOtherCounts, HaveOtherIds}
-use Rattle.htl_main.specs.declared.coverage.Coverage.{Coverage}
 use Rattle.htl_main.specs.declared.loading.adding.Added.{Added}
 use Rattle.htl_main.specs.declared.origin.Between.{Between}
 use Rattle.htl_segment.specs.Content.{Content}
@@ -99,12 +98,6 @@ EndsAtState world states names fault = RefusesState world states names fault ⊎
 
 -- ---- inputs
 
--- what a speaker is told before the first line: how much of their trace the states and the inputs have, and which inputs end within a
--- segment
-pub record Opening : Type 0 where
-  pub coverage : Coverage
-  pub cut : Option CutInputs
-
 -- All segments of the inputs were loaded, with the names of the table, as a run does before its answer; and what is told holds of them.
 pub record OpensLoaded (setting : Setting) (symbols : Option (List ℕ)) (texts : List (List ℕ)) (opening : Opening) : Type 0 where
   pub case : Trace
@@ -137,7 +130,7 @@ Begins folds setting told symbols texts read opening = ⊥
 abbrev pub BeginsAndGets : {Speaker : Type 0} → List (List ℕ) → Option (List ℕ) → Option (List ℕ) → (Speaker → OwnNote → Speaker)
     → Speaker → Speaker → Opening → List ℕ → List OwnNote → Type 0
 BeginsAndGets names old new told speaker after opening replies notes =
-    Gets old new told speaker after replies (hear.Begins names opening.coverage opening.cut ∷ notes)
+    Gets old new told speaker after replies (hear.Begins names opening ∷ notes)
 
 -- why a run of its own over sources of these bytes would end, whatever it is asked of all events
 abbrev pub IsRunsCause : Setting → Option (List ℕ) → List (List ℕ) → List SourceState → RunFault → Type 0

@@ -1,15 +1,19 @@
--- For the clauses of private functions: what is kept answers the lines of a dialogue, before files are read and after; and saved states are
--- merged into it, and made of it.
+-- For the clauses of private functions: what is kept answers the lines of a dialogue, before files are read and after, and a question over
+-- saved states; and saved states are merged into it, and made of it.
 use Rattle.std.specs.Prelude.{◌≡◌, ◌≢◌, ◌⊎◌, ◌∷◌, [], ⊤, ℕ, Bool, true, false, List, IfErr, IfOk, IfSome, OnOk, None, Some, Option}
 use Rattle.std.specs.Prelude.{All, Result, Ok, Err, is_some, length, map, string_bytes}
+use Rattle.std.specs.Io.KnownBytes.{Appends}
 use Rattle.htl_command.specs.Needs.{needs_events}
 use Rattle.htl_command.specs.declared.command.Dialogue.{Dialogue}
+use Rattle.htl_command.specs.declared.command.Run.{Run}
 use Rattle.htl_command.specs.declared.question.Job.{Job}
 use Rattle.htl_command.specs.declared.question.Setting.{Setting}
-use Rattle.htl_device.specs.States.{SourceState, IfKnown}
+use Rattle.htl_device.specs.Devices.{AppendsPrefix}
+use Rattle.htl_device.specs.States.{SinkState, SourceState, IfKnown}
 use Rattle.htl_inputs.specs.declared.fault.RunFault.{RunFault}
-use Rattle.htl_inputs.specs.declared.fault.RunFault.TheVariants.{Incomplete, Memory, StateRead, StateWrite}
+use Rattle.htl_inputs.specs.declared.fault.RunFault.TheVariants.{Incomplete, Memory, StateRead, StateWrite, Write}
 use Rattle.htl_dialogue.specs.Dialogues.{Answers, answers_by}
+use Rattle.htl_dialogue.specs.declared.note.Opening.{Opening}
 use Rattle.htl_dialogue.specs.declared.saying.Said.{Said}
 use Rattle.htl_dialogue.specs.declared.saying.Said.TheVariants as said
 use Rattle.htl_main.specs.Completeness.{IsComplete, IsLeastMissing}
@@ -18,12 +22,14 @@ use Rattle.htl_main.specs.Folding.{AreFolded, IsAskedOver, IsCollectionOf, IsHal
 use Rattle.htl_main.specs.Loading.{AreLoadedOf}
 use Rattle.htl_main.specs.Origins.{by_fault}
 use Rattle.htl_main.specs.Printed.{HasSymbols, WorkersFit}
+use Rattle.htl_inputs.specs.Reads.{NeverWrite}
 use Rattle.htl_inputs.specs.Readings.{AreRead, AskForReaders}
-use Rattle.htl_main.specs.Runs.{EndsAdding, RunsOut}
+use Rattle.htl_main.specs.Runs.{EndsAdding, LeavesSink, RunsOut}
 use Rattle.htl_main.specs.SavedStates.{IsStateOfFolded, IsUnsaved, MergesAs}
 use Rattle.htl_main.specs.Subjects.{HasAbsence}
 use Rattle.htl_main.specs.declared.loading.adding.Added.{Added}
 use Rattle.htl_main.specs.declared.completed.Absence.{Absence}
+use Rattle.htl_main.specs.declared.completed.Completed.{Completed}
 use Rattle.htl_main.specs.declared.folding.Folded.{Folded}
 use Rattle.htl_main.specs.declared.loading.Loaded.{Loaded}
 use Rattle.htl_main.specs.declared.printing.AnswerText.{AnswerText}
@@ -35,9 +41,10 @@ use Rattle.htl_world.specs.Worlds.{IsAsked, Known, WorldChange, to_write}
 use Rattle.htl_world.specs.declared.world.OpenFault.TheVariants as opens
 use Rattle.htl_ask.specs.Asking.{GoesOn, IsAnswerText, IsFolding, IsSavedState, KnownStates, ReadsNames, Taken, found, inputs}
 use Rattle.htl_ask.specs.Asking.{one_is_absent, segments}
-use Rattle.htl_ask.specs.Beginnings.{AllFit, Begins, EndsAtState, IsBeginsBetween, IsBeginsCause, forgets}
-use Rattle.htl_ask.specs.LineRounds.{EndsReading, all_read}
+use Rattle.htl_ask.specs.Beginnings.{AllFit, Begins, EndsAtState, IsBeginsBetween, IsBeginsCause, ReadsBehind, forgets, told_first}
+use Rattle.htl_ask.specs.LineRounds.{EndsReading, ReadsStates, all_read}
 use Rattle.htl_ask.specs.Outcomes.{told_before}
+use Rattle.htl_ask.specs.OverStates.{EndsOverStates}
 use Rattle.htl_ask.specs.declared.kept.Begun.{Begun}
 use Rattle.htl_ask.specs.declared.kept.Kept.{Kept}
 use Rattle.htl_ask.specs.declared.kept.Kept.TheVariants.{Case, State}
@@ -161,18 +168,32 @@ answers_from world setting forgets has_table =
     answers_by forgets has_table (HasOutcomeIn setting.complete) HasAbsenceIn (ReadsFiles world setting)
     (MergesFile world setting) SavesFile
 
--- What was folded of states is of these segments, where they are known; or nothing is folded.
+-- What was folded of states is of these segments, where they are known.
+abbrev pub IsFoldedOf : Option (List Content) → Folded → Type 0
+IsFoldedOf told folded = IfSome told (AreFolded folded.analyst)
+
+-- the same where something is folded
 abbrev pub IsOfTold : Option Folded → Option (List Content) → Type 0
 IsOfTold None told = ⊤
-IsOfTold (Some folded) told = IfSome told (AreFolded folded.analyst)
+IsOfTold (Some folded) told = IsFoldedOf told folded
 
 -- The world was asked for all bytes of each of the names, or of those up to the one at which that ended.
 abbrev pub AsksForStates : {S : Type 0} → WorldChange → List (List ℕ) → Result S RunFault → Type 0
 AsksForStates world names (Ok read) = IsAsked world.old world.new (all_read names)
 AsksForStates world names (Err fault) = Asks world (EndsReading names fault)
 
--- The states that a dialogue begins with were read and merged, where it folds what is read; or that ended at one of them.
-pub record RestoresAs (world : WorldChange) (of : Dialogue) (result : Result (Option Folded) Refused) : Type 0 where
+-- The states of these names were read and merged; or that ended at one of them.
+pub record RestoresAs (world : WorldChange) (names : List (List ℕ)) (result : Result Folded Refused) : Type 0 where
+  pub told : (states : KnownStates world.old.known.holds) → IfOk result (IsFoldedOf (told_first states names))
+  pub states : OnOk result (All (IsSavedState world.old.known) names)
+  pub fit : (states : KnownStates world.old.known.holds) → OnOk result (AllFit states (Some []) names)
+  pub refused : (states : KnownStates world.old.known.holds)
+      → IfErr result (λ refused. EndsAtState world.old.known states names refused.fault)
+  pub between : IfErr result (λ refused. IsHalfKnown refused.fault refused.between)
+  pub asked : AsksForStates world names (by_fault result)
+
+-- The same of the states that a dialogue begins with, where it folds what is read.
+pub record RestoresBefore (world : WorldChange) (of : Dialogue) (result : Result (Option Folded) Refused) : Type 0 where
   pub told : (states : KnownStates world.old.known.holds) → IfOk result (λ before. IsOfTold before (told_before states of))
   pub form : IfOk result (λ before. is_some before ≡ forgets of)
   pub states : OnOk result (All (IsSavedState world.old.known) (map string_bytes of.states.items))
@@ -182,12 +203,16 @@ pub record RestoresAs (world : WorldChange) (of : Dialogue) (result : Result (Op
   pub between : IfErr result (λ refused. IsHalfKnown refused.fault refused.between)
   pub asked : AsksForStates world (map string_bytes of.states.items) (by_fault result)
 
+-- what a speaker is told of what there is before the first line
+abbrev pub opening_of : Bool → Begun → Opening
+opening_of folds begun = record { coverage = begun.coverage; cut = begun.cut; forgets = folds }
+
 -- What there is before the first line, by what was read, as far as that is known.
 pub record IsBegun (folds : Bool) (setting : Setting) (told : Option (List Content)) (symbols : Option (List ℕ)) (texts : List (List ℕ))
     (begun : Begun) : Type 0 where
   pub read : Option Taken
   pub kept : IfSome read (AreKept setting symbols begun.kept)
-  pub opens : Begins folds setting told symbols texts read (record { coverage = begun.coverage; cut = begun.cut })
+  pub opens : Begins folds setting told symbols texts read (opening_of folds begun)
 
 -- how much of its trace a case has is known
 abbrev pub IsCovered : Kept → Type 0
@@ -206,8 +231,51 @@ pub record KeepsAs (before : Option Folded) (setting : Setting) (symbols : Optio
     (result : Result Begun Refused) : Type 0 where
   pub outcome : (told : Option (List Content)) → IsOfTold before told
       → IfKnown old (λ texts. EndsKeeping (is_some before) setting told symbols texts new result)
+  pub between : IfErr result (λ refused. is_some before ≡ true → IsHalfKnown refused.fault refused.between)
   pub form : IfOk result (λ begun. is_state begun.kept ≡ is_some before)
   pub coverage : IfOk result (λ begun. IsCovered begun.kept)
   pub workers : OnOk result (WorkersFit setting.workers)
   pub reading : AreRead setting.form.hex old new (by_fault result)
   pub readers : AskForReaders setting.form.hex setting.workers old new
+  pub no_write : NeverWrite (by_fault result)
+
+-- ---- a question over saved states
+
+-- The answer to a job over what was read was printed, and this is reported beside it.
+pub record AnswersBegun (begun : Begun) (job : Job) (old new : Option (List ℕ)) (completed : Completed) : Type 0 where
+  pub answer : AnswerText
+  pub is : HasOutcomeIn job.setting.complete begun.kept job (Ok answer)
+  pub printed : Appends old new answer.lines.items
+  pub coverage : completed.coverage ≡ begun.coverage
+  pub cut : completed.cut ≡ begun.cut
+  pub absence : completed.absence ≡ None
+  pub remarks : completed.remarks ≡ answer.remarks
+
+-- why the answer over what is kept wasn't printed
+abbrev pub IsUnprintedIn : Kept → Job → Option (List ℕ) → Option (List ℕ) → RunFault → Type 0
+IsUnprintedIn kept job old new Write =
+    (answer : AnswerText) × HasOutcomeIn job.setting.complete kept job (Ok answer) × AppendsPrefix old new answer.lines.items
+IsUnprintedIn kept job old new Memory = ⊤
+IsUnprintedIn kept job old new fault = HasOutcomeIn job.setting.complete kept job (Err fault)
+
+abbrev pub EndsBegun : Begun → Job → Option (List ℕ) → Option (List ℕ) → Result Completed RunFault → Type 0
+EndsBegun begun job old new (Ok completed) = AnswersBegun begun job old new completed
+EndsBegun begun job old new (Err fault) = IsUnprintedIn begun.kept job old new fault
+
+-- The same, or there is a reason why not.
+pub record PrintsBegun (begun : Begun) (job : Job) (before after : SinkState) (result : Result Completed RunFault) : Type 0 where
+  pub outcome : EndsBegun begun job before.contents after.contents result
+  pub sink : LeavesSink before after result
+
+-- The states were read, and then the opened inputs of a question over states, and the answer was printed; or there is a reason why not.
+pub record AnswersOpened (known : Known) (world : WorldChange) (run : Run) (table : Option (List ℕ)) (old new : List SourceState)
+    (before after : SinkState) (ended : Result Completed Refused) : Type 0 where
+  pub ends : IfKnown old (λ texts. (states : KnownStates known.holds)
+      → EndsOverStates known states new run texts table before.contents after.contents ended)
+  pub between : IfErr ended (λ refused. IsHalfKnown refused.fault refused.between)
+  pub states : OnOk ended (All (IsSavedState known) (map string_bytes run.states.items))
+  pub reading : (states : KnownStates known.holds)
+      → ReadsBehind known states run.job.setting.form.hex (map string_bytes run.states.items) old new (by_fault ended)
+  pub readers : AskForReaders run.job.setting.form.hex run.job.setting.workers old new
+  pub sink : LeavesSink before after (by_fault ended)
+  pub asked : Asks world (ReadsStates (map string_bytes run.states.items) (by_fault ended) (λ more. more ≡ []))

@@ -5,6 +5,7 @@ use Rattle.htl_device.specs.States.{SinkState, SourceState}
 use Rattle.htl_dialogue.specs.Dialogues.{Converses, DialogueStops}
 use Rattle.htl_dialogue.specs.Notes.{OwnNote}
 use Rattle.htl_dialogue.specs.declared.dialogue.Conversed.{Conversed}
+use Rattle.htl_dialogue.specs.declared.note.Opening.{Opening}
 use Rattle.htl_main.specs.Origins.{by_fault}
 use Rattle.htl_segment.specs.Content.{Content}
 use Rattle.htl_world.specs.Endings.{IsUnopened, IsUntabled}
@@ -12,8 +13,7 @@ use Rattle.htl_world.specs.Readings.{AreAskedFor}
 use Rattle.htl_world.specs.Rounds.{Asks, OpensFiles}
 use Rattle.htl_world.specs.Worlds.{FilesHaveTexts, IsTable, IsTableAbsent, Known, WorldChange, IsAbsentAt, of_each}
 use Rattle.htl_ask.specs.Asking.{IsSavedState, KnownStates, ReportsDevices, Taken, answers_over, before_dialogue}
-use Rattle.htl_ask.specs.Beginnings.{Begins, BeginsAndGets, EndsAtState, IsBeginsBetween, IsBeginsCause, Opening, ReadsAll, forgets}
-use Rattle.htl_ask.specs.Beginnings.{told_first}
+use Rattle.htl_ask.specs.Beginnings.{Begins, BeginsAndGets, EndsAtState, IsBeginsBetween, IsBeginsCause, ReadsAll, forgets, told_first}
 use Rattle.htl_ask.specs.LineRounds.{AsksLater, ReadsStates}
 use Rattle.htl_ask.specs.declared.ask_fault.AskFault.{AskFault}
 use Rattle.htl_ask.specs.declared.ask_fault.AskFault.TheVariants as asks
@@ -47,11 +47,12 @@ abbrev pub HasGot : {S : Type 0} → List (List ℕ) → Talk S → Opening → 
 HasGot names talk opening = BeginsAndGets names talk.old.contents talk.new.contents talk.told talk.before talk.after opening
 
 -- A dialogue began with states that tell this, over inputs of these texts and with this table, and this holds of what was read before the
--- first line, as far as that is known, and of each text of its questions.
+-- first line, as far as that is known, and of each text of its questions. It is told whether events are forgotten.
 abbrev pub Began : {S : Type 0} → Dialogue → Option (List Content) → Talk S → List (List ℕ) → Option (List ℕ)
     → (Option Taken → Opening → List ℕ → Type 0) → Type 0
 Began of told talk texts table Goes =
-    (read : Option Taken) × (opening : Opening) × Begins (forgets of) of.setting told table texts read opening
+    (read : Option Taken) × (opening : Opening) × (opening.forgets ≡ forgets of)
+    × Begins (forgets of) of.setting told table texts read opening
     × ((lines : List ℕ) → talk.questions.remaining ≡ Some lines → Goes read opening lines)
 
 -- what the states that a dialogue begins with tell

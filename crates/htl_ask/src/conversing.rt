@@ -13,15 +13,17 @@ ghost use Rattle.htl_ask.specs.Asking.{before_dialogue};
 ghost use Rattle.htl_ask.specs.Beginnings.{IsBeginsBetween, ReadsBehind, forgets};
 ghost use Rattle.htl_ask.specs.Outcomes.{EndsConversing, IsConversed, talk};
 ghost use Rattle.htl_ask.specs.LineRounds.{AsksLater, ReadsStates};
+ghost use Rattle.htl_ask.specs.Loads.{RestoresBefore};
 
 use crate::ask_fault::AskFault;
 use crate::dialogue::converse_lines;
 use crate::files::Files;
 use crate::kept::{Begun, begin};
 use crate::restoring::restored;
+use htl_command::Dialogue;
 use htl_device::{Sink, Source};
-use htl_dialogue::{Conversed, Note, Speaker};
-use htl_main::{Between, Refused};
+use htl_dialogue::{Conversed, Note, Opening, Speaker};
+use htl_main::{Between, Folded, Refused};
 use htl_world::{World, as_bytes, open_named};
 use std::alloc::Global;
 use std::thread::Threads;
@@ -110,7 +112,7 @@ fn ask_opened<Rt: Threads + Sync, W: World, Q: Source, O: Sink, S: Speaker>(
         (λ _. (questions.new ≡ questions.old) × (out.new ≡ out.old)
         × (speaker.new ≡ speaker.old)) }
 {
-    let before = restored(alloc, world, files.dialogue)?;
+    let before = folded_before(alloc, world, files.dialogue)?;
     let Begun {
         mut kept,
         coverage,
@@ -123,7 +125,12 @@ fn ask_opened<Rt: Threads + Sync, W: World, Q: Source, O: Sink, S: Speaker>(
         inputs,
         symbols,
     )?;
-    speaker.hears(Note::Begins(&files.dialogue.files, coverage, cut));
+    let opening = Opening {
+        coverage,
+        cut,
+        forgets: kept.forgets(),
+    };
+    speaker.hears(Note::Begins(&files.dialogue.files, opening));
     let conversed = converse_lines(
         alloc,
         world,
@@ -135,4 +142,26 @@ fn ask_opened<Rt: Threads + Sync, W: World, Q: Source, O: Sink, S: Speaker>(
         speaker,
     )?;
     Ok(conversed)
+}
+
+/// What is folded of the states that a dialogue begins with, if it folds what is read.
+fn folded_before<W: World>(
+    alloc: Global,
+    world: &mut W,
+    dialogue: &Dialogue,
+) -> Result<Option<Folded>, Refused>
+    ensures { RestoresBefore (change (W.state world.old) (W.state world.new)) dialogue.now result }
+{
+    if !forgets(dialogue) {
+        return Ok(None);
+    }
+    let folded = restored(alloc, world, dialogue.setting, &dialogue.states)?;
+    Ok(Some(folded))
+}
+
+/// Whether what a dialogue reads is folded and forgotten.
+fn forgets(dialogue: &Dialogue) -> bool
+    ensures { result ≡ forgets dialogue.now }
+{
+    dialogue.folds || !dialogue.states.is_empty()
 }

@@ -1,47 +1,39 @@
-//! The saved states that a dialogue begins with: they are read and merged, one after the other.
+//! Saved states that come before all files: they are read and merged, one after the other.
 
-ghost use Rattle.std.specs.Prelude.{◌≡◌};
+ghost use Rattle.std.specs.Prelude.{◌≡◌, map, string_bytes};
 ghost use Rattle.htl_world.specs.Worlds.{change};
-ghost use Rattle.htl_ask.specs.Beginnings.{forgets, placed};
+ghost use Rattle.htl_ask.specs.Beginnings.{placed};
 ghost use Rattle.htl_ask.specs.Loads.{RestoresAs};
 
 use crate::states::{half_known, merge_named};
 use htl_case::CaseFault;
-use htl_command::{Dialogue, Setting};
+use htl_command::Setting;
 use htl_main::{Folded, Refused, RunFault};
 use htl_world::World;
 use std::alloc::Global;
 
-/// What was folded of the states that a dialogue begins with, if it folds what is read. The first
-/// state that is refused is reported, with its place. No gap is looked for between states.
+/// What is folded of the states of these names. The first state that is refused is reported, with its
+/// place. No gap is looked for between states.
 pub(crate) fn restored<W: World>(
     alloc: Global,
     world: &mut W,
-    dialogue: &Dialogue,
-) -> Result<Option<Folded>, Refused>
-    ensures { RestoresAs (change (W.state world.old) (W.state world.new)) dialogue.now result }
+    setting: Setting,
+    names: &[String],
+) -> Result<Folded, Refused>
+    ensures { RestoresAs (change (W.state world.old) (W.state world.new))
+        (map string_bytes names.now) result }
 {
-    if !forgets(dialogue) {
-        return Ok(None);
-    }
     let setting = Setting {
         complete: false,
-        ..dialogue.setting
+        ..setting
     };
     let mut folded = Folded::none(alloc);
-    for (place, name) in dialogue.states.iter().enumerate() {
+    for (place, name) in names.iter().enumerate() {
         if let Err(fault) = merge_named(alloc, world, setting, &mut folded, name) {
             return Err(half_known(placed(place as u64, fault)));
         }
     }
-    Ok(Some(folded))
-}
-
-/// Whether what a dialogue reads is folded and forgotten.
-fn forgets(dialogue: &Dialogue) -> bool
-    ensures { result ≡ forgets dialogue.now }
-{
-    dialogue.folds || !dialogue.states.is_empty()
+    Ok(folded)
 }
 
 /// The fault of the state at a place.

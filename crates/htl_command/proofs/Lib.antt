@@ -1,3 +1,4 @@
 pub mod Described
 pub mod Arguments
+pub mod OfStates
 pub mod FaultTexts

@@ -32,10 +32,14 @@ files_rule = record (new_rule (codes "files")) {
   range = Some (record { start_inclusive = 1; end_inclusive = usize_max });
 }
 
+-- a saved state, of which each is named by an option of its own
+abbrev pub state_rule : Rule
+state_rule = record (new_rule (codes "state")) { long = Some (codes "state"); value_names = 1; action = Some Append }
+
 -- what every question has
 abbrev pub common_rules : List Rule
 common_rules =
-    option_rule Until ∷ option_rule Symbols ∷ option_rule Workers ∷ flag_rule Json ∷ flag_rule Complete ∷ flag_rule Hex
+    option_rule Until ∷ option_rule Symbols ∷ option_rule Workers ∷ state_rule ∷ flag_rule Json ∷ flag_rule Complete ∷ flag_rule Hex
     ∷ flag_rule Partial ∷ flag_rule Notes ∷ files_rule ∷ []
 
 -- with these rules, in order
@@ -49,10 +53,6 @@ dump_rules = flag_rule Hex ∷ flag_rule Partial ∷ flag_rule Notes ∷ files_r
 
 abbrev pub encode_rules : List Rule
 encode_rules = flag_rule Hex ∷ flag_rule Notes ∷ files_rule ∷ []
-
--- a saved state, of which each is named by an option of its own
-abbrev pub state_rule : Rule
-state_rule = record (new_rule (codes "state")) { long = Some (codes "state"); value_names = 1; action = Some Append }
 
 -- what a dialogue has
 abbrev pub dialogue_rules : List Rule

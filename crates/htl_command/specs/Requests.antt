@@ -1,10 +1,11 @@
 -- What arguments ask for: of the entries that `clap` finds in them, each value is read by its rule.
-use Rattle.std.specs.Prelude.{◌≡◌, ⊤, ℕ, ◌==◌, ◌||◌, Bool, true, false, List, [], ◌∷◌, Option, Some, None, codes, if◌then◌else◌}
+use Rattle.std.specs.Prelude.{◌≡◌, ⊤, ℕ, ◌==◌, ◌||◌, ◌&&◌, Bool, true, false, List, [], ◌∷◌, Option, Some, None, codes, if◌then◌else◌}
 use Rattle.std.specs.Prelude.{is_some, length, map, not, option_and_then, option_map, string_bytes, unwrap_or}
 use Rattle.std.specs.Option.{option_map_or}
 use Rattle.clap.specs.Words.{Kinds, Row, Text, all_of, first_of}
 use Rattle.htl_command.specs.Commands.{command_named, question_row}
 use Rattle.htl_command.specs.Entries.{entries, refusals}
+use Rattle.htl_command.specs.Needs.{needs_events}
 use Rattle.htl_command.specs.Options.{both, defaulted, given, is_given, optional}
 use Rattle.htl_command.specs.Printed.{IsPrinted}
 use Rattle.htl_command.specs.Values.{count_in, moment_in, workers_in}
@@ -64,9 +65,10 @@ job_by_values name rows =
 unfoldable pub job_of : QuestionName → List Row → Option Job
 job_of name rows = option_and_then (λ job. if is_some (beside_tag rows) then None else Some job) (job_by_values name rows)
 
--- a job, with the names of its files
+-- a job, with the names of its states and its files
 pub record Work : Type 0 where
   pub job : Job
+  pub states : List Text
   pub files : List Text
   pub symbols : Option Text
 
@@ -92,8 +94,12 @@ has_files rows = not (length (file_names rows) == 0)
 abbrev pub has_states : List Row → Bool
 has_states rows = not (length (state_names rows) == 0)
 
-abbrev pub with_files : List Row → Job → Work
-with_files rows job = record { job = job; files = file_names rows; symbols = given Symbols rows }
+abbrev pub with_inputs : List Row → Job → Work
+with_inputs rows job = record { job = job; states = state_names rows; files = file_names rows; symbols = given Symbols rows }
+
+-- the job of a run: a state has no events, so what needs them isn't asked of one
+unfoldable pub job_of_run : QuestionName → List Row → Option Job
+job_of_run name rows = option_and_then (λ job. if has_states rows && needs_events job then None else Some job) (job_of name rows)
 
 -- questions of a dialogue come from standard input, so it has files or states to begin with
 abbrev pub has_inputs : List Row → Bool
@@ -108,7 +114,7 @@ is_folded rows = is_given flag.Fold rows || has_states rows
 
 -- what a command asks for
 abbrev pub request_of : CommandName → List Row → Option Request
-request_of (command.Question name) rows = option_map (λ job. answers (with_files rows job)) (job_of name rows)
+request_of (command.Question name) rows = option_map (λ job. answers (with_inputs rows job)) (job_of_run name rows)
 request_of command.Explain rows = option_map (λ text. explains text) (first_of (codes "code") rows)
 request_of command.Dump rows = Some (dumps (input_form rows) (file_names rows))
 request_of command.Encode rows = Some (encodes (is_given flag.Hex rows) (file_names rows))
@@ -131,6 +137,7 @@ stored = record {
     exit_code = false;
     format = Plain;
   };
+  states = [];
   files = [];
   symbols = None;
 }
@@ -152,12 +159,12 @@ unfoldable pub notes_in : List Text → Bool
 notes_in [] = false
 notes_in (argument ∷ more) = notes_met (entries (argument ∷ more))
 
--- an option or a file that a run alone has, and no question of a dialogue
+-- an option, a file or a state that a run alone has, and no question of a dialogue
 abbrev pub is_of_run : List Row → Bool
 is_of_run rows =
     is_given flag.Hex rows || (is_given flag.Partial rows || (is_given flag.Complete rows || (is_given flag.ExitCode rows
     || (is_given flag.Notes rows || (is_some (given Symbols rows) || (is_some (given Workers rows)
-    || has_files rows))))))
+    || has_inputs rows))))))
 
 -- the job of a question with these entries
 abbrev pub asked_by : CommandName → List Row → Option Job
@@ -175,6 +182,7 @@ asked_in arguments = if is_nothing (refusals arguments) then asked_met (entries 
 abbrev pub work : Run → Work
 work run = record {
   job = run.job;
+  states = map string_bytes run.states.items;
   files = map string_bytes run.files.items;
   symbols = option_map string_bytes run.symbols;
 }

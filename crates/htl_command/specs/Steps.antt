@@ -11,10 +11,11 @@ use Rattle.clap.specs.declared.error.ErrorKind.TheVariants.{OutOfMemory}
 use Rattle.clap.specs.declared.parser.ArgMatches.{ArgMatches}
 use Rattle.htl_command.specs.Codes.{all_codes, code_name}
 use Rattle.htl_command.specs.Commands.{question_row}
+use Rattle.htl_command.specs.Needs.{needs_events}
 use Rattle.htl_command.specs.Options.{defaulted, given as given_in, is_given, optional, value}
 use Rattle.htl_command.specs.Printed.{Follow, IsNameOf, form_of}
 use Rattle.htl_command.specs.Refusals.{HasReason, IsUsageText, is_mistake, is_wish}
-use Rattle.htl_command.specs.Requests.{beside_tag, has_inputs, setting_of, workers}
+use Rattle.htl_command.specs.Requests.{beside_tag, has_inputs, has_states, job_of, setting_of, workers}
 use Rattle.htl_command.specs.Values.{count_in, handle_in, moment_in, object_in, points_in, process_in, since_in, tag_in}
 use Rattle.htl_command.specs.declared.code.Code.{Code}
 use Rattle.htl_command.specs.declared.names.CommandFlag.TheVariants as flag
@@ -24,7 +25,7 @@ use Rattle.htl_command.specs.declared.names.CommandOption.TheVariants.{Points, T
 use Rattle.htl_command.specs.declared.table.QuestionName.{QuestionName}
 use Rattle.htl_command.specs.declared.printed.PrintedFault.{PrintedFault}
 use Rattle.htl_command.specs.declared.no_job.NoJob.{NoJob}
-use Rattle.htl_command.specs.declared.no_job.NoJob.TheVariants.{Value, Formats, BesideTag, NoInputs}
+use Rattle.htl_command.specs.declared.no_job.NoJob.TheVariants.{Value, Formats, BesideTag, NoInputs, NoEvents}
 use Rattle.htl_command.specs.declared.no_job.InvalidValue.{InvalidValue}
 use Rattle.htl_command.specs.declared.fault.ParseFault.{ParseFault}
 use Rattle.htl_command.specs.declared.fault.ParseFault.TheVariants.{Help, Usage, Memory}
@@ -90,7 +91,7 @@ abbrev pub job_options : QuestionName → List CommandOption
 job_options name = (question_row name).options ++ Workers ∷ Until ∷ Top ∷ []
 
 -- the entries are no job: a value is the first that breaks its rule, or none does and two forms of an answer are asked for, or what can't
--- be beside a tag
+-- be beside a tag; or they are a job, but there is a state, and this job needs events
 abbrev pub IsNoJob : QuestionName → List Row → NoJob → Type 0
 IsNoJob name rows (Value refused) = IsFirstBroken rows (job_options name) refused
 IsNoJob name rows Formats =
@@ -98,6 +99,7 @@ IsNoJob name rows Formats =
 IsNoJob name rows (BesideTag flag) =
     (beside_tag rows ≡ Some flag) × (find (breaks_rule rows) (job_options name) ≡ None)
 IsNoJob name rows NoInputs = ⊥
+IsNoJob name rows (NoEvents job) = (job_of name rows ≡ Some job) × ((has_states rows ≡ true) × (needs_events job ≡ true))
 
 -- the entries are no dialogue: the only value breaks its rule, or it doesn't and there is nothing to begin with
 abbrev pub IsNoDialogue : List Row → NoJob → Type 0

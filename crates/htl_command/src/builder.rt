@@ -13,7 +13,7 @@ ghost use Rattle.htl_command.specs.declared.names.CommandFlag.TheVariants as fla
 
 use crate::help::{
     ABOUT, AFTER_HELP, CODE_HELP, DIALOGUE_ABOUT, DIALOGUE_AFTER_HELP, DIALOGUE_FILES_HELP,
-    DIALOGUE_USAGE, FILES_HELP, HEX_TEXT_HELP, STATE_HELP, TEXTS_HELP, VERSION,
+    DIALOGUE_USAGE, FILES_HELP, HEX_TEXT_HELP, TEXTS_HELP, VERSION,
 };
 use crate::names::{CommandFlag, CommandOption};
 use crate::table::{COMMANDS, CommandName};
@@ -84,8 +84,9 @@ impl Builder {
             .hide(self.place.is_dialogue())
     }
 
-    /// The option of a saved state, which may be given many times.
-    fn state<'a>(self) -> Arg<'a>
+    /// The option of a saved state, which may be given many times. Help of a question that is never
+    /// asked of a state leaves it out.
+    fn state<'a>(self, name: CommandName) -> Arg<'a>
         ensures rule { rule_of result ≡ state_rule }
         ensures local { result.global ≡ false }
     {
@@ -93,8 +94,8 @@ impl Builder {
             .long("state")
             .value_name("FILE")
             .action(ArgAction::Append)
-            .help(STATE_HELP)
-            .hide(self.place.is_dialogue())
+            .help(name.state_help())
+            .hide(self.place.is_dialogue() || name.is_of_events())
     }
 
     fn code<'a>(self) -> Arg<'a>
@@ -143,7 +144,7 @@ impl Builder {
         Ok(command)
     }
 
-    fn with_common_options<'a>(self, command: Command<'a>) -> Built<'a>
+    fn with_common_options<'a>(self, command: Command<'a>, name: CommandName) -> Built<'a>
         requires { (fields_of command).has_globals ≡ false }
         ensures { IfOk result (Describes (with_rules (app_of command.entry) common_rules)) }
     {
@@ -156,7 +157,7 @@ impl Builder {
             ],
         )?;
         let command = self.with_flags(
-            command,
+            command.arg(self.state(name))?,
             &[
                 CommandFlag::Json,
                 CommandFlag::Complete,
@@ -198,7 +199,7 @@ impl Builder {
             &[CommandOption::Symbols, CommandOption::Workers],
         )?;
         let command = self.with_flags(
-            command.arg(self.state())?,
+            command.arg(self.state(CommandName::Ask))?,
             &[
                 CommandFlag::Fold,
                 CommandFlag::Complete,
@@ -248,7 +249,7 @@ impl Builder {
                 let command = self.with_options(bare, row.options)?;
                 let command = self.with_top(command, row.top)?;
                 let command = self.with_flags(command, row.flags)?;
-                self.with_common_options(command)
+                self.with_common_options(command, name)
             }
             CommandName::Explain => bare.arg(self.code())?.arg(self.notes()),
             CommandName::Dump => self.with_dump_options(bare),

@@ -2,13 +2,14 @@
 ghost use Rattle.std.specs.Prelude.{◌≡◌, ◌≢◌, [], IfErr, IfOk, IsOk, None, Some, map, option_map};
 ghost use Rattle.std.specs.Prelude.{string_bytes};
 ghost use Rattle.clap.specs.Words.{subcommand_rows_of};
+ghost use Rattle.htl_command.specs.Needs.{FitsStates};
 ghost use Rattle.htl_command.specs.Refusals.{IsUsageWith, RefusesArguments};
 ghost use Rattle.htl_command.specs.Requests.{AsksNothing, IsAskedFor, asks, file_names, folds};
 ghost use Rattle.htl_command.specs.Options.{given as given_in, is_given as is_given_in};
-ghost use Rattle.htl_command.specs.Requests.{is_folded, job_of, notes_in, notes_met, request_met};
-ghost use Rattle.htl_command.specs.Requests.{request_of, requested, state_names};
+ghost use Rattle.htl_command.specs.Requests.{is_folded, job_of_run, notes_in, notes_met};
+ghost use Rattle.htl_command.specs.Requests.{request_met, request_of, requested, state_names};
 ghost use Rattle.htl_command.specs.Requests.{stored as stored_work, work};
-ghost use Rattle.htl_command.specs.Requests.{with_files as with_files_in};
+ghost use Rattle.htl_command.specs.Requests.{with_inputs as with_inputs_in};
 ghost use Rattle.htl_command.specs.Steps.{entries_of};
 ghost use Rattle.htl_command.specs.declared.command.Command.TheVariants as wish;
 ghost use Rattle.htl_command.specs.declared.names.CommandFlag.TheVariants as flag;
@@ -23,7 +24,7 @@ use crate::names::CommandFlag;
 use crate::no_job::NoJob;
 use crate::printed::PrintedFault;
 use crate::question::{Format, InputForm, Job, Setting};
-use crate::reading::{dialogue_setting, input_form, job, printed_fault, setting};
+use crate::reading::{dialogue_setting, input_form, job_of_run, printed_fault, setting};
 use crate::table::{CommandName, QuestionName};
 use clap::ArgMatches;
 use htl_question::Question;
@@ -73,7 +74,10 @@ pub enum Command {
 #[derive(Debug, PartialEq, Eq, Drop)]
 pub struct Run {
     pub job: Job,
-    /// The names of the inputs, in order. Where there is none, standard input is read.
+    /// The names of the saved states, in order. Where there is one, what is read is folded, and
+    /// standard input isn't read.
+    pub states: Vec<String>,
+    /// The names of the inputs, in order. Where there is none, and no state, standard input is read.
     pub files: Vec<String>,
     /// The name of the file with the symbol table.
     pub symbols: Option<String>,
@@ -104,13 +108,15 @@ pub struct Dialogue {
 ///
 /// Where several things are wrong, what `clap` refuses is reported first, then the first value that
 /// breaks its rule, and last options that can't stand together, or that a dialogue has neither a file
-/// nor a state to begin with.
+/// nor a state to begin with. A state can't stand beside `--until`, and neither `trace` nor `growth`
+/// is asked of one: a state has no events.
 #[tactic(auto, using(crate::proofs::Arguments::no_arguments, crate::proofs::Arguments::no_notes))]
 pub fn parse(alloc: Global, arguments: Vec<String>) -> Result<CommandLine, ParseFault>
     ensures command { IfOk result (λ line.
         IsAskedFor (requested (map string_bytes arguments.items)) line.command) }
     ensures notes { IfOk result (λ line.
         line.notes ≡ notes_in (map string_bytes arguments.items)) }
+    ensures states { IfOk result (λ line. FitsStates line.command) }
     ensures err { IfErr result (RefusesArguments (map string_bytes arguments.items)) }
     ensures none { arguments.items ≡ [] → IsOk result }
 {
@@ -125,7 +131,8 @@ pub fn parse(alloc: Global, arguments: Vec<String>) -> Result<CommandLine, Parse
 }
 
 fn stored(alloc: Global) -> Run
-    ensures { work result ≡ stored_work }
+    ensures asked { work result ≡ stored_work }
+    ensures states { result.states.items ≡ [] }
 {
     Run {
         job: Job {
@@ -143,6 +150,7 @@ fn stored(alloc: Global) -> Run
             exit_code: false,
             format: Format::Plain,
         },
+        states: Vec::new(alloc),
         files: Vec::new(alloc),
         symbols: None,
     }
@@ -153,6 +161,7 @@ fn read_arguments(alloc: Global, arguments: &[String]) -> Result<CommandLine, Pa
     ensures command { IfOk result (λ line.
         IsAskedFor (requested (map string_bytes arguments.now)) line.command) }
     ensures notes { IfOk result (λ line. line.notes ≡ notes_in (map string_bytes arguments.now)) }
+    ensures states { IfOk result (λ line. FitsStates line.command) }
     ensures err { IfErr result (RefusesArguments (map string_bytes arguments.now)) }
 {
     match matches(alloc, arguments, Place::Shell) {
@@ -226,12 +235,12 @@ fn read_command(
 
 fn read_question(alloc: Global, name: QuestionName, entries: &ArgMatches) -> Result<Run, ParseFault>
     ensures ok { IfOk result (λ run.
-        option_map (with_files_in (entries_of entries.now)) (job_of name (entries_of entries.now))
-        ≡ Some (work run)) }
-    ensures err { IfErr result (IsUsageWith (job_of name (entries_of entries.now) ≡ None)) }
+        option_map (with_inputs_in (entries_of entries.now))
+        (job_of_run name (entries_of entries.now)) ≡ Some (work run)) }
+    ensures err { IfErr result (IsUsageWith (job_of_run name (entries_of entries.now) ≡ None)) }
 {
-    match job(name, entries) {
-        Ok(job) => Ok(with_files(alloc, job, entries)?),
+    match job_of_run(name, entries) {
+        Ok(job) => Ok(with_inputs(alloc, job, entries)?),
         Err(refused) => Err(refused_entries(alloc, "hleak ", CommandName::Question(name), refused)),
     }
 }
@@ -243,12 +252,12 @@ fn read_dialogue(alloc: Global, entries: &ArgMatches) -> Result<Dialogue, ParseF
         (IsUsageWith (AsksNothing (request_of command.Ask (entries_of entries.now)))) }
 {
     match dialogue_setting(entries) {
-        Ok(setting) => Ok(with_inputs(alloc, setting, entries)?),
+        Ok(setting) => Ok(dialogue_with(alloc, setting, entries)?),
         Err(why) => Err(refused_entries(alloc, "hleak ", CommandName::Ask, why)),
     }
 }
 
-fn with_inputs(
+fn dialogue_with(
     alloc: Global,
     setting: Setting,
     entries: &ArgMatches,
@@ -284,12 +293,13 @@ fn read_fold(alloc: Global, entries: &ArgMatches) -> Result<Command, ParseFault>
     }
 }
 
-fn with_files(alloc: Global, job: Job, entries: &ArgMatches) -> Result<Run, AllocError>
+fn with_inputs(alloc: Global, job: Job, entries: &ArgMatches) -> Result<Run, AllocError>
     ensures { IfOk result (λ run.
-        work run ≡ with_files_in (entries_of entries.now) job) }
+        work run ≡ with_inputs_in (entries_of entries.now) job) }
 {
     Ok(Run {
         job,
+        states: states(alloc, entries)?,
         files: files(alloc, entries)?,
         symbols: symbols(alloc, entries)?,
     })

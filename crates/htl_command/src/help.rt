@@ -28,6 +28,11 @@ Options of every question, from summary to growth:
                         standard error is no terminal
   [FILES]...            Trace segments; standard input where no file is given
 
+Options of every question but trace and growth:
+      --state <FILE>    The answer is over the segments of this state too, which
+                        'save' or 'hleak fold' wrote, and standard input is not
+                        read; may stand many times; not with --until
+
 Exit status:
   0  done                        4  not one trace, or no event asked about
   1  found, with --exit-code     5  a read or a write failed
@@ -82,6 +87,11 @@ pub(crate) const TEXTS_HELP: &str = "Texts of segments; standard input where no 
 pub(crate) const DIALOGUE_FILES_HELP: &str = "Trace segments; they may be left out with --state";
 
 pub(crate) const STATE_HELP: &str = "\
+The answer is over the segments of this state too, which
+'save' or 'hleak fold' wrote, and standard input is not
+read; may stand many times; not with --until";
+
+pub(crate) const DIALOGUE_STATE_HELP: &str = "\
 Begin with this state, which 'save' or 'hleak fold'
 wrote, and fold, as with --fold; may stand many times";
 
@@ -100,7 +110,15 @@ impl CommandName {
             CommandName::Dump => "Segments as text, to read, compare and change",
             CommandName::Encode => "The bytes of segments that are given as text",
             CommandName::Ask => "Many questions over the same segments, a line each",
-            CommandName::Fold => "Segments folded into a state, for 'ask' and 'merge'",
+            CommandName::Fold => "Segments folded into a state, for --state and 'merge'",
+        }
+    }
+
+    /// What the option of a saved state is for.
+    pub(crate) fn state_help<'a>(self) -> &'a str {
+        match self {
+            CommandName::Ask => DIALOGUE_STATE_HELP,
+            _ => STATE_HELP,
         }
     }
 
@@ -134,8 +152,9 @@ Examples:
             }
             CommandName::Fold => {
                 "\
-The state is what 'save' writes in a dialogue with --fold over these files.
-'hleak ask --state' begins with it. It is not written to a terminal.
+The state is what 'save' writes in a dialogue with --fold over these files. A
+question with --state is answered over it, and 'hleak ask --state' begins with
+it. It is not written to a terminal.
 
 Example:
   hleak fold cpu0.hls cpu1.hls > a.hla"

@@ -1,6 +1,7 @@
 //! Why entries are no job, and what a person reads of it.
 
 use crate::names::{CommandFlag, CommandOption};
+use crate::question::Job;
 use crate::values;
 use std::fmt;
 
@@ -23,6 +24,8 @@ pub(crate) enum NoJob<'a> {
     BesideTag(CommandFlag),
     /// A dialogue is asked for with neither a file nor a state to begin with.
     NoInputs,
+    /// This job needs events, and is asked of a state, which has none.
+    NoEvents(Job),
 }
 
 impl<'a> From<InvalidValue<'a>> for NoJob<'a> {
@@ -50,6 +53,15 @@ impl fmt::Display for NoJob<'_> {
                 f,
                 "the following required arguments were not provided:\n  \
                 <FILES>... or --state <FILE>"
+            ),
+            NoJob::NoEvents(job) if job.question.is_of_events() => write!(
+                f,
+                "the argument '--state <FILE>' cannot be used with '{}'",
+                job.question.word()
+            ),
+            NoJob::NoEvents(_) => write!(
+                f,
+                "the argument '--until <N>' cannot be used with '--state <FILE>'"
             ),
         }
     }

@@ -5,7 +5,7 @@ ghost use Rattle.std.specs.Result.{result_ok};
 ghost use Rattle.htl_command.specs.Commands.{balance_of, question_row};
 ghost use Rattle.htl_command.specs.Requests.{AsksNothing, IsAskedFor, beside_tag, dialogue_setting};
 ghost use Rattle.htl_command.specs.Requests.{format_of, input_form, is_of_run, job_by_values, job_of};
-ghost use Rattle.htl_command.specs.Requests.{request_of, setting_of};
+ghost use Rattle.htl_command.specs.Requests.{job_of_run, request_of, setting_of};
 ghost use Rattle.htl_command.specs.Steps.{IsFirstBroken, IsNoDialogue, IsNoJob, IsTwoForms, Names};
 ghost use Rattle.htl_command.specs.Steps.{breaks_rule, entries_of, job_options};
 ghost use Rattle.htl_command.specs.declared.command.Command.TheVariants as wish;
@@ -34,6 +34,21 @@ pub(crate) fn job<'a>(name: QuestionName, entries: &ArgMatches<'a>) -> Result<Jo
     match beside_tag(entries) {
         Some(flag) => Err(NoJob::BesideTag(flag)),
         None => Ok(job),
+    }
+}
+
+/// The job of a run of the question with these entries. Where there is a state, which has no events,
+/// a job that needs them is refused behind all else.
+#[tactic(auto, unfolding(crate::specs::Requests::job_of_run))]
+pub(crate) fn job_of_run<'a>(name: QuestionName, entries: &ArgMatches<'a>) -> Result<Job, NoJob<'a>>
+    ensures ok { result_ok result ≡ job_of_run name (entries_of entries.now) }
+    ensures err { IfErr result (IsNoJob name (entries_of entries.now)) }
+{
+    let job = job(name, entries)?;
+    if has_states(entries) && job.needs_events() {
+        Err(NoJob::NoEvents(job))
+    } else {
+        Ok(job)
     }
 }
 
@@ -90,7 +105,7 @@ pub(crate) fn input_form(entries: &ArgMatches) -> InputForm
     }
 }
 
-/// Whether an option or a file is given that a run alone has, and no question of a dialogue.
+/// Whether an option, a file or a state is given that a run alone has, and no question of a dialogue.
 pub(crate) fn is_of_run(entries: &ArgMatches) -> bool
     ensures { result ≡ is_of_run (entries_of entries.now) }
 {
@@ -102,6 +117,7 @@ pub(crate) fn is_of_run(entries: &ArgMatches) -> bool
         || has_option(entries, CommandOption::Symbols)
         || has_option(entries, CommandOption::Workers)
         || has_files(entries)
+        || has_states(entries)
 }
 
 /// The fault that is to be explained, or else what was given for one.

@@ -94,6 +94,14 @@ impl CommandName {
         matches!(self, CommandName::Question(_))
     }
 
+    /// Whether it is a question that needs events, so that it is never asked of a state.
+    pub(crate) fn is_of_events(self) -> bool {
+        matches!(
+            self,
+            CommandName::Question(QuestionName::Trace | QuestionName::Growth)
+        )
+    }
+
     #[tactic(auto, unfolding(crate::specs::Commands::command_named))]
     pub(crate) fn from_name(name: &str) -> Option<CommandName>
         ensures { result ≡ command_named name.now }

@@ -200,6 +200,15 @@ fn has_own(command: CommandName, option: &str) -> bool {
 
 /// Writes which commands have an option.
 fn write_owners<W: fmt::Write>(f: &mut fmt::Formatter<W>, option: &str) -> fmt::Result {
+    if option == "--state" {
+        write!(f, "{TIP}{option} is an option of questions and of ask")
+    } else {
+        list_owners(f, option)
+    }
+}
+
+/// Writes the names of the commands that have an option.
+fn list_owners<W: fmt::Write>(f: &mut fmt::Formatter<W>, option: &str) -> fmt::Result {
     write!(f, "{TIP}{option} is an option of")?;
     let mut separator = "";
     for command in &COMMANDS {

@@ -32,7 +32,7 @@ line_more told speaker now mid end notes own heard waited then =
 -- the first fault of notes put together is that of the first of them which has one
 pub first_fault-append : (xs ys : List OwnNote) → first_fault (xs ++ ys) ≡ option_or (first_fault xs) (first_fault ys)
 first_fault-append [] ys = refl
-first_fault-append (hear.Begins files coverage cut ∷ xs) ys = first_fault-append xs ys
+first_fault-append (hear.Begins files opening ∷ xs) ys = first_fault-append xs ys
 first_fault-append (hear.Awaits ∷ xs) ys = first_fault-append xs ys
 first_fault-append (hear.Refuses fault ∷ xs) ys = first_fault-append xs ys
 first_fault-append (hear.Reads files (Ok added) ∷ xs) ys = first_fault-append xs ys

@@ -24,7 +24,7 @@ abbrev pub OwnNote : Type 0
 OwnNote = Note (List (List ℕ)) ParseFault Job
 
 abbrev pub owned : {A : Type 0} → Note (Bor (List (String A))) (Bor ParseFault) (Bor Job) → OwnNote
-owned (hear.Begins files coverage cut) = hear.Begins (map string_bytes files.now) coverage cut
+owned (hear.Begins files opening) = hear.Begins (map string_bytes files.now) opening
 owned hear.Awaits = hear.Awaits
 owned (hear.Refuses fault) = hear.Refuses fault.now
 owned (hear.Reads files ended) = hear.Reads (map string_bytes files.now) ended

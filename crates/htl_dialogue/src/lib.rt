@@ -29,7 +29,7 @@ mod splitting;
 pub use dialogue::{Conversed, DialogueFault};
 pub use line::{Line, MAX_LINE_LEN};
 pub use merged::Merged;
-pub use note::Note;
+pub use note::{Note, Opening};
 pub use reading::{NextLine, ReadAhead, next_line};
 pub use saying::{Said, read_line};
 pub use speaker::Speaker;

@@ -7,9 +7,9 @@ use htl_main::{Absence, Added, Coverage, CutInputs, Refused, Remarks, RunFault};
 /// that own them.
 #[derive(Clone, Copy)]
 pub enum Note<N, F, J> {
-    /// Questions can come. These files were read, or standard input where there is none. They have
-    /// this coverage of their trace, and those told here end within a segment.
-    Begins(N, Coverage, Option<CutInputs>),
+    /// Questions can come. The files of these names were read, and this is told of them and of the
+    /// states.
+    Begins(N, Opening),
     /// A line is awaited.
     Awaits,
     /// A line is wrong, for this reason.
@@ -22,4 +22,15 @@ pub enum Note<N, F, J> {
     /// A question was answered: why nothing can be found of what it is about, if nothing can, and
     /// what is told of its answer.
     Answered(J, Option<Absence>, Remarks),
+}
+
+/// What is told of the states and files that a dialogue begins with.
+#[derive(Clone, Copy)]
+pub struct Opening {
+    /// How much of their trace they have.
+    pub coverage: Coverage,
+    /// The inputs that end within a segment.
+    pub cut: Option<CutInputs>,
+    /// Whether events are forgotten once they are read.
+    pub forgets: bool,
 }

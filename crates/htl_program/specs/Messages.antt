@@ -34,7 +34,7 @@ owned (say.Fault refused) = say.Fault refused
 owned (say.Meaning command refused) = say.Meaning command.now refused
 owned (say.Lack lacking) = say.Lack lacking
 owned say.Unnamed = say.Unnamed
-owned (say.Gaps coverage) = say.Gaps coverage
+owned (say.Gaps command coverage) = say.Gaps command.now coverage
 owned (say.Cut command inputs) = say.Cut command.now inputs
 owned (say.Stop stopped) = say.Stop stopped
 owned (say.StopMeaning stopped) = say.StopMeaning stopped
@@ -65,12 +65,13 @@ lack_said job completed = said_lack (lack_of job completed.absence completed.rem
 abbrev pub unnamed_said : Bool → List Said
 unnamed_said is_unnamed = if is_unnamed then say.Unnamed ∷ [] else []
 
--- segments are missing, and the moment up to which events count is above what the case is complete to
+-- Segments are missing, and the moment up to which events count is above what the case is complete to. What that means is told by the
+-- command, since one that forgets events can't be asked as of a moment.
 abbrev pub is_touched : Coverage → Option Moment → Bool
 is_touched coverage until = not (coverage.gaps == 0) && is_above until coverage.complete_to
 
-abbrev pub gaps_said : Coverage → Option Moment → List Said
-gaps_said coverage until = if is_touched coverage until then say.Gaps coverage ∷ [] else []
+abbrev pub gaps_said : Command → Coverage → Option Moment → List Said
+gaps_said command coverage until = if is_touched coverage until then say.Gaps command coverage ∷ [] else []
 
 -- some inputs end within a segment, which are told by what the command names
 abbrev pub cut_said : Command → Option CutInputs → List Said
@@ -79,7 +80,7 @@ cut_said command (Some inputs) = say.Cut command inputs ∷ []
 
 -- what is said of the inputs of a command: that segments are missing, and which inputs end within one
 abbrev pub inputs_said : Command → Coverage → Option Moment → Option CutInputs → List Said
-inputs_said command coverage until cut = gaps_said coverage until ++ cut_said command cut
+inputs_said command coverage until cut = gaps_said command coverage until ++ cut_said command cut
 
 -- what is said beside the text of segments, where words are wanted
 abbrev pub cut_noted : Bool → Command → Option CutInputs → List Said

@@ -1,6 +1,6 @@
 -- What comes of a question and of a conversion in a world (this project's own). Each is said of the inputs that were opened for it, as they
 -- are by then.
-use Rattle.std.specs.Prelude.{◌≡◌, ◌⊎◌, [], ℕ, false, All, List, map, Option, option_map, Result, Err, String, string_bytes}
+use Rattle.std.specs.Prelude.{◌≡◌, ◌≢◌, ◌⊎◌, [], ℕ, false, All, List, map, Option, option_map, Result, Err, String, string_bytes}
 use Rattle.htl_command.specs.declared.command.Run.{Run}
 use Rattle.htl_device.specs.States.{SinkState, SourceState, ends, fresh, lefts}
 use Rattle.htl_inputs.specs.declared.fault.RunFault.{RunFault}
@@ -10,6 +10,7 @@ use Rattle.htl_main.specs.declared.completed.Completed.{Completed}
 use Rattle.htl_main.specs.declared.refused.Refused.{Refused}
 use Rattle.htl_command.specs.declared.question.Job.{Job}
 use Rattle.htl_main.specs.Causes.{IsSourcesCause}
+use Rattle.htl_ask.specs.OverStates.{IsAnsweredOverStates}
 use Rattle.htl_world.specs.Endings.{IsUnopened, IsUntabled}
 use Rattle.htl_world.specs.Readings.{AreAskedFor, IsUnopenedFor, ReadsInputs}
 use Rattle.htl_world.specs.Rounds.{Asks, EndsEarly, OpensAgain, OpensInputs, inputs_opened}
@@ -36,6 +37,12 @@ pub record IsAnswered (world : WorldChange) (inputs : List SourceState) (run : R
   pub sink : LeavesSink old new (by_fault ended)
   pub asked : Asks world (OpensInputs (map string_bytes run.files.items) (option_map string_bytes run.symbols) (by_fault ended)
       (OpensAgain world.old.known run.job.setting.form.hex (map string_bytes run.files.items) (by_fault ended)))
+
+-- A question was asked of its files, or of standard input, where its command names no saved state; and else of its states and its files.
+pub record EndsQuestion (world : WorldChange) (inputs : List SourceState) (run : Run) (old new : SinkState)
+    (ended : Result Completed Refused) : Type 0 where
+  pub files : run.states.items ≡ [] → IsAnswered world inputs run old new ended
+  pub states : run.states.items ≢ [] → IsAnsweredOverStates world inputs run old new ended
 
 -- Not all inputs of the names could be opened, as is reported. None is left open, and nothing was written.
 pub record IsNoneOpened {A S E : Type 0} (refusal : RunFault → E) (world : WorldChange) (names : List (String A))

@@ -35,7 +35,7 @@ use Rattle.htl_ask.specs.Outcomes.{IsConversed, Talk, talk}
 use Rattle.htl_ask.specs.declared.ask_fault.AskFault.{AskFault}
 use Rattle.htl_ask.specs.declared.ask_fault.AskFault.TheVariants as asks
 use Rattle.htl_program.specs.Opened.{IsUntouched, Reach}
-use Rattle.htl_program.specs.Outcomes.{IsAnswered, IsConverted}
+use Rattle.htl_program.specs.Outcomes.{EndsQuestion, IsConverted}
 use Rattle.htl_program.specs.Messages.{Hears, HearsAll, HearsRun, Said, added_noted, alone, cut_noted, fault_said, notes_said}
 use Rattle.htl_program.specs.Messages.{stop_said}
 use Rattle.htl_program.specs.Statuses.{conversion_status, dialogue_status, end_status}
@@ -103,7 +103,7 @@ SaysAnswer quiet in_words command run (Err refused) old new = SaysFault quiet in
 
 abbrev pub DoesAnswer : Bool → Bool → Reach → Told → Told → Command → Run → ℕ → Type 0
 DoesAnswer watches in_words reach old new command run status =
-    Performs reach (IsAnswered reach.world reach.after.files run old.out new.out) (λ ended. end_status run.job.exit_code (by_fault ended))
+    Performs reach (EndsQuestion reach.world reach.after.files run old.out new.out) (λ ended. end_status run.job.exit_code (by_fault ended))
     (SaysAnswer (is_quiet watches new) in_words command run) command old new status
 
 -- how a conversion's end is said: nothing, if it ended well

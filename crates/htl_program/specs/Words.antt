@@ -126,6 +126,10 @@ free_memory = codes "free some, or raise its limit"
 abbrev pub one_trace : List ℕ
 one_trace = codes "give the files of one trace"
 
+-- The same where a segment is missing and events are forgotten: then no moment before it can be asked for.
+abbrev pub give_missing : List ℕ
+give_missing = codes "give what is missing, or leave out --complete"
+
 unfoldable pub advice_of : Code → List ℕ
 advice_of S1 = codes "is it a trace, and copied whole? With --partial its whole segments count"
 advice_of S2 = codes "is it a trace in bytes, and not digits (--hex), text (hleak encode) or a log (tools/from-htrace)?"

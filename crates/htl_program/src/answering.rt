@@ -1,18 +1,45 @@
-//! Answers a question in a world: opens its files, runs it, and reads files again if it has to.
+//! Answers a question in a world: over saved states, or else over files, which it opens, runs and reads
+//! again if it has to.
 
-ghost use Rattle.std.specs.Prelude.{◌≡◌, false, map};
+ghost use Rattle.std.specs.Prelude.{◌≡◌, ◌≢◌, [], false, map};
 ghost use Rattle.std.specs.Prelude.{option_copied, string_bytes, true};
+ghost use Rattle.htl_command.specs.Needs.{needs_events};
 ghost use Rattle.htl_world.specs.Rounds.{CanBeReadAgain};
 ghost use Rattle.htl_world.specs.Worlds.{change};
-ghost use Rattle.htl_program.specs.Outcomes.{IsAnswered};
+ghost use Rattle.htl_program.specs.Outcomes.{EndsQuestion, IsAnswered};
 ghost use Rattle.htl_program.specs.Runs.{IsRunAgain};
 
+use htl_ask::answer_over_states;
 use htl_command::Run;
 use htl_device::Sink;
 use htl_main::{Completed, Lacking, Refused, Unpicked, pick_from, run_from};
 use htl_world::{World, as_bytes, open_all, open_inputs};
 use std::alloc::Global;
 use std::thread::Threads;
+
+/// Answers a question over the saved states and the files that its command names, where it names a
+/// state, and else over its files, or over standard input if it names none.
+///
+/// Afterwards `inputs` has what was opened, as far as it was read.
+pub(crate) fn answer_question<Rt: Threads + Sync, W: World, O: Sink>(
+    rt: &Rt,
+    alloc: Global,
+    world: &mut W,
+    run: &Run,
+    inputs: &mut Vec<W::Input>,
+    out: &mut O,
+) -> Result<Completed, Refused>
+    requires asked { run.now.states.items ≢ [] → needs_events run.now.job ≡ false }
+    requires out { (O.state out.old).failed ≡ false }
+    ensures { EndsQuestion (change (W.state world.old) (W.state world.new))
+        (map W.Input.state inputs.new.items) run.now (O.state out.old) (O.state out.new) result }
+{
+    if run.states.is_empty() {
+        answer(rt, alloc, world, run, inputs, out)
+    } else {
+        answer_over_states(rt, alloc, world, run, inputs, out)
+    }
+}
 
 /// Answers a question from the files and the table of symbols that its command names, or from
 /// standard input if it names no file.

@@ -15,7 +15,7 @@ use htl_command::{Code, Parts, PrintedFault};
 pub use named_part::NamedPart;
 use std::fmt;
 pub use subject::SubjectText;
-pub use words::{FREE_MEMORY, advice, form_wrong, wrong};
+pub use words::{FREE_MEMORY, GIVE_MISSING, advice, form_wrong, wrong};
 
 /// A fault in words: one line with the fault and what is wrong, and one with what to do.
 #[derive(Clone, Copy)]

@@ -7,7 +7,8 @@ use std::alloc::Global;
 /// What the program has opened, as far as it was read.
 #[derive(Drop)]
 pub struct Inputs<R> {
-    /// The files in the order of their names, or standard input where no file is named.
+    /// The files in the order of their names, or standard input where neither a file nor a saved state
+    /// is named.
     pub files: Vec<R>,
     /// Standard input as the lines of a dialogue.
     pub questions: Option<R>,

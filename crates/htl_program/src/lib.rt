@@ -1,7 +1,7 @@
 //! The program over a world: from what its arguments ask for to its end.
 //!
 //! What it opens, it asks of a `World` (`htl_world`), and the functions here are proved for every
-//! world. A dialogue is a call of `htl_ask`.
+//! world. A dialogue is a call of `htl_ask`, and so is a question over saved states.
 //!
 //! `program` does what the arguments of a command line ask for. Files and folders, in reading order:
 //! `commands.rt`, `printing.rt` (texts that need no input), `performing.rt` (runs of commands, and
@@ -28,7 +28,7 @@ pub use answering::answer;
 pub use commands::program;
 pub use console::Console;
 pub use converting::{dump, encode, fold};
-pub use explained::{FREE_MEMORY, NamedPart, SubjectText, advice, form_wrong, wrong};
+pub use explained::{FREE_MEMORY, GIVE_MISSING, NamedPart, SubjectText, advice, form_wrong, wrong};
 pub use inputs::Inputs;
 pub use output::Output;
 pub use printing::refuse;

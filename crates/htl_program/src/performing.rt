@@ -1,12 +1,13 @@
 //! Runs of commands over inputs, as a person meets them: that one begins, that it ended and how, and its
 //! status.
 
-ghost use Rattle.std.specs.Prelude.{◌≡◌, ◌&&◌, ◌||◌, false, not};
+ghost use Rattle.std.specs.Prelude.{◌≡◌, ◌≢◌, ◌&&◌, ◌||◌, [], false, not};
+ghost use Rattle.htl_command.specs.Needs.{needs_events};
 ghost use Rattle.htl_program.specs.Opened.{reach};
 ghost use Rattle.htl_program.specs.Programs.{DoesAnswer, DoesConverse, DoesDump, DoesEncode};
 ghost use Rattle.htl_program.specs.Programs.{DoesFold, OrRefuses, spoken, told};
 
-use crate::answering::answer;
+use crate::answering::answer_question;
 use crate::console::Console;
 use crate::converting::{dump, encode, fold};
 use crate::ending::{status_after, status_of_answer, status_of_conversion, status_of_fold};
@@ -31,7 +32,8 @@ pub(crate) fn do_answer<Rt: Threads + Sync, W: World, O: Output, P: Person>(
     inputs: &mut Inputs<W::Input>,
     console: &mut Console<O, P>,
 ) -> u8
-    requires { (O.state console.old.out).failed ≡ false }
+    requires asked { run.now.states.items ≢ [] → needs_events run.now.job ≡ false }
+    requires out { (O.state console.old.out).failed ≡ false }
     ensures { DoesAnswer (P.is_watching console.old.person)
         (P.is_watching console.old.person || line.now.notes)
         (reach W.Input.state (W.state world.old) (W.state world.new) inputs.old inputs.new)
@@ -40,7 +42,7 @@ pub(crate) fn do_answer<Rt: Threads + Sync, W: World, O: Output, P: Person>(
         line.now.command run.now result }
 {
     let audience = console.begin(line);
-    let ended = answer(rt, alloc, world, run, &mut inputs.files, &mut console.out);
+    let ended = answer_question(rt, alloc, world, run, &mut inputs.files, &mut console.out);
     let manner = console.end(audience);
     say_answer(&line.command, run, manner, ended, &mut console.person);
     status_of_answer(run.job.exit_code, ended)

@@ -100,16 +100,22 @@ fn note_inputs<P: Person>(
     ensures { HearsAll (P.heard person.old) (P.heard person.new)
         (inputs_said command.now coverage until cut) }
 {
-    note_gaps(coverage, until, person);
+    note_gaps(command, coverage, until, person);
     note_cut(command, cut, person);
 }
 
 /// Says that segments are missing, if they may have events that count.
-fn note_gaps<P: Person>(coverage: Coverage, until: Option<Moment>, person: &mut P)
-    ensures { HearsAll (P.heard person.old) (P.heard person.new) (gaps_said coverage until) }
+fn note_gaps<P: Person>(
+    command: &Command,
+    coverage: Coverage,
+    until: Option<Moment>,
+    person: &mut P,
+)
+    ensures { HearsAll (P.heard person.old) (P.heard person.new)
+        (gaps_said command.now coverage until) }
 {
     if coverage.is_touched(until) {
-        person.hears(Message::Gaps(coverage));
+        person.hears(Message::Gaps(command, coverage));
     }
 }
 

@@ -123,10 +123,16 @@ fn ended(
 
 /// The state that the program makes of both inputs.
 fn folded(rt: &(impl Threads + Sync + Abort), alloc: Global) -> Vec<u8> {
-    let line = Line {
-        words: &["fold", "second", "first"],
-        ..LINE
-    };
+    folded_of(rt, alloc, &["fold", "second", "first"])
+}
+
+/// The state that the program makes on these words.
+fn folded_of(
+    rt: &(impl Threads + Sync + Abort),
+    alloc: Global,
+    words: &'static [&'static str],
+) -> Vec<u8> {
+    let line = Line { words, ..LINE };
     let (status, written, witness) = ended(rt, alloc, &files(rt, alloc, Vec::new(alloc)), &line);
     assert_eq!(rt; (status, witness.last), (0, Said::Nothing));
     written
@@ -413,6 +419,38 @@ read segments=1 new=0 complete_to=7 gaps=0
         ..LINE
     };
     is_obeyed_with(&rt, rt.alloc(), folded(&rt, rt.alloc()), &line);
+}
+
+#[test]
+fn a_question_is_answered_over_a_state_alone(rt: HostRuntime) {
+    let line = Line {
+        words: &["leaks", "--process", "4", "--state", "state"],
+        input: "what is no segment",
+        printed: "\
+leaks process=4 count=1
+LEAK handles=1
+  0x0000000000000030
+",
+        ..LINE
+    };
+    is_obeyed_with(&rt, rt.alloc(), folded(&rt, rt.alloc()), &line);
+}
+
+#[test]
+fn a_question_is_answered_over_a_state_and_a_file(rt: HostRuntime) {
+    let line = Line {
+        words: &["summary", "--exit-code", "--state", "state", "second"],
+        input: "what is no segment",
+        status: 1,
+        printed: "\
+summary processors=1 segments=2 events=7 complete_to=7 gaps=0 processes=1 objects=1 unbalanced=1
+PROCESS process=4 outstanding=1 opens=2 closes=1 bad=1 mark=2 exit=0
+OBJECT object=0x0000000000001000 tags=2 unbalanced=2 refs=1 derefs=1
+",
+        ..LINE
+    };
+    let of_first = folded_of(&rt, rt.alloc(), &["fold", "first"]);
+    is_obeyed_with(&rt, rt.alloc(), of_first, &line);
 }
 
 #[test]

@@ -118,7 +118,7 @@ impl Said {
             Message::Meaning(_, refused) => Some(Said::Meaning(refused.fault)),
             Message::Lack(lack) => Some(Said::Lack(lack)),
             Message::Unnamed => Some(Said::Unnamed),
-            Message::Gaps(coverage) => Some(Said::Gaps(coverage)),
+            Message::Gaps(_, coverage) => Some(Said::Gaps(coverage)),
             Message::Cut(_, inputs) => Some(Said::Cut(inputs)),
             Message::Stop(stopped) => Some(Said::Stop(stopped)),
             Message::StopMeaning(stopped) => Some(Said::StopMeaning(stopped)),

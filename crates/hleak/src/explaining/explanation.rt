@@ -88,7 +88,9 @@ impl<'a> Explanation<'a> {
             RunFault::Hex { fault, .. } => Meaning::from_hex(fault),
             RunFault::Text { fault, .. } => Meaning::from_line(fault),
             RunFault::Case(fault) => Meaning::from_case(self.task, fault),
-            RunFault::Incomplete { processor, number } => Meaning::from_missing(processor, number),
+            RunFault::Incomplete { processor, number } => {
+                Meaning::from_missing(self.task.forgets_events(), processor, number)
+            }
             RunFault::UnknownCut { input } => Meaning::from_unknown_cut(input),
             RunFault::NoSubject => Meaning::from_absent(
                 self.task.asked_about(),

@@ -11,7 +11,7 @@ use crate::explaining::task::Task;
 use crate::reason::Reason;
 use htl_case::CaseFault;
 use htl_command::Code;
-use htl_program::{NamedPart, advice, form_wrong, wrong};
+use htl_program::{GIVE_MISSING, NamedPart, advice, form_wrong, wrong};
 use htl_question::Subject;
 use htl_segment::{Fault, HexFault};
 use htl_state::Fault as StateFault;
@@ -241,11 +241,20 @@ impl Meaning {
         }
     }
 
-    /// What it means that a case misses a segment, where a complete one is asked for.
-    pub fn from_missing(processor: u16, number: u32) -> Meaning
-        ensures { text_of result ≡ missing_text processor number }
+    /// What it means that a case misses a segment, where a complete one is asked for. No moment can be
+    /// asked for where events are forgotten.
+    pub fn from_missing(forgets: bool, processor: u16, number: u32) -> Meaning
+        ensures { text_of result ≡ missing_text forgets processor number }
     {
-        Meaning::from_part(Code::C8, key(processor, number))
+        let key = key(processor, number);
+        if !forgets {
+            return Meaning::from_part(Code::C8, key);
+        }
+        Meaning {
+            part: Some(key),
+            wrong: wrong(Code::C8),
+            advice: GIVE_MISSING,
+        }
     }
 
     /// What it means that this input is cut within a segment of which it isn't known which it is, where

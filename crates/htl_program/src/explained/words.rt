@@ -25,6 +25,10 @@ pub(crate) const BAD_VALUE: &str = "isn't there, or has no value that fits";
 /// What to do where memory was refused.
 pub const FREE_MEMORY: &str = "free some, or raise its limit";
 
+/// What to do where a segment is missing and events are forgotten: then no moment before it can be
+/// asked for.
+pub const GIVE_MISSING: &str = "give what is missing, or leave out --complete";
+
 /// The part of the inputs that the words on a code begin with, if they name one. A word in angle
 /// brackets stands for a number of the fault.
 pub fn part(code: Code) -> Option<&'static str>

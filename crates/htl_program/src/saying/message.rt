@@ -25,8 +25,8 @@ pub enum Message<C, F> {
     Lack(Lack),
     /// The answer shows addresses, and the table of symbols has none of them.
     Unnamed,
-    /// Segments are missing, whose events the answer may lack.
-    Gaps(Coverage),
+    /// Segments are missing, whose events what the command gives may lack.
+    Gaps(C, Coverage),
     /// Some inputs of the command end within a segment, which counts for nothing.
     Cut(C, CutInputs),
     /// The replies of a dialogue stopped.

@@ -289,6 +289,16 @@ const OPTIONS: &[(&str, InputForm, u32, &[&str], Option<&str>)] = &[
     ),
 ];
 
+/// Lines that are asked of saved states: these, and the files.
+const OVER_STATES: &[(&str, &[&str], &[&str])] = &[
+    ("leaks|--process|4|--state|a.hla", &["a.hla"], &[]),
+    (
+        "sites|--state=b.hla|a.hls|--state|a.hla|--workers|2|--state|b.hla|--|--state",
+        &["b.hla", "a.hla", "b.hla"],
+        &["a.hls", "--state"],
+    ),
+];
+
 /// Lines that want so many rows at most.
 const TOPS: &[(&str, Option<u32>)] = &[
     ("summary", None),
@@ -596,7 +606,7 @@ encode => commands of their own
 ask|a.hls => commands of their own
 ask|--state|a.hla => commands of their own
 ask => commands of their own
-summary|--state|a.hla => '--state'
+summary|--state|a.hla => a question with its own options
 leaks => --process <N>
 leaks|--process|x => 'x' for '--process <N>'
 leaks|--process|4|--at-least|0 => '0' for '--at-least <N>'
@@ -641,6 +651,7 @@ summary|--until|snapshot => 'snapshot' for '--until <N>'
 summary|--until|complet => 'complet' for '--until <N>'
 summary|--top|0|--until|x|--workers|0 => '0' for '--workers <N>'
 summary|--top|0|--until|x => 'x' for '--until <N>'
+summary|--state|a.hla|--until|x => 'x' for '--until <N>'
 leaks|--until|x|--at-least|0|--since|y|--process|z => 'z' for '--process <N>'
 leaks|--until|x|--at-least|0|--since|y|--process|4 => 'y' for '--since <N>'
 leaks|--until|x|--at-least|0|--process|4 => '0' for '--at-least <N>'
@@ -742,6 +753,9 @@ growth => --process <N>
 growth|--process|4|--top|5 => '--top'
 growth|--process|4|--exit-code => '--exit-code'
 growth|--process|4|--folded => '--folded'
+growth|--process|4|--state|a.hla => '--state <FILE>' cannot be used with 'growth'
+growth|--process|4|--until|4|--state|a.hla => '--state <FILE>' cannot be used with 'growth'
+summary|--state => '--state <FILE>'
 growth|--process|4|--points|5|--points|5 => '--points <N>'
 outstanding|--process|4|--since|5 => '--since'
 diff|--process|4|--at-least|5 => '--at-least'
@@ -853,6 +867,15 @@ fn lines_have_options(rt: HostRuntime) {
             run.symbols.as_deref(),
         );
         assert_row(&rt, *line, found, (*form, *workers, *symbols));
+    }
+}
+
+#[test]
+fn lines_are_asked_of_states(rt: HostRuntime) {
+    for (line, states, files) in OVER_STATES {
+        let run = run(&rt, rt.alloc(), line);
+        has_files(&rt, line, &run.states, states);
+        has_files(&rt, line, &run.files, files);
     }
 }
 

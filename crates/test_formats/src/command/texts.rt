@@ -25,7 +25,7 @@ Commands:
   trace        Each open, close and bad reference of a handle (!htrace HANDLE)
   growth       How many handles are open as of each of many moments
   ask          Many questions over the same segments, a line each
-  fold         Segments folded into a state, for 'ask' and 'merge'
+  fold         Segments folded into a state, for --state and 'merge'
   explain      What a fault means, and what to do
   dump         Segments as text, to read, compare and change
   encode       The bytes of segments that are given as text
@@ -50,6 +50,11 @@ Options of every question, from summary to growth:
       --notes           Notes, and the file and the words of a fault, also where
                         standard error is no terminal
   [FILES]...            Trace segments; standard input where no file is given
+
+Options of every question but trace and growth:
+      --state <FILE>    The answer is over the segments of this state too, which
+                        'save' or 'hleak fold' wrote, and standard input is not
+                        read; may stand many times; not with --until
 
 Exit status:
   0  done                        4  not one trace, or no event asked about
@@ -89,6 +94,9 @@ Options:
                         up to which answers are final: 0 if a processor is idle
       --symbols <FILE>  Names for addresses: CSV of start,end,module,name
       --workers <N>     Use up to N threads: 1 to 8 [default: 1]
+      --state <FILE>    The answer is over the segments of this state too, which
+                        'save' or 'hleak fold' wrote, and standard input is not
+                        read; may stand many times; not with --until
       --json            One JSON object a line, for other programs
       --complete        Refuse segments with a gap (C8). Without a gap the last
                         segments of a processor may still be missing
@@ -123,6 +131,9 @@ Options:
                         up to which answers are final: 0 if a processor is idle
       --symbols <FILE>  Names for addresses: CSV of start,end,module,name
       --workers <N>     Use up to N threads: 1 to 8 [default: 1]
+      --state <FILE>    The answer is over the segments of this state too, which
+                        'save' or 'hleak fold' wrote, and standard input is not
+                        read; may stand many times; not with --until
       --json            One JSON object a line, for other programs
       --complete        Refuse segments with a gap (C8). Without a gap the last
                         segments of a processor may still be missing
@@ -158,6 +169,9 @@ Options:
                         up to which answers are final: 0 if a processor is idle
       --symbols <FILE>  Names for addresses: CSV of start,end,module,name
       --workers <N>     Use up to N threads: 1 to 8 [default: 1]
+      --state <FILE>    The answer is over the segments of this state too, which
+                        'save' or 'hleak fold' wrote, and standard input is not
+                        read; may stand many times; not with --until
       --json            One JSON object a line, for other programs
       --complete        Refuse segments with a gap (C8). Without a gap the last
                         segments of a processor may still be missing
@@ -189,6 +203,9 @@ Options:
                         up to which answers are final: 0 if a processor is idle
       --symbols <FILE>  Names for addresses: CSV of start,end,module,name
       --workers <N>     Use up to N threads: 1 to 8 [default: 1]
+      --state <FILE>    The answer is over the segments of this state too, which
+                        'save' or 'hleak fold' wrote, and standard input is not
+                        read; may stand many times; not with --until
       --json            One JSON object a line, for other programs
       --complete        Refuse segments with a gap (C8). Without a gap the last
                         segments of a processor may still be missing
@@ -220,6 +237,9 @@ Options:
                         up to which answers are final: 0 if a processor is idle
       --symbols <FILE>  Names for addresses: CSV of start,end,module,name
       --workers <N>     Use up to N threads: 1 to 8 [default: 1]
+      --state <FILE>    The answer is over the segments of this state too, which
+                        'save' or 'hleak fold' wrote, and standard input is not
+                        read; may stand many times; not with --until
       --json            One JSON object a line, for other programs
       --complete        Refuse segments with a gap (C8). Without a gap the last
                         segments of a processor may still be missing
@@ -258,6 +278,9 @@ Options:
                         up to which answers are final: 0 if a processor is idle
       --symbols <FILE>  Names for addresses: CSV of start,end,module,name
       --workers <N>     Use up to N threads: 1 to 8 [default: 1]
+      --state <FILE>    The answer is over the segments of this state too, which
+                        'save' or 'hleak fold' wrote, and standard input is not
+                        read; may stand many times; not with --until
       --json            One JSON object a line, for other programs
       --complete        Refuse segments with a gap (C8). Without a gap the last
                         segments of a processor may still be missing
@@ -291,6 +314,9 @@ Options:
                         up to which answers are final: 0 if a processor is idle
       --symbols <FILE>  Names for addresses: CSV of start,end,module,name
       --workers <N>     Use up to N threads: 1 to 8 [default: 1]
+      --state <FILE>    The answer is over the segments of this state too, which
+                        'save' or 'hleak fold' wrote, and standard input is not
+                        read; may stand many times; not with --until
       --json            One JSON object a line, for other programs
       --complete        Refuse segments with a gap (C8). Without a gap the last
                         segments of a processor may still be missing
@@ -325,6 +351,9 @@ Options:
                         up to which answers are final: 0 if a processor is idle
       --symbols <FILE>  Names for addresses: CSV of start,end,module,name
       --workers <N>     Use up to N threads: 1 to 8 [default: 1]
+      --state <FILE>    The answer is over the segments of this state too, which
+                        'save' or 'hleak fold' wrote, and standard input is not
+                        read; may stand many times; not with --until
       --json            One JSON object a line, for other programs
       --complete        Refuse segments with a gap (C8). Without a gap the last
                         segments of a processor may still be missing
@@ -441,7 +470,7 @@ Examples:
 ";
 
 const FOLD: &str = "\
-Segments folded into a state, for 'ask' and 'merge'
+Segments folded into a state, for --state and 'merge'
 
 Usage: hleak fold [OPTIONS] [FILES]...
 
@@ -459,8 +488,9 @@ Options:
                      standard error is no terminal
   -h, --help         Print help
 
-The state is what 'save' writes in a dialogue with --fold over these files.
-'hleak ask --state' begins with it. It is not written to a terminal.
+The state is what 'save' writes in a dialogue with --fold over these files. A
+question with --state is answered over it, and 'hleak ask --state' begins with
+it. It is not written to a terminal.
 
 Example:
   hleak fold cpu0.hls cpu1.hls > a.hla
@@ -643,6 +673,18 @@ const TAG_AND_ALL: &str = "\
 error: the argument '--tag <TAG>' cannot be used with '--all'
 
 For more information, try 'hleak balance --help'.
+";
+
+const TRACE_OF_STATE: &str = "\
+error: the argument '--state <FILE>' cannot be used with 'trace'
+
+For more information, try 'hleak trace --help'.
+";
+
+const MOMENT_OF_STATE: &str = "\
+error: the argument '--until <N>' cannot be used with '--state <FILE>'
+
+For more information, try 'hleak leaks --help'.
 ";
 
 const DIALOGUE_TAG_AND_ALL: &str = "\
@@ -924,7 +966,7 @@ For more information, try '--help'.
 const OTHER_STATE: &str = "\
 error: unexpected argument '--state' found
 
-  tip: --state is an option of ask
+  tip: --state is an option of questions and of ask
 
 Usage: hleak fold [OPTIONS] [FILES]...
 
@@ -976,6 +1018,14 @@ const USAGE: &[(&str, &str)] = &[
     ("stacks|--object|1|--tag|-abc", SEPARATED_VALUE),
     ("balance|--tag|-abc", SEPARATED_TAG),
     ("balance|--all|--tag|Lky8", TAG_AND_ALL),
+    (
+        "trace|--process|4|--handle|44|--state|a.hla",
+        TRACE_OF_STATE,
+    ),
+    (
+        "leaks|--process|4|--state|a.hla|--until|complete",
+        MOMENT_OF_STATE,
+    ),
     ("leaks|--process|0x4b0", HEXADECIMAL),
     ("growth|--process|4|--until|0x4b0", MOMENT),
     ("tags|--object|ffffa000`00001000", BACKQUOTED),

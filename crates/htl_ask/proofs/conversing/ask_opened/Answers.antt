@@ -5,10 +5,11 @@ use Rattle.std.proofs.lemmas.Result.{err_from_is_err_and}
 use Rattle.std.specs.Option.{option_copied}
 use Rattle.htl_lemmas.proofs.Lists.{take_front}
 use Rattle.htl_inputs.proofs.ReadingLaws.{ends_too, read_then, well}
+use Rattle.htl_dialogue.specs.declared.note.Opening.{Opening}
 use Rattle.htl_dialogue.proofs.Simulated.{converses_too, stops_too}
 use Rattle.htl_ask.specs.Asking.{answers_over}
-use Rattle.htl_ask.specs.Beginnings.{Opening, forgets}
-use Rattle.htl_ask.specs.Loads.{IsOfTold, answers_from, is_state}
+use Rattle.htl_ask.specs.Beginnings.{forgets}
+use Rattle.htl_ask.specs.Loads.{IsOfTold, answers_from, is_state, opening_of}
 use Rattle.htl_ask.specs.Outcomes.{told_before}
 use Rattle.htl_main.specs.declared.folding.Folded.{Folded}
 use Rattle.htl_ask.proofs.Begun.{converses_begun, stops_begun}
@@ -120,9 +121,10 @@ returns-in_err-conversed-clause-outcome g c =
     let of = c.args.files.now.dialogue.now in
     let symbols = option_copied c.args.symbols in
     let begun = c.in_ok-kept.field-0 in
-    let opening : Opening = record { coverage = begun.coverage; cut = begun.cut } in
+    let opening : Opening = opening_of (forgets of) begun in
     let form : is_state begun.kept ≡ forgets of = c.in_ok-kept.ensures.form ∙ c.in_ok-before.ensures.form in
-    let known : (g.W.World.state c.restored.new.world).known ≡ world = c.in_ok-before.ensures.asked.known in
+    let told = c.forgets.ensures ∙ form in
+    let known : (g.W.World.state c.folded_before.new.world).known ≡ world = c.in_ok-before.ensures.asked.known in
     let outcome = rw c.in_ok-before.ensures.form at c.in_ok-kept.ensures.outcome in
     let one = answers_from world of.setting (is_state begun.kept) c.is_some.result in
     let same_table : c.is_some.result ≡ is_some symbols = c.is_some.ensures ∙ some_copied c.args.symbols in
@@ -134,11 +136,12 @@ returns-in_err-conversed-clause-outcome g c =
     let are = outcome (told_before states of) (c.in_ok-before.ensures.told states) texts (rw c.deref_mut.ensures.value all) in (
       are.read,
       opening,
+      refl,
       are.opens,
       λ lines asked. stops_begun other (g.S.Speaker.wants_notes c.args.speaker.now) are.read lines
           (g.O.Sink.state c.args.out.now).contents (g.O.Sink.state c.converse_lines.new.out).contents g.S.Speaker.told c.args.speaker.now
           c.hears.new.self c.converse_lines.new.speaker (map string_bytes of.files.items) opening
-          (rw c.deref.ensures.value at c.hears.ensures.told) left failed fault
+          (rw (c.deref.ensures.value, told) at c.hears.ensures.told) left failed fault
           (stops_too one other form same_table (Holds of.setting symbols)
           (λ before known job outcome holds has. holds_outcome of.setting symbols before known job outcome holds has)
           (λ before known job absence holds has. holds_absence of.setting symbols before known job absence holds has)
@@ -156,9 +159,10 @@ returns-clause-outcome g c =
     let of = c.args.files.now.dialogue.now in
     let symbols = option_copied c.args.symbols in
     let begun = c.in_ok-kept.field-0 in
-    let opening : Opening = record { coverage = begun.coverage; cut = begun.cut } in
+    let opening : Opening = opening_of (forgets of) begun in
     let form : is_state begun.kept ≡ forgets of = c.in_ok-kept.ensures.form ∙ c.in_ok-before.ensures.form in
-    let known : (g.W.World.state c.restored.new.world).known ≡ world = c.in_ok-before.ensures.asked.known in
+    let told = c.forgets.ensures ∙ form in
+    let known : (g.W.World.state c.folded_before.new.world).known ≡ world = c.in_ok-before.ensures.asked.known in
     let outcome = rw c.in_ok-before.ensures.form at c.in_ok-kept.ensures.outcome in
     let one = answers_from world of.setting (is_state begun.kept) c.is_some.result in
     let same_table : c.is_some.result ≡ is_some symbols = c.is_some.ensures ∙ some_copied c.args.symbols in
@@ -168,11 +172,12 @@ returns-clause-outcome g c =
     let are = outcome (told_before states of) (c.in_ok-before.ensures.told states) texts (rw c.deref_mut.ensures.value all) in (
       are.read,
       opening,
+      refl,
       are.opens,
       λ lines asked. converses_begun other (g.S.Speaker.wants_notes c.args.speaker.now) are.read lines
           (g.O.Sink.state c.args.out.now).contents (g.O.Sink.state c.converse_lines.new.out).contents g.S.Speaker.told c.args.speaker.now
           c.hears.new.self c.converse_lines.new.speaker (map string_bytes of.files.items) opening
-          (rw c.deref.ensures.value at c.hears.ensures.told) conversed
+          (rw (c.deref.ensures.value, told) at c.hears.ensures.told) conversed
           (converses_too one other form same_table (Holds of.setting symbols)
           (λ before known job outcome holds has. holds_outcome of.setting symbols before known job outcome holds has)
           (λ before known job absence holds has. holds_absence of.setting symbols before known job absence holds has)

@@ -13,6 +13,7 @@ use Rattle.htl_ask.specs.Asking.{before_dialogue}
 use Rattle.htl_ask.specs.Beginnings.{IsBeginsBetween, forgets}
 use Rattle.htl_ask.specs.LineRounds.{AsksLater, ReadsStates}
 use Rattle.htl_ask.proofs.RestoringLaws.{behind_read}
+use Rattle.htl_ask.proofs.Unread.{about_no_two}
 use Rattle.htl_ask.proofs.conversing.converse.Goals as goal
 
 -- what could not be opened is about no two segments
@@ -22,10 +23,7 @@ about_none false setting texts known holds absences now fault (inl (none, inl me
 about_none false setting texts known holds absences now fault (inl (none, inr (place, told, first))) = rw told refl
 about_none false setting texts known holds absences now fault (inr (same, inl symbols)) = rw symbols refl
 about_none false setting texts known holds absences now fault (inr (same, inr memory)) = rw memory refl
-about_none true setting texts known holds absences now fault (inl (none, inl memory)) = rw memory refl
-about_none true setting texts known holds absences now fault (inl (none, inr (place, told, first))) = rw told refl
-about_none true setting texts known holds absences now fault (inr (same, inl symbols)) = rw symbols refl
-about_none true setting texts known holds absences now fault (inr (same, inr memory)) = rw memory refl
+about_none true setting texts known holds absences now fault unread = about_no_two known holds absences now fault unread
 
 pub returns-in-Ok-clause-conversed : goal.returns-in-Ok-clause-conversed
 returns-in-Ok-clause-conversed g c =

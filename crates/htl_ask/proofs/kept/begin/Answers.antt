@@ -13,12 +13,14 @@ returns-in_ok-folded-in-Some g c =
     let is = c.in_ok-folded-in-Some.ensures in
     rw c.in-Some.is (record {
       outcome = begun_folded is;
+      between = tt;
       form = refl;
       coverage = tt;
       workers = is.workers;
       reading = read_then c.args.setting.form.hex (map g.R.Source.state c.args.inputs.now) (map g.R.Source.state c.load_folded.new.inputs)
           (folded, added) (well _) is.reading (λ at told. cc told) tt;
       readers = is.readers;
+      no_write = tt;
     })
 
 pub returns-in_err-folded-in-Some : goal.returns-in_err-folded-in-Some
@@ -27,12 +29,14 @@ returns-in_err-folded-in-Some g c =
     let is = c.in_err-folded-in-Some.ensures in
     rw (p.1, p.2, c.in-Some.is) (record {
       outcome = not_begun is;
+      between = λ folds. is.between;
       form = tt;
       coverage = tt;
       workers = tt;
       reading = ends_too c.args.setting.form.hex (map g.R.Source.state c.args.inputs.now) (map g.R.Source.state c.load_folded.new.inputs)
           c.in_err-folded-in-Some.field-0.0.fault is.reading;
       readers = is.readers;
+      no_write = is.no_write;
     })
 
 pub returns-in_err-loaded-in-None : goal.returns-in_err-loaded-in-None
@@ -41,12 +45,14 @@ returns-in_err-loaded-in-None g c =
     let is = c.in_err-loaded-in-None.ensures in
     rw (p.1, p.2, c.in-None.is) (record {
       outcome = λ told none texts all. is.outcome texts all;
+      between = λ folds. absurd (cc folds);
       form = tt;
       coverage = tt;
       workers = tt;
       reading = ends_too c.args.setting.form.hex (map g.R.Source.state c.args.inputs.now) (map g.R.Source.state c.load.new.inputs)
           c.in_err-loaded-in-None.field-0.0.fault is.reading;
       readers = is.readers;
+      no_write = is.no_write;
     })
 
 pub returns-in_ok-loaded-in-None : goal.returns-in_ok-loaded-in-None
@@ -64,10 +70,12 @@ returns-in_ok-loaded-in-None g c =
               record { case = loaded.case; names = loaded.symbols; loaded = are.0; coverage = is.coverage; cut = are.1 },
             );
           };
+      between = tt;
       form = refl;
       coverage = is.coverage;
       workers = is.workers;
       reading = read_then c.args.setting.form.hex (map g.R.Source.state c.args.inputs.now) (map g.R.Source.state c.load.new.inputs) loaded
           (well _) is.reading (λ at told. cc told) tt;
       readers = is.readers;
+      no_write = tt;
     })

@@ -1,31 +1,8 @@
 -- The states of the names are merged one after the other; the first that is refused ends that, and is reported by its place.
-use Rattle.std.proofs.Common.{◌≡◌, ◌∙◌, [], All, false, map, refl, rules, string_bytes, subst, sym, take}
-use Rattle.std.specs.Prelude.{Some}
-use Rattle.std.proofs.lemmas.List.Elements.{All-nil}
-use Rattle.htl_world.specs.Worlds.{IsAsked}
-use Rattle.htl_world.proofs.Asked.{asked_none}
+use Rattle.std.proofs.Common.{◌≡◌, false, map, refl, rules, string_bytes, take}
 use Rattle.htl_world.proofs.Names.{name_at}
-use Rattle.htl_ask.specs.Asking.{IsSavedState}
-use Rattle.htl_ask.specs.Beginnings.{AllFit}
-use Rattle.htl_ask.specs.LineRounds.{all_read}
-use Rattle.htl_ask.proofs.RestoringLaws.{all_names, ends_reading, next_name, no_states, none_restored, one_refused, one_restored}
+use Rattle.htl_ask.proofs.RestoringLaws.{all_names, ends_reading, next_name, none_restored, one_refused, one_restored}
 use Rattle.htl_ask.proofs.restoring.restored.Goals as goal
-
-pub returns-then-not-forgets : goal.returns-then-not-forgets
-returns-then-not-forgets g c =
-    let of = c.args.dialogue.now in
-    let keeps = sym c.forgets.ensures ∙ c.if-not-forgets.true in
-    let none = sym (no_states of.folds of.states.items keeps) in
-    record {
-      told = λ states. tt;
-      form = sym keeps;
-      states = subst (λ names. All (IsSavedState (g.W.World.state c.args.world.now).known) (map string_bytes names)) none (All-nil _);
-      fit = λ states. subst (λ names. AllFit states (Some []) (map string_bytes names)) none tt;
-      refused = λ states. tt;
-      between = tt;
-      asked = subst (λ names. IsAsked (g.W.World.state c.args.world.now) (g.W.World.state c.args.world.now) (all_read (map string_bytes names)))
-          none (asked_none (g.W.World.state c.args.world.now));
-    }
 
 pub loop-place-init : goal.loop-place-init
 loop-place-init g c = record {
@@ -34,14 +11,12 @@ loop-place-init g c = record {
 
 pub loop-place-preserved : goal.loop-place-preserved
 loop-place-preserved g c =
-    let names = map string_bytes c.args.dialogue.now.states.items in
+    let names = map string_bytes c.args.names.now in
     let place = c.loop-place.place in
     let name = c.deref.result.now in
-    let same : name ≡ string_bytes c.name-item.result = search rules in
-    let inside = rw c.deref-name-items.ensures.value at c.loop-place-test.true in
-    let here = name_at c.args.dialogue.now.states.items place c.name-item.result name inside
-    (rw c.deref-name-items.ensures.value at c.name-item.is) same in
-    let setting = record (c.args.dialogue.now.setting) { complete = false } in
+    let same : name ≡ string_bytes c.index-names-place.result = search rules in
+    let here = name_at c.args.names.now place c.index-names-place.result name c.loop-place-test.true c.index-names-place.is same in
+    let setting = record (c.args.setting) { complete = false } in
     record {
       so_far = rw (next_name names place name here) (one_restored (g.W.World.state c.args.world.now) (g.W.World.state c.loop-place.world)
           (g.W.World.state c.merge_named.new.world) (take place names) setting name c.loop-place.folded c.merge_named.new.folded _
@@ -50,22 +25,19 @@ loop-place-preserved g c =
 
 pub returns-in-Err : goal.returns-in-Err
 returns-in-Err g c =
-    let names = map string_bytes c.args.dialogue.now.states.items in
+    let names = map string_bytes c.args.names.now in
     let place = c.loop-place.place in
     let name = c.deref.result.now in
-    let same : name ≡ string_bytes c.name-item.result = search rules in
-    let inside = rw c.deref-name-items.ensures.value at c.loop-place-test.true in
-    let here = name_at c.args.dialogue.now.states.items place c.name-item.result name inside
-    (rw c.deref-name-items.ensures.value at c.name-item.is) same in
+    let same : name ≡ string_bytes c.index-names-place.result = search rules in
+    let here = name_at c.args.names.now place c.index-names-place.result name c.loop-place-test.true c.index-names-place.is same in
     let old = g.W.World.state c.args.world.now in
     let mid = g.W.World.state c.loop-place.world in
     let so_far = c.loop-place.invariant.so_far in
     let new = g.W.World.state c.merge_named.new.world in
-    let setting = record (c.args.dialogue.now.setting) { complete = false } in
+    let setting = record (c.args.setting) { complete = false } in
     let fault = c.in-Err.fault in
     rw (c.half_known.ensures.fault, c.placed.ensures) (record {
       told = λ states. tt;
-      form = tt;
       states = tt;
       fit = λ states. tt;
       refused = λ states. one_refused old mid new names place setting name c.loop-place.folded c.merge_named.new.folded here so_far fault refl
@@ -76,12 +48,9 @@ returns-in-Err g c =
 
 pub returns : goal.returns
 returns g c =
-    let of = c.args.dialogue.now in
-    let most = rw c.deref-name-items.ensures.value at c.loop-place-test.false in
-    let so_far = rw (all_names of.states.items c.loop-place.place most) at c.loop-place.invariant.so_far in
+    let so_far = rw (all_names c.args.names.now c.loop-place.place c.loop-place-test.false) at c.loop-place.invariant.so_far in
     record {
       told = so_far.told;
-      form = sym c.if-not-forgets.false ∙ c.forgets.ensures;
       states = so_far.are;
       fit = so_far.fit;
       refused = λ states. tt;

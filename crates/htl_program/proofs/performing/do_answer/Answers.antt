@@ -9,8 +9,8 @@ returns g c =
     let over = c.end-manner.ensures in (
       search rules,
       record {
-        ended = c.answer-ended.result;
-        is = rw over.out (rw begun.out at c.answer-ended.ensures);
+        ended = c.answer_question-ended.result;
+        is = rw over.out (rw begun.out at c.answer_question-ended.ensures);
         status_is = search rules;
         after_run = g.P.Person.heard c.end-manner.new.self.person;
         hears_run = run_told _ _ _ c.args.line.now.command begun.told over.told;

@@ -23,15 +23,15 @@ _hleak_value() {
 # _hleak_command COMMAND: the options and words that a command's line has
 _hleak_command() {
   case $1 in
-    summary) options='--top --exit-code --until --symbols --workers --json --complete --hex --partial --notes --help' needed='' words='' ;;
-    outstanding) options='--process --top --exit-code --until --symbols --workers --json --complete --hex --partial --notes --help' needed='--process' words='' ;;
-    diff) options='--process --since --top --exit-code --until --symbols --workers --json --complete --hex --partial --notes --help' needed='--process' words='' ;;
-    tags) options='--object --exit-code --until --symbols --workers --json --complete --hex --partial --notes --help' needed='--object' words='' ;;
-    bad) options='--process --top --exit-code --until --symbols --workers --json --complete --hex --partial --notes --help' needed='--process' words='' ;;
-    leaks) options='--process --since --at-least --top --exit-code --folded --until --symbols --workers --json --complete --hex --partial --notes --help' needed='--process' words='' ;;
-    sites) options='--since --at-least --top --exit-code --folded --until --symbols --workers --json --complete --hex --partial --notes --help' needed='' words='' ;;
-    stacks) options='--object --tag --top --until --symbols --workers --json --complete --hex --partial --notes --help' needed='--object --tag' words='' ;;
-    balance) options='--tag --top --all --exit-code --until --symbols --workers --json --complete --hex --partial --notes --help' needed='' words='' ;;
+    summary) options='--top --exit-code --until --symbols --workers --state --json --complete --hex --partial --notes --help' needed='' words='' ;;
+    outstanding) options='--process --top --exit-code --until --symbols --workers --state --json --complete --hex --partial --notes --help' needed='--process' words='' ;;
+    diff) options='--process --since --top --exit-code --until --symbols --workers --state --json --complete --hex --partial --notes --help' needed='--process' words='' ;;
+    tags) options='--object --exit-code --until --symbols --workers --state --json --complete --hex --partial --notes --help' needed='--object' words='' ;;
+    bad) options='--process --top --exit-code --until --symbols --workers --state --json --complete --hex --partial --notes --help' needed='--process' words='' ;;
+    leaks) options='--process --since --at-least --top --exit-code --folded --until --symbols --workers --state --json --complete --hex --partial --notes --help' needed='--process' words='' ;;
+    sites) options='--since --at-least --top --exit-code --folded --until --symbols --workers --state --json --complete --hex --partial --notes --help' needed='' words='' ;;
+    stacks) options='--object --tag --top --until --symbols --workers --state --json --complete --hex --partial --notes --help' needed='--object --tag' words='' ;;
+    balance) options='--tag --top --all --exit-code --until --symbols --workers --state --json --complete --hex --partial --notes --help' needed='' words='' ;;
     trace) options='--process --handle --top --until --symbols --workers --json --complete --hex --partial --notes --help' needed='--process --handle' words='' ;;
     growth) options='--process --points --until --symbols --workers --json --complete --hex --partial --notes --help' needed='--process' words='' ;;
     ask) options='--symbols --workers --state --fold --complete --hex --partial --notes --help' needed='' words='' ;;

@@ -15,7 +15,7 @@ use Rattle.htl_main.specs.declared.loading.adding.Added.{Added}
 use Rattle.htl_main.specs.declared.refused.Refused.{Refused}
 use Rattle.htl_saved.specs.Loads.{IsLoaded}
 use Rattle.htl_segment.specs.Content.{Content}
-use Rattle.htl_world.specs.Worlds.{Known}
+use Rattle.htl_world.specs.Worlds.{Known, WorldChange}
 use Rattle.htl_ask.specs.Asking.{GoesOn, IsMergesFault, IsSavedState, KnownStates, MergesName, MergesState, MergesTold, SavesName, SavesSegments}
 use Rattle.htl_ask.specs.Asking.{Taken, if_of_one, inputs, merged_unknown, segments}
 use Rattle.htl_ask.specs.Loads.{AreKept, MergesFile, MergesFolded, SavesFile, SavesFolded}
@@ -225,34 +225,34 @@ module _ (world : Known) (states : KnownStates world.holds) (setting : Setting) 
 
 -- ---- saving
 
-saves_segments : (folded : Folded) (taken : List Content) → AreFolded folded.analyst taken → (ended : Result ℕ RunFault)
-    → SavesFolded folded ended → SavesSegments taken ended
-saves_segments folded taken are (Ok count) (bytes, size, is) =
-    (some_folded folded.analyst are is.some, bytes, size, λ T all. is.state taken T are all)
+saves_segments : (whole : WorldChange) (folded : Folded) (taken : List Content) (name : List ℕ) → AreFolded folded.analyst taken
+    → (ended : Result ℕ RunFault) → SavesFolded whole folded name ended → SavesSegments whole taken name ended
+saves_segments whole folded taken name are (Ok count) (bytes, size, is, written) =
+    (some_folded folded.analyst are is.some, bytes, size, (λ T all. is.state taken T are all), written)
   where
     some_folded : (analyst : Option Analyst) → AreFolded analyst taken → is_some analyst ≡ true → taken ≢ []
     some_folded None are some = absurd (cc some)
     some_folded (Some a) are some = are.taken.0
-saves_segments folded taken are (Err (faults.Case cases.Empty)) is = none_taken folded.analyst are is.0
+saves_segments whole folded taken name are (Err (faults.Case cases.Empty)) is = none_taken folded.analyst are is.0
   where
     none_taken : (analyst : Option Analyst) → AreFolded analyst taken → analyst ≡ None → taken ≡ []
     none_taken None are none = are.taken
     none_taken (Some a) are none = absurd (cc none)
-saves_segments folded taken are (Err faults.StateStacks) is = some_taken folded.analyst are is.0
+saves_segments whole folded taken name are (Err faults.StateStacks) is = some_taken folded.analyst are is.0
   where
     some_taken : (analyst : Option Analyst) → AreFolded analyst taken → IsUnsaved analyst faults.StateStacks → taken ≢ []
     some_taken None are is = absurd is
     some_taken (Some a) are is = are.taken.0
-saves_segments folded taken are (Err faults.StateWrite) is = tt
-saves_segments folded taken are (Err faults.Memory) is = absurd (is.1 refl)
-saves_segments folded taken are (Err fault) is = absurd is.0
+saves_segments whole folded taken name are (Err faults.StateWrite) is = tt
+saves_segments whole folded taken name are (Err faults.Memory) is = absurd (is.1 refl)
+saves_segments whole folded taken name are (Err fault) is = absurd is.0
 
 -- what is saved of what is kept is the state of what was read
-pub saving_one : (setting : Setting) (symbols : Option (List ℕ)) (kept : Kept) (read : Option Taken) (name : List ℕ) (ended : Result ℕ RunFault)
-    → Holds setting symbols kept read → SavesFile kept name ended → SavesName read name ended
-saving_one setting symbols kept None name ended holds is = tt
-saving_one setting symbols (State folded) (Some (inputs texts)) name ended holds is = absurd holds.are
-saving_one setting symbols (State folded) (Some (segments taken)) name ended holds is =
+pub saving_one : (whole : WorldChange) (setting : Setting) (symbols : Option (List ℕ)) (kept : Kept) (read : Option Taken) (name : List ℕ)
+    (ended : Result ℕ RunFault) → Holds setting symbols kept read → SavesFile whole kept name ended → SavesName whole read name ended
+saving_one whole setting symbols kept None name ended holds is = tt
+saving_one whole setting symbols (State folded) (Some (inputs texts)) name ended holds is = absurd holds.are
+saving_one whole setting symbols (State folded) (Some (segments taken)) name ended holds is =
     let are : AreFolded folded.analyst taken × HasSymbols symbols folded.symbols = holds.are in
-    saves_segments folded taken are.0 ended is
-saving_one setting symbols (Case loaded) (Some read) name ended holds is = absurd is
+    saves_segments whole folded taken name are.0 ended is
+saving_one whole setting symbols (Case loaded) (Some read) name ended holds is = absurd is

@@ -38,7 +38,7 @@ use Rattle.htl_segment.specs.Traces.{Trace}
 use Rattle.htl_symbols.specs.Ranges.{Range}
 use Rattle.htl_world.specs.Endings.{IsUnopened}
 use Rattle.htl_world.specs.Readings.{AreAskedFor, AreInputs}
-use Rattle.htl_world.specs.Worlds.{Known, IsFirstAbsent, IsFirstRefused}
+use Rattle.htl_world.specs.Worlds.{Ask, IsAsked, Known, IsFirstAbsent, IsFirstRefused, WorldChange, to_write}
 use Rattle.htl_ask.specs.declared.ask_fault.AskFault.{AskFault}
 use Rattle.htl_ask.specs.declared.ask_fault.AskFault.TheVariants.{Run, Dialogue}
 
@@ -243,27 +243,34 @@ MergesName world states setting (Some (segments before)) name after ended =
     MergesState world name ended × MergesTold setting.complete before (world.is_absent name)
     (if_of_one (states.are_of_one before) (states.tells name)) after (by_fault ended)
 
--- How the saving of these segments ends: so many bytes were written, which are their state. Nothing is saved where there is none, where
--- there are too many stacks, or where the bytes couldn't be written.
-abbrev pub SavesSegments : List Content → Result ℕ RunFault → Type 0
-SavesSegments taken (Ok count) =
+-- In the change of a world a name was to hold these bytes, and that wasn't refused.
+abbrev pub HasWritten : WorldChange → List ℕ → List ℕ → Type 0
+HasWritten world name bytes =
+    (earlier : List Ask) × (later : List Ask) × IsAsked world.old world.new (earlier ++ to_write name bytes None ∷ later)
+
+-- How the saving of these segments under a name ends: so many bytes were written there, which are their state. Nothing is saved where there
+-- is none, where there are too many stacks, or where the bytes couldn't be written.
+abbrev pub SavesSegments : WorldChange → List Content → List ℕ → Result ℕ RunFault → Type 0
+SavesSegments world taken name (Ok count) =
     (taken ≢ []) × (bytes : List ℕ) × (count ≡ length bytes) × ((T : Trace) → IsCollectionOf taken T → IsStateOf bytes taken)
-SavesSegments taken (Err (Case Empty)) = taken ≡ []
-SavesSegments taken (Err StateStacks) = taken ≢ []
-SavesSegments taken (Err StateWrite) = ⊤
-SavesSegments taken (Err fault) = ⊥
+    × HasWritten world name bytes
+SavesSegments world taken name (Err (Case Empty)) = taken ≡ []
+SavesSegments world taken name (Err StateStacks) = taken ≢ []
+SavesSegments world taken name (Err StateWrite) = ⊤
+SavesSegments world taken name (Err fault) = ⊥
 
--- The same of what was read, under a name. Where segments are kept, no line saves them.
-abbrev pub SavesName : Option Taken → List ℕ → Result ℕ RunFault → Type 0
-SavesName None name ended = ⊤
-SavesName (Some (inputs texts)) name ended = ⊥
-SavesName (Some (segments taken)) name ended = SavesSegments taken ended
+-- The same of what was read. Where segments are kept, no line saves them.
+abbrev pub SavesName : WorldChange → Option Taken → List ℕ → Result ℕ RunFault → Type 0
+SavesName world None name ended = ⊤
+SavesName world (Some (inputs texts)) name ended = ⊥
+SavesName world (Some (segments taken)) name ended = SavesSegments world taken name ended
 
--- Who answers from what was read so far.
-abbrev pub answers_over : (world : Known) → KnownStates world.holds → Setting → Bool → Option (List ℕ) → Answers (Option Taken)
-answers_over world states setting forgets symbols =
+-- Who answers from what was read so far. What is saved was written in the change of the world that the whole dialogue is.
+abbrev pub answers_over : (world : Known) → KnownStates world.holds → WorldChange → Setting → Bool → Option (List ℕ)
+    → Answers (Option Taken)
+answers_over world states whole setting forgets symbols =
     answers_by forgets (is_some symbols) (IsOutcomeOver setting symbols) (IsAbsenceOver setting) (ReadsMore world setting)
-    (MergesName world states setting) SavesName
+    (MergesName world states setting) (SavesName whole)
 
 -- ---- devices
 

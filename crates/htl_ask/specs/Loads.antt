@@ -37,9 +37,9 @@ use Rattle.htl_main.specs.declared.refused.Refused.{Refused}
 use Rattle.htl_segment.specs.Content.{Content}
 use Rattle.htl_segment.specs.Traces.{Trace}
 use Rattle.htl_world.specs.Rounds.{Asks}
-use Rattle.htl_world.specs.Worlds.{IsAsked, Known, WorldChange, to_write}
+use Rattle.htl_world.specs.Worlds.{Ask, IsAsked, Known, WorldChange, to_write}
 use Rattle.htl_world.specs.declared.world.OpenFault.TheVariants as opens
-use Rattle.htl_ask.specs.Asking.{GoesOn, IsAnswerText, IsFolding, IsSavedState, KnownStates, ReadsNames, Taken, found, inputs}
+use Rattle.htl_ask.specs.Asking.{GoesOn, HasWritten, IsAnswerText, IsFolding, IsSavedState, KnownStates, ReadsNames, Taken, found, inputs}
 use Rattle.htl_ask.specs.Asking.{one_is_absent, segments}
 use Rattle.htl_ask.specs.Beginnings.{AllFit, Begins, EndsAtState, IsBeginsBetween, IsBeginsCause, ReadsBehind, forgets, told_first}
 use Rattle.htl_ask.specs.LineRounds.{EndsReading, ReadsStates, all_read}
@@ -137,15 +137,23 @@ MergesFile world setting (State before) name (State after) ended =
     × IfErr ended (λ refused. IsHalfKnown refused.fault refused.between)
 MergesFile world setting before name after ended = ⊥
 
--- how the saving of what was folded ends, and what was written then
-abbrev pub SavesFolded : Folded → Result ℕ RunFault → Type 0
-SavesFolded folded (Ok count) = (bytes : List ℕ) × (count ≡ length bytes) × IsStateOfFolded folded bytes
-SavesFolded folded (Err StateWrite) = ⊤
-SavesFolded folded (Err fault) = IsUnsaved folded.analyst fault × (fault ≢ Memory)
+-- Nothing but asks comes before this part of the change of a world, and after it.
+pub record IsPartOf (part whole : WorldChange) : Type 0 where
+  pub earlier : List Ask
+  pub before : IsAsked whole.old part.old earlier
+  pub later : List Ask
+  pub after : IsAsked part.new whole.new later
 
-abbrev pub SavesFile : Kept → List ℕ → Result ℕ RunFault → Type 0
-SavesFile (State folded) name ended = SavesFolded folded ended
-SavesFile (Case loaded) name ended = ⊥
+-- how the saving of what was folded under a name ends, and what was written then
+abbrev pub SavesFolded : WorldChange → Folded → List ℕ → Result ℕ RunFault → Type 0
+SavesFolded whole folded name (Ok count) =
+    (bytes : List ℕ) × (count ≡ length bytes) × IsStateOfFolded folded bytes × HasWritten whole name bytes
+SavesFolded whole folded name (Err StateWrite) = ⊤
+SavesFolded whole folded name (Err fault) = IsUnsaved folded.analyst fault × (fault ≢ Memory)
+
+abbrev pub SavesFile : WorldChange → Kept → List ℕ → Result ℕ RunFault → Type 0
+SavesFile whole (State folded) name ended = SavesFolded whole folded name ended
+SavesFile whole (Case loaded) name ended = ⊥
 
 -- The state of what was folded was written under a name; or the world refused that; or there is none that can be written, and nothing was
 -- asked for.
@@ -162,11 +170,11 @@ WritesFile world (Case loaded) name ended = ⊥
 
 -- ---- a dialogue
 
--- who answers from what is kept
-abbrev pub answers_from : Known → Setting → Bool → Bool → Answers Kept
-answers_from world setting forgets has_table =
+-- who answers from what is kept, in the change of a world that the whole dialogue is
+abbrev pub answers_from : Known → WorldChange → Setting → Bool → Bool → Answers Kept
+answers_from world whole setting forgets has_table =
     answers_by forgets has_table (HasOutcomeIn setting.complete) HasAbsenceIn (ReadsFiles world setting)
-    (MergesFile world setting) SavesFile
+    (MergesFile world setting) (SavesFile whole)
 
 -- What was folded of states is of these segments, where they are known.
 abbrev pub IsFoldedOf : Option (List Content) → Folded → Type 0

@@ -59,19 +59,20 @@ Began of told talk texts table Goes =
 abbrev pub told_before : {holds : List ℕ → Option (List ℕ)} → KnownStates holds → Dialogue → Option (List Content)
 told_before states of = told_first states (map string_bytes of.states.items)
 
--- Each line got what a run of its own prints over what the names hold, or those before a fault did, whatever is known of saved states; or
--- no dialogue began, for a reason of the inputs, of the table or of a state, or since memory was refused.
-abbrev pub EndsConversing : {S : Type 0} → (world : Known) → KnownStates world.holds → List SourceState → Dialogue → Talk S
+-- Each line got what a run of its own prints over what the names hold, or those before a fault did, whatever is known of saved states, and
+-- what it saves was written in the change of the world; or no dialogue began, for a reason of the inputs, of the table or of a state, or
+-- since memory was refused.
+abbrev pub EndsConversing : {S : Type 0} → (world : Known) → KnownStates world.holds → WorldChange → List SourceState → Dialogue → Talk S
     → List (List ℕ) → Option (List ℕ) → Result Conversed AskFault → Type 0
-EndsConversing world states inputs of talk texts table (Ok conversed) =
+EndsConversing world states whole inputs of talk texts table (Ok conversed) =
     Began of (told_before states of) talk texts table (λ read opening lines.
-    Converses (answers_over world states of.setting (forgets of) table) talk.wants_notes read lines
+    Converses (answers_over world states whole of.setting (forgets of) table) talk.wants_notes read lines
     (HasGot (map string_bytes of.files.items) talk opening) conversed)
-EndsConversing world states inputs of talk texts table (Err (asks.Dialogue stopped)) =
+EndsConversing world states whole inputs of talk texts table (Err (asks.Dialogue stopped)) =
     Began of (told_before states of) talk texts table (λ read opening lines.
-    DialogueStops (answers_over world states of.setting (forgets of) table) talk.wants_notes read lines
+    DialogueStops (answers_over world states whole of.setting (forgets of) table) talk.wants_notes read lines
     talk.left.remaining talk.left.failed (HasGot (map string_bytes of.files.items) talk opening) stopped)
-EndsConversing world states inputs of talk texts table (Err (asks.Run refused)) =
+EndsConversing world states whole inputs of talk texts table (Err (asks.Run refused)) =
     IsBeginsCause (forgets of) of.setting (told_before states of) table texts inputs refused.fault
     ⊎ EndsAtState world states (map string_bytes of.states.items) refused.fault
 
@@ -83,7 +84,7 @@ pub record IsConversed {S : Type 0} (world : WorldChange) (inputs : List SourceS
     (ended : Result Conversed AskFault) : Type 0 where
   pub outcome : (texts : List (List ℕ)) → (table : Option (List ℕ)) → FilesHaveTexts world.old.known of.files.items texts
       → IsTable world.old.known.holds of.symbols table → (states : KnownStates world.old.known.holds)
-      → EndsConversing world.old.known states inputs of talk texts table ended
+      → EndsConversing world.old.known states world inputs of talk texts table ended
   pub devices : ReportsDevices talk.questions.remaining talk.left talk.new.failed ended
   pub between : (texts : List (List ℕ)) → FilesHaveTexts world.old.known of.files.items texts
       → IfErr (before_dialogue ended) (λ refused. IsBeginsBetween (forgets of) of.setting texts refused.fault refused.between)

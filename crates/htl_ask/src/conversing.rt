@@ -7,13 +7,13 @@ ghost use Rattle.htl_device.specs.States.{AreOpen, IfKnown, IsOpen};
 ghost use Rattle.htl_inputs.specs.Readings.{AskForReaders};
 ghost use Rattle.htl_main.specs.Origins.{by_fault};
 ghost use Rattle.htl_world.specs.Rounds.{Asks};
-ghost use Rattle.htl_world.specs.Worlds.{change};
+ghost use Rattle.htl_world.specs.Worlds.{WorldChange, change};
 ghost use Rattle.htl_ask.specs.Asking.{IsSavedState, KnownStates, ReportsDevices};
 ghost use Rattle.htl_ask.specs.Asking.{before_dialogue};
 ghost use Rattle.htl_ask.specs.Beginnings.{IsBeginsBetween, ReadsBehind, forgets};
 ghost use Rattle.htl_ask.specs.Outcomes.{EndsConversing, IsConversed, talk};
 ghost use Rattle.htl_ask.specs.LineRounds.{AsksLater, ReadsStates};
-ghost use Rattle.htl_ask.specs.Loads.{RestoresBefore};
+ghost use Rattle.htl_ask.specs.Loads.{IsPartOf, RestoresBefore};
 
 use crate::ask_fault::AskFault;
 use crate::dialogue::converse_lines;
@@ -82,9 +82,12 @@ fn ask_opened<Rt: Threads + Sync, W: World, Q: Source, O: Sink, S: Speaker>(
     requires ready { AreOpen (map W.Input.state inputs.old.items) }
     requires questions { IsOpen (Q.state questions.old) }
     requires out { (O.state out.old).failed ≡ false }
-    ensures outcome { IfKnown (map W.Input.state inputs.old.items) (λ texts.
+    ensures outcome { (whole : WorldChange)
+        → IsPartOf (change (W.state world.old) (W.state world.new)) whole
+        → IfKnown (map W.Input.state inputs.old.items) (λ texts.
         (states : KnownStates (W.state world.old).known.holds) → EndsConversing
-        (W.state world.old).known states (map W.Input.state inputs.new.items) files.now.dialogue.now
+        (W.state world.old).known states whole (map W.Input.state inputs.new.items)
+        files.now.dialogue.now
         (talk (Q.state questions.old) (Q.state questions.new) (O.state out.old) (O.state out.new)
         S.told (S.wants_notes speaker.old) speaker.old speaker.new)
         texts (option_copied symbols.entry) result) }

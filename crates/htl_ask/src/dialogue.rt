@@ -13,9 +13,10 @@ ghost use Rattle.htl_dialogue.specs.Notes.{told_of};
 ghost use Rattle.htl_dialogue.specs.Sayings.{saying};
 ghost use Rattle.htl_main.specs.Printed.{WorkersFit};
 ghost use Rattle.htl_world.specs.Rounds.{Asks};
-ghost use Rattle.htl_world.specs.Worlds.{Known, change};
+ghost use Rattle.htl_world.specs.Worlds.{Known, WorldChange, change};
 ghost use Rattle.htl_ask.specs.Asking.{AreEndless};
-ghost use Rattle.htl_ask.specs.Loads.{HasAbsenceIn, IsOfForm, answers_from, is_memory, is_state};
+ghost use Rattle.htl_ask.specs.Loads.{HasAbsenceIn, IsOfForm, IsPartOf, answers_from, is_memory};
+ghost use Rattle.htl_ask.specs.Loads.{is_state};
 ghost use Rattle.htl_ask.specs.LineRounds.{DialogueAsks, LineAsks};
 
 use crate::files::Files;
@@ -56,15 +57,19 @@ pub(crate) fn converse_lines<Rt: Threads + Sync, W: World, Q: Source, O: Sink, S
     requires questions { IsOpen (Q.state questions.old) }
     requires out { (O.state out.old).failed ≡ false }
     // Each line gets its reply, and the speaker the notes on it.
-    ensures ok { (text : List ℕ) → (Q.state questions.old).remaining ≡ Some text → IfOk result
-        (Converses (answers_from (W.state world.old).known
+    ensures ok { (whole : WorldChange)
+        → IsPartOf (change (W.state world.old) (W.state world.new)) whole
+        → (text : List ℕ) → (Q.state questions.old).remaining ≡ Some text → IfOk result
+        (Converses (answers_from (W.state world.old).known whole
         files.now.dialogue.now.setting (is_state kept.old) has_table) (S.wants_notes speaker.old)
         kept.old text (Gets (O.state out.old).contents (O.state out.new).contents S.told speaker.old
         speaker.new)) }
     // After a fault, the lines before it have their replies; if a read failed, these are all that
     // were read.
-    ensures stops { (text : List ℕ) → (Q.state questions.old).remaining ≡ Some text → IfErr result
-        (DialogueStops (answers_from (W.state world.old).known
+    ensures stops { (whole : WorldChange)
+        → IsPartOf (change (W.state world.old) (W.state world.new)) whole
+        → (text : List ℕ) → (Q.state questions.old).remaining ≡ Some text → IfErr result
+        (DialogueStops (answers_from (W.state world.old).known whole
         files.now.dialogue.now.setting (is_state kept.old) has_table) (S.wants_notes speaker.old)
         kept.old text (Q.state questions.new).remaining (Q.state questions.new).failed
         (Gets (O.state out.old).contents (O.state out.new).contents S.told speaker.old speaker.new)) }
@@ -121,12 +126,16 @@ fn reply<Rt: Threads + Sync, W: World, O: Sink, S: Speaker>(
     requires workers { WorkersFit files.now.dialogue.now.setting.workers }
     requires out { (O.state out.old).failed ≡ false }
     requires asks { IsOfForm (is_state kept.old) said.now }
-    ensures ok { IfOk result (Replies (answers_from (W.state world.old).known
+    ensures ok { (whole : WorldChange)
+        → IsPartOf (change (W.state world.old) (W.state world.new)) whole
+        → IfOk result (Replies (answers_from (W.state world.old).known whole
         files.now.dialogue.now.setting (is_state kept.old) has_table) (S.wants_notes speaker.old)
         said.now kept.old kept.new (O.state out.old).contents (O.state out.new).contents S.told
         speaker.old speaker.new) }
     ensures fine { OnOk result ((O.state out.new).failed ≡ false) }
-    ensures err { IfErr result (IsRefusedReply (answers_from (W.state world.old).known
+    ensures err { (whole : WorldChange)
+        → IsPartOf (change (W.state world.old) (W.state world.new)) whole
+        → IfErr result (IsRefusedReply (answers_from (W.state world.old).known whole
         files.now.dialogue.now.setting (is_state kept.old) has_table) said.now kept.old
         (O.state out.old).contents (O.state out.new).contents (O.state out.new).failed S.told
         speaker.old speaker.new) }
@@ -179,12 +188,13 @@ fn reply_to<Rt: Threads + Sync, O: Sink, S: Speaker>(
     requires workers { WorkersFit files.now.dialogue.now.setting.workers }
     requires out { (O.state out.old).failed ≡ false }
     requires asks { is_state kept.now ≡ true → needs_events job.now ≡ false }
-    ensures ok { (world : Known) → IfOk result (Replies (answers_from world
+    ensures ok { (world : Known) (whole : WorldChange) → IfOk result (Replies (answers_from world whole
         files.now.dialogue.now.setting (is_state kept.now) has_table) (S.wants_notes speaker.old)
         (Said.Asks job.now) kept.now kept.now (O.state out.old).contents (O.state out.new).contents
         S.told speaker.old speaker.new) }
     ensures fine { OnOk result ((O.state out.new).failed ≡ false) }
-    ensures err { (world : Known) → IfErr result (IsRefusedReply (answers_from world
+    ensures err { (world : Known) (whole : WorldChange)
+        → IfErr result (IsRefusedReply (answers_from world whole
         files.now.dialogue.now.setting (is_state kept.now) has_table) (Said.Asks job.now) kept.now
         (O.state out.old).contents (O.state out.new).contents (O.state out.new).failed S.told
         speaker.old speaker.new) }

@@ -7,8 +7,9 @@ ghost use Rattle.htl_dialogue.specs.Replying.{IsRefusedReply, Replies};
 ghost use Rattle.htl_dialogue.specs.declared.saying.Said.TheVariants as said;
 ghost use Rattle.htl_main.specs.Folding.{IsHalfKnown};
 ghost use Rattle.htl_world.specs.Rounds.{Asks};
-ghost use Rattle.htl_world.specs.Worlds.{Known, change};
-ghost use Rattle.htl_ask.specs.Loads.{MergesFile, MergesFolded, WritesFile, answers_from, is_state};
+ghost use Rattle.htl_world.specs.Worlds.{Known, WorldChange, change};
+ghost use Rattle.htl_ask.specs.Loads.{IsPartOf, MergesFile, MergesFolded, WritesFile};
+ghost use Rattle.htl_ask.specs.Loads.{answers_from, is_state};
 ghost use Rattle.htl_ask.specs.LineRounds.{ReadsFor, ReadsOne, WritesOne};
 
 use crate::dialogue::{fault_of, write};
@@ -37,13 +38,15 @@ pub(crate) fn reply_to_merge<Rt: Threads + Sync, W: World, O: Sink, S: Speaker>(
 ) -> Result<Conversed, DialogueFault>
     requires out { (O.state out.old).failed ≡ false }
     requires form { is_state kept.old ≡ true }
-    ensures ok { (has_table : Bool) → IfOk result (Replies (answers_from (W.state world.old).known
+    ensures ok { (whole : WorldChange) (has_table : Bool)
+        → IfOk result (Replies (answers_from (W.state world.old).known whole
         files.now.dialogue.now.setting (is_state kept.old) has_table) (S.wants_notes speaker.old)
         (said.Merges name.now) kept.old kept.new (O.state out.old).contents
         (O.state out.new).contents S.told speaker.old speaker.new) }
     ensures fine { OnOk result ((O.state out.new).failed ≡ false) }
-    ensures err { (has_table : Bool) → IfErr result (IsRefusedReply (answers_from
-        (W.state world.old).known files.now.dialogue.now.setting (is_state kept.old) has_table)
+    ensures err { (whole : WorldChange) (has_table : Bool)
+        → IfErr result (IsRefusedReply (answers_from (W.state world.old).known whole
+        files.now.dialogue.now.setting (is_state kept.old) has_table)
         (said.Merges name.now) kept.old (O.state out.old).contents (O.state out.new).contents
         (O.state out.new).failed S.told speaker.old speaker.new) }
     ensures same { S.wants_notes speaker.new ≡ S.wants_notes speaker.old }
@@ -73,13 +76,17 @@ pub(crate) fn reply_to_save<Rt: Threads + Sync, W: World, O: Sink, S: Speaker>(
 ) -> Result<Conversed, DialogueFault>
     requires out { (O.state out.old).failed ≡ false }
     requires form { is_state kept.now ≡ true }
-    ensures ok { (known : Known) (has_table : Bool) → IfOk result (Replies (answers_from known
+    ensures ok { (known : Known) (whole : WorldChange) (has_table : Bool)
+        → IsPartOf (change (W.state world.old) (W.state world.new)) whole
+        → IfOk result (Replies (answers_from known whole
         files.now.dialogue.now.setting (is_state kept.now) has_table) (S.wants_notes speaker.old)
         (said.Saves name.now) kept.now kept.now (O.state out.old).contents
         (O.state out.new).contents S.told speaker.old speaker.new) }
     ensures fine { OnOk result ((O.state out.new).failed ≡ false) }
-    ensures err { (known : Known) (has_table : Bool) → IfErr result (IsRefusedReply (answers_from
-        known files.now.dialogue.now.setting (is_state kept.now) has_table) (said.Saves name.now)
+    ensures err { (known : Known) (whole : WorldChange) (has_table : Bool)
+        → IsPartOf (change (W.state world.old) (W.state world.new)) whole
+        → IfErr result (IsRefusedReply (answers_from known whole
+        files.now.dialogue.now.setting (is_state kept.now) has_table) (said.Saves name.now)
         kept.now (O.state out.old).contents (O.state out.new).contents (O.state out.new).failed
         S.told speaker.old speaker.new) }
     ensures same { S.wants_notes speaker.new ≡ S.wants_notes speaker.old }

@@ -16,6 +16,7 @@ use Rattle.htl_ask.proofs.Begun.{converses_begun, stops_begun}
 use Rattle.htl_ask.proofs.KeptLaws.{Holds, holds_absence, holds_outcome, reading_more}
 use Rattle.htl_ask.proofs.RestoringLaws.{states_alone, states_ended, states_then}
 use Rattle.htl_ask.proofs.StateLaws.{merging_one, saving_one}
+use Rattle.htl_ask.proofs.Written.{back_of}
 use Rattle.htl_ask.proofs.conversing.ask_opened.Goals as goal
 
 -- a copied option is one where there is one
@@ -102,7 +103,7 @@ returns-clause-readers g c =
 pub returns-in_err-before-clause-outcome : goal.returns-in_err-before-clause-outcome
 returns-in_err-before-clause-outcome g c =
     let p = err_from_is_err_and c.from_residual.result c.from_residual.ensures.1 in
-    rw (p.1, p.2) (λ texts all states. inr (c.in_err-before.ensures.refused states))
+    λ whole part. rw (p.1, p.2) (λ texts all states. inr (c.in_err-before.ensures.refused states))
 
 pub returns-in_err-kept-clause-outcome : goal.returns-in_err-kept-clause-outcome
 returns-in_err-kept-clause-outcome g c =
@@ -111,7 +112,7 @@ returns-in_err-kept-clause-outcome g c =
     let back = take_front c.begin.new.inputs (drop (length c.begin.new.inputs) c.args.inputs.now.items) c.args.inputs.now.len kept in
     let of = c.args.files.now.dialogue.now in
     let outcome = rw c.in_ok-before.ensures.form at c.in_err-kept.ensures.outcome in
-    rw (back, ← c.deref_mut.ensures.value, p.1, p.2) (λ texts all states.
+    λ whole part. rw (back, ← c.deref_mut.ensures.value, p.1, p.2) (λ texts all states.
     inl (outcome (told_before states of) (c.in_ok-before.ensures.told states) texts all).0)
 
 pub returns-in_err-conversed-clause-outcome : goal.returns-in_err-conversed-clause-outcome
@@ -126,13 +127,13 @@ returns-in_err-conversed-clause-outcome g c =
     let told = c.forgets.ensures ∙ form in
     let known : (g.W.World.state c.folded_before.new.world).known ≡ world = c.in_ok-before.ensures.asked.known in
     let outcome = rw c.in_ok-before.ensures.form at c.in_ok-kept.ensures.outcome in
-    let one = answers_from world of.setting (is_state begun.kept) c.is_some.result in
     let same_table : c.is_some.result ≡ is_some symbols = c.is_some.ensures ∙ some_copied c.args.symbols in
     let fault = c.in_err-conversed.field-0.0 in
     let left = (g.Q.Source.state c.converse_lines.new.questions).remaining in
     let failed = (g.Q.Source.state c.converse_lines.new.questions).failed in
-    rw (p.1, p.2) (λ texts all states.
-    let other = answers_over world states of.setting (forgets of) symbols in
+    λ whole part. rw (p.1, p.2) (λ texts all states.
+    let one = answers_from world whole of.setting (is_state begun.kept) c.is_some.result in
+    let other = answers_over world states whole of.setting (forgets of) symbols in
     let are = outcome (told_before states of) (c.in_ok-before.ensures.told states) texts (rw c.deref_mut.ensures.value all) in (
       are.read,
       opening,
@@ -147,10 +148,10 @@ returns-in_err-conversed-clause-outcome g c =
           (λ before known job absence holds has. holds_absence of.setting symbols before known job absence holds has)
           (λ before known names after ended holds reads. reading_more world of.setting symbols names before known after ended holds reads)
           (λ before known name after ended holds is. merging_one world states of.setting symbols name before known after ended holds is)
-          (λ before known name ended holds is. saving_one of.setting symbols before known name ended holds is)
+          (λ before known name ended holds is. saving_one whole of.setting symbols before known name ended holds is)
           (g.S.Speaker.wants_notes c.args.speaker.now) begun.kept are.read lines left failed _ fault
           (record { covered = c.in_ok-kept.ensures.coverage; are = are.kept })
-          (rw (c.hears.ensures.same, known) at c.in_err-conversed.ensures.stops lines asked)),
+          (rw (c.hears.ensures.same, known) at c.in_err-conversed.ensures.stops whole (back_of part c.in_ok-before.ensures.asked) lines asked)),
     ))
 
 pub returns-clause-outcome : goal.returns-clause-outcome
@@ -164,11 +165,11 @@ returns-clause-outcome g c =
     let told = c.forgets.ensures ∙ form in
     let known : (g.W.World.state c.folded_before.new.world).known ≡ world = c.in_ok-before.ensures.asked.known in
     let outcome = rw c.in_ok-before.ensures.form at c.in_ok-kept.ensures.outcome in
-    let one = answers_from world of.setting (is_state begun.kept) c.is_some.result in
     let same_table : c.is_some.result ≡ is_some symbols = c.is_some.ensures ∙ some_copied c.args.symbols in
     let conversed = c.in_ok-conversed.conversed in
-    λ texts all states.
-    let other = answers_over world states of.setting (forgets of) symbols in
+    λ whole part texts all states.
+    let one = answers_from world whole of.setting (is_state begun.kept) c.is_some.result in
+    let other = answers_over world states whole of.setting (forgets of) symbols in
     let are = outcome (told_before states of) (c.in_ok-before.ensures.told states) texts (rw c.deref_mut.ensures.value all) in (
       are.read,
       opening,
@@ -183,10 +184,10 @@ returns-clause-outcome g c =
           (λ before known job absence holds has. holds_absence of.setting symbols before known job absence holds has)
           (λ before known names after ended holds reads. reading_more world of.setting symbols names before known after ended holds reads)
           (λ before known name after ended holds is. merging_one world states of.setting symbols name before known after ended holds is)
-          (λ before known name ended holds is. saving_one of.setting symbols before known name ended holds is)
+          (λ before known name ended holds is. saving_one whole of.setting symbols before known name ended holds is)
           (g.S.Speaker.wants_notes c.args.speaker.now) begun.kept are.read lines _ conversed
           (record { covered = c.in_ok-kept.ensures.coverage; are = are.kept })
-          (rw (c.hears.ensures.same, known) at c.in_ok-conversed.ensures.ok lines asked)),
+          (rw (c.hears.ensures.same, known) at c.in_ok-conversed.ensures.ok whole (back_of part c.in_ok-before.ensures.asked) lines asked)),
     )
 
 pub returns-in_err-kept-clause-between : goal.returns-in_err-kept-clause-between

@@ -6,6 +6,7 @@ use Rattle.htl_inputs.specs.declared.fault.RunFault.{RunFault}
 use Rattle.htl_main.specs.Origins.{by_fault}
 use Rattle.htl_main.specs.declared.origin.Between.TheVariants.{Nothing}
 use Rattle.htl_world.specs.Readings.{AreUnread}
+use Rattle.htl_world.specs.Worlds.{change}
 use Rattle.htl_world.proofs.Asked.{all_ended, all_then}
 use Rattle.htl_world.proofs.NamesRead.{inputs_unread, lefts_of, unread_asks}
 use Rattle.htl_world.proofs.PassedOn.{ends_so, no_end}
@@ -14,6 +15,7 @@ use Rattle.htl_ask.specs.Beginnings.{IsBeginsBetween, forgets}
 use Rattle.htl_ask.specs.LineRounds.{AsksLater, ReadsStates}
 use Rattle.htl_ask.proofs.RestoringLaws.{behind_read}
 use Rattle.htl_ask.proofs.Unread.{about_no_two}
+use Rattle.htl_ask.proofs.Written.{back_of, whole_itself}
 use Rattle.htl_ask.proofs.conversing.converse.Goals as goal
 
 -- what could not be opened is about no two segments
@@ -36,10 +38,11 @@ returns-in-Ok-clause-conversed g c =
     let held = c.ask_opened.ensures in
     let ended = before_dialogue c.ask_opened.result in
     let reading = rw (known, sources) at held.reading in
+    let whole = change (g.W.World.state c.args.world.now) (g.W.World.state c.ask_opened.new.world) in
     record {
       outcome = λ texts table all has states.
           rw (is.read table (rw (← c.as_ref.ensures.value) at has), ← c.as_bytes-symbols.ensures)
-          ((rw known at held.outcome) texts (bytes ∙ all) states);
+          ((rw known at held.outcome whole (back_of (whole_itself whole) is.asked)) texts (bytes ∙ all) states);
       devices = held.devices;
       between = λ texts all. held.between texts (bytes ∙ all);
       states = rw known at held.states;

@@ -1,17 +1,45 @@
 -- One line after the other gets its reply and its notes, up to the last.
-use Rattle.std.proofs.Common.{◌≡◌, ◌∙◌, true, false, None, Err, refl, sym, ap, rules, inl, inr}
+use Rattle.std.proofs.Common.{◌≡◌, ◌∙◌, ℕ, Bool, List, Option, true, false, None, Err, refl, sym, ap, rules, inl, inr}
 use Rattle.std.specs.Io.KnownBytes.{prepend_known}
 use Rattle.std.proofs.KnownBytes.{prepend_known-nil}
 use Rattle.std.proofs.lemmas.Result.{err_from_is_err_and}
 use Rattle.htl_device.specs.declared.whole.TheConstants.{MAX_READS}
-use Rattle.htl_dialogue.specs.Dialogues.{AreRead, is_end}
+use Rattle.htl_dialogue.specs.Dialogues.{Answers, AreRead, is_end}
+use Rattle.htl_dialogue.specs.Notes.{OwnNote}
+use Rattle.htl_dialogue.specs.Replying.{IsRefusedReply}
 use Rattle.htl_dialogue.specs.Sayings.{saying, turn}
+use Rattle.htl_dialogue.specs.declared.dialogue.DialogueFault.{DialogueFault}
+use Rattle.htl_dialogue.specs.declared.dialogue.DialogueFault.TheVariants as stops
+use Rattle.htl_dialogue.specs.declared.saying.Said.{Said}
 use Rattle.htl_dialogue.proofs.Conversing.{begins, ended, replied, replied_last}
 use Rattle.htl_dialogue.proofs.Stopping.{all_read, before_read, read_failed, stopped, stopped_between, too_many, unreplied}
+use Rattle.htl_world.specs.Worlds.{change}
 use Rattle.htl_ask.specs.Loads.{is_state}
 use Rattle.htl_ask.proofs.LinesAsked.{all_so_far, last_so_far, line_so_far, none_so_far}
 use Rattle.htl_ask.proofs.OfForm.{of_form}
+use Rattle.htl_ask.proofs.Written.{back_of, front_of, whole_itself}
 use Rattle.htl_ask.proofs.dialogue.converse_lines.Goals as goal
+
+-- a line got no reply since memory was refused or a write failed
+module _ {S Speaker : Type 0} (answers : Answers S) (of : Said) (before : S) (old new : Option (List ℕ)) (failed : Bool)
+    (told : Speaker → OwnNote → Speaker) (speaker heard : Speaker) where
+  no_questions : (fault : DialogueFault) → IsRefusedReply answers of before old new failed told speaker heard fault
+      → fault ≡ stops.Questions → ⊥
+  no_questions stops.NoMemory is other = absurd (cc other)
+  no_questions stops.Write is other = absurd (cc other)
+  no_questions stops.Questions is other = absurd is
+
+  write_told : (fault : DialogueFault) → IsRefusedReply answers of before old new failed told speaker heard fault → failed ≡ true
+      → fault ≡ stops.Write
+  write_told stops.NoMemory is fails = absurd (let bad = sym is.1 ∙ fails in cc)
+  write_told stops.Write is fails = refl
+  write_told stops.Questions is fails = absurd is
+
+  write_failed : (fault : DialogueFault) → IsRefusedReply answers of before old new failed told speaker heard fault
+      → fault ≡ stops.Write → failed ≡ true
+  write_failed stops.NoMemory is other = absurd (cc other)
+  write_failed stops.Write is other = is.0
+  write_failed stops.Questions is other = absurd is
 
 pub loop-line-init : goal.loop-line-init
 loop-line-init g c = record {
@@ -22,7 +50,7 @@ loop-line-init g c = record {
   wants = refl;
   asked = none_so_far _ (g.Q.Source.state c.args.questions.now).remaining _ (g.W.World.state c.args.world.now)
       (rw (c.in_ok-held.ensures, prepend_known-nil (g.Q.Source.state c.args.questions.now).remaining) refl);
-  so_far = λ text known. begins c.fine-conversed.result
+  so_far = λ whole part text known. begins c.fine-conversed.result
       (rw (c.in_ok-held.ensures, prepend_known-nil (g.Q.Source.state c.args.questions.now).remaining) known)
       c.fine-conversed.ensures.wrong c.fine-conversed.ensures.first;
 }
@@ -42,13 +70,13 @@ loop-line-preserved g c =
       asked = line_so_far inv.asked
           (record { found = c.in_ok-next.ensures.ok; says = rw alike at c.in_ok-said.ensures.said; keeps = rw alike at c.in_ok-said.ensures.fault })
           goes_on c.reply.ensures.asked c.used-process.result c.used-process.ensures c.if-next.false;
-      so_far = λ text known. replied (inv.so_far text known)
+      so_far = λ whole part text known. replied (inv.so_far whole (front_of part c.reply.ensures.asked.1) text known)
           (record { found = c.in_ok-next.ensures.ok; says = rw alike at c.in_ok-said.ensures.said; keeps = rw alike at c.in_ok-said.ensures.fault }) goes_on
           c.used-process.ensures (record {
             waiting = c.hears.new.self;
             waited = c.hears.ensures.told;
             line = c.in_ok-line.line;
-            replies = rw (inv.form, same, inv.asked.1.known) at c.in_ok-line.ensures.ok;
+            replies = rw (inv.form, same, inv.asked.1.known) at c.in_ok-line.ensures.ok whole (back_of part inv.asked.1);
             wrong = c.then-conversed.ensures.wrong;
             first = c.then-conversed.ensures.first;
           }) c.if-next.false;
@@ -66,13 +94,13 @@ returns-then-next-clause-ok g c =
     let alike : c.forgets.result ≡ is_state c.args.kept.now = c.forgets.ensures ∙ inv.form in
     let goes_on : is_end (saying c.in_ok-said.said) ≡ false = sym (c.ends.ensures) ∙ c.if-ends.false in
     let same = c.hears.ensures.same ∙ inv.wants in
-    λ text known. replied_last (inv.so_far text known)
+    λ whole part text known. replied_last (inv.so_far whole (front_of part c.reply.ensures.asked.1) text known)
     (record { found = c.in_ok-next.ensures.ok; says = rw alike at c.in_ok-said.ensures.said; keeps = rw alike at c.in_ok-said.ensures.fault }) goes_on
     (record {
       waiting = c.hears.new.self;
       waited = c.hears.ensures.told;
       line = c.in_ok-line.line;
-      replies = rw (inv.form, same, inv.asked.1.known) at c.in_ok-line.ensures.ok;
+      replies = rw (inv.form, same, inv.asked.1.known) at c.in_ok-line.ensures.ok whole (back_of part inv.asked.1);
       wrong = c.then-conversed.ensures.wrong;
       first = c.then-conversed.ensures.first;
     }) c.if-next.true
@@ -82,14 +110,14 @@ returns-then-ends-clause-ok g c =
     let inv = c.loop-line.invariant in
     let alike : c.forgets.result ≡ is_state c.args.kept.now = c.forgets.ensures ∙ inv.form in
     let ends : is_end (saying c.in_ok-said.said) ≡ true = sym (c.ends.ensures) ∙ c.if-ends.true in
-    λ text known. ended {after = prepend_known c.next_line.new.held (g.Q.Source.state c.next_line.new.source).remaining}
-    (inv.so_far text known) c.hears.ensures.told
+    λ whole part text known. ended {after = prepend_known c.next_line.new.held (g.Q.Source.state c.next_line.new.source).remaining}
+    (inv.so_far whole part text known) c.hears.ensures.told
     (record { found = c.in_ok-next.ensures.ok; says = rw alike at c.in_ok-said.ensures.said; keeps = rw alike at c.in_ok-said.ensures.fault }) ends
 
 pub returns-in_err-held-clause-stops : goal.returns-in_err-held-clause-stops
 returns-in_err-held-clause-stops g c =
     let p = err_from_is_err_and c.from_residual.result c.from_residual.ensures.1 in
-    λ text known. rw (p.1, p.2) (stopped_between (begins (record { has_wrong = false; first_fault = None }) known refl refl)
+    λ whole part text known. rw (p.1, p.2) (stopped_between (begins (record { has_wrong = false; first_fault = None }) known refl refl)
     (g.Q.Source.state c.args.questions.now).remaining (g.Q.Source.state c.args.questions.now).failed _ tt c.requires.questions.fine)
 
 pub returns-in_err-next-clause-stops : goal.returns-in_err-next-clause-stops
@@ -98,8 +126,8 @@ returns-in_err-next-clause-stops g c =
     let inv = c.loop-line.invariant in
     let left = (g.Q.Source.state c.next_line.new.source).remaining in
     let failed = (g.Q.Source.state c.next_line.new.source).failed in
-    λ text known.
-    let so_far = inv.so_far text known in
+    λ whole part text known.
+    let so_far = inv.so_far whole part text known in
     let in_time : failed ≡ true → AreRead text left so_far.lines = λ fails. all_read so_far left
     (rw (c.in_err-next.ensures.all fails, prepend_known-nil left) at c.in_err-next.ensures.begun) in
     rw (p.1, p.2) (stopped so_far left c.hears.new.self failed _ c.hears.ensures.told (before_read c.in_err-next.field-0.0) in_time)
@@ -119,7 +147,7 @@ returns-in_err-said-clause-stops g c =
     let p = err_from_is_err_and c.from_residual-in_err-said.result c.from_residual-in_err-said.ensures.1 in
     let failed = (g.Q.Source.state c.next_line.new.source).failed in
     let fine : failed ≡ false = search rules in
-    λ text known. rw (p.1, p.2) (stopped (c.loop-line.invariant.so_far text known) (g.Q.Source.state c.next_line.new.source).remaining
+    λ whole part text known. rw (p.1, p.2) (stopped (c.loop-line.invariant.so_far whole part text known) (g.Q.Source.state c.next_line.new.source).remaining
     c.hears.new.self failed _ c.hears.ensures.told tt (λ fails. absurd (let bad = sym fine ∙ fails in cc)))
 
 pub returns-in_err-line-clause-stops : goal.returns-in_err-line-clause-stops
@@ -130,21 +158,45 @@ returns-in_err-line-clause-stops g c =
     let goes_on : is_end (saying c.in_ok-said.said) ≡ false = sym (c.ends.ensures) ∙ c.if-ends.false in
     let failed = (g.Q.Source.state c.next_line.new.source).failed in
     let fine : failed ≡ false = search rules in
-    λ text known. rw (p.1, p.2) (unreplied (c.loop-line.invariant.so_far text known) (g.Q.Source.state c.next_line.new.source).remaining
+    λ whole part text known. rw (p.1, p.2) (unreplied (inv.so_far whole (front_of part c.reply.ensures.asked.1) text known)
+    (g.Q.Source.state c.next_line.new.source).remaining
     (g.O.Sink.state c.reply.new.out).contents c.hears.new.self c.reply.new.speaker failed (g.O.Sink.state c.reply.new.out).failed
     c.in_err-line.field-0.0 c.hears.ensures.told
     (record { found = c.in_ok-next.ensures.ok; says = rw alike at c.in_ok-said.ensures.said; keeps = rw alike at c.in_ok-said.ensures.fault }) goes_on
-    (rw (inv.form, inv.asked.1.known) at c.in_err-line.ensures.err) fine)
+    (rw (inv.form, inv.asked.1.known) at c.in_err-line.ensures.err whole (back_of part inv.asked.1)) fine)
+
+pub returns-in_err-line-clause-questions : goal.returns-in_err-line-clause-questions
+returns-in_err-line-clause-questions g c =
+    let p = err_from_is_err_and c.from_residual-in_err-line.result c.from_residual-in_err-line.ensures.1 in
+    let own = change (g.W.World.state c.loop-line.world) (g.W.World.state c.reply.new.world) in
+    λ is. absurd (no_questions _ _ _ _ _ _ _ _ _ c.in_err-line.field-0.0 (c.in_err-line.ensures.err own (whole_itself own))
+    (let same = sym p.1 ∙ is in sym p.2 ∙ cc))
+
+pub returns-in_err-line-clause-write : goal.returns-in_err-line-clause-write
+returns-in_err-line-clause-write g c =
+    let p = err_from_is_err_and c.from_residual-in_err-line.result c.from_residual-in_err-line.ensures.1 in
+    let own = change (g.W.World.state c.loop-line.world) (g.W.World.state c.reply.new.world) in
+    λ fails. rw (p.1, p.2) (ap (λ f. Err f)
+    (write_told _ _ _ _ _ _ _ _ _ c.in_err-line.field-0.0 (c.in_err-line.ensures.err own (whole_itself own)) fails))
+
+pub returns-in_err-line-clause-failed : goal.returns-in_err-line-clause-failed
+returns-in_err-line-clause-failed g c =
+    let p = err_from_is_err_and c.from_residual-in_err-line.result c.from_residual-in_err-line.ensures.1 in
+    let own = change (g.W.World.state c.loop-line.world) (g.W.World.state c.reply.new.world) in
+    λ is. write_failed _ _ _ _ _ _ _ _ _ c.in_err-line.field-0.0 (c.in_err-line.ensures.err own (whole_itself own))
+    (let same = sym p.1 ∙ is in sym p.2 ∙ cc)
 
 pub returns-clause-stops : goal.returns-clause-stops
 returns-clause-stops g c =
     let inv = c.loop-line.invariant in
-    λ text known. stopped_between (inv.so_far text known) (g.Q.Source.state c.loop-line.questions).remaining
+    λ whole part text known. stopped_between (inv.so_far whole part text known) (g.Q.Source.state c.loop-line.questions).remaining
     (g.Q.Source.state c.loop-line.questions).failed _ tt inv.readable
 
 pub returns-clause-questions : goal.returns-clause-questions
 returns-clause-questions g c =
-    λ _. inr (inr (too_many (g.Q.Source.state c.args.questions.now).remaining MAX_READS c.loop-line.invariant.so_far c.loop-line-test.false))
+    λ _. inr (inr (too_many (g.Q.Source.state c.args.questions.now).remaining MAX_READS
+    (c.loop-line.invariant.so_far (change (g.W.World.state c.args.world.now) (g.W.World.state c.loop-line.world)) (whole_itself _))
+    c.loop-line-test.false))
 
 pub returns-then-next-clause-asked : goal.returns-then-next-clause-asked
 returns-then-next-clause-asked g c =

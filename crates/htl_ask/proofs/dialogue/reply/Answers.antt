@@ -10,7 +10,7 @@ use Rattle.htl_ask.proofs.dialogue.reply.Goals as goal
 use Rattle.htl_dialogue.specs.Sayings.{saying}
 
 pub returns-in-Nothing-clause-ok : goal.returns-in-Nothing-clause-ok
-returns-in-Nothing-clause-ok g c =
+returns-in-Nothing-clause-ok g c = λ whole part.
     elim c.in-Nothing.is [
       | inl is ↦ rw is (record {
         reply = [];
@@ -38,7 +38,7 @@ returns-in-Nothing-clause-ok g c =
 
 pub returns-in_ok-write-in-Wrong-clause-ok : goal.returns-in_ok-write-in-Wrong-clause-ok
 returns-in_ok-write-in-Wrong-clause-ok g c =
-    rw (c.in-Wrong.is) (record {
+    λ whole part. rw (c.in-Wrong.is) (record {
       reply = 10 ∷ [];
       early = hear.Refuses c.in-Wrong.fault ∷ [];
       late = [];
@@ -54,7 +54,7 @@ pub returns-in_err-write-in-Wrong-clause-err : goal.returns-in_err-write-in-Wron
 returns-in_err-write-in-Wrong-clause-err g c =
     let p = err_from_is_err_and c.from_residual.result c.from_residual.ensures.1 in
     let failed = c.in_err-write-in-Wrong.ensures.err in
-    rw (p.1, p.2, failed.0, c.in-Wrong.is) (
+    λ whole part. rw (p.1, p.2, failed.0, c.in-Wrong.is) (
       failed.1,
       record {
         after = c.args.kept.now;
@@ -70,7 +70,7 @@ pub returns-in_ok-write-in-Reads-clause-ok : goal.returns-in_ok-write-in-Reads-c
 returns-in_ok-write-in-Reads-clause-ok g c =
     let ended = c.in_ok-ended-in-Reads.ended in
     let files = map string_bytes c.in-Reads.names.items in
-    rw (c.in-Reads.is) (record {
+    λ whole part. rw (c.in-Reads.is) (record {
       reply = reading_reply ended;
       early = hear.Reads files ended ∷ [];
       late = [];
@@ -88,7 +88,7 @@ returns-in_err-write-in-Reads-clause-err g c =
     let failed = rw (c.as_bytes.ensures.value, c.in_ok-text-in-Reads.ensures) at c.in_err-write-in-Reads.ensures.err in
     let ended = c.in_ok-ended-in-Reads.ended in
     let files = map string_bytes c.in-Reads.names.items in
-    rw (p.1, p.2, failed.0, c.in-Reads.is) (
+    λ whole part. rw (p.1, p.2, failed.0, c.in-Reads.is) (
       failed.1,
       record {
         after = c.read.new.kept;
@@ -116,10 +116,12 @@ returns-in-Nothing-clause-asked g c =
     ]
 
 pub returns-in-Asks-clause-ok : goal.returns-in-Asks-clause-ok
-returns-in-Asks-clause-ok g c = rw c.in-Asks.is (c.reply_to.ensures.ok (g.W.World.state c.args.world.now).known)
+returns-in-Asks-clause-ok g c =
+    λ whole part. rw c.in-Asks.is (c.reply_to.ensures.ok (g.W.World.state c.args.world.now).known whole)
 
 pub returns-in-Asks-clause-err : goal.returns-in-Asks-clause-err
-returns-in-Asks-clause-err g c = rw c.in-Asks.is (c.reply_to.ensures.err (g.W.World.state c.args.world.now).known)
+returns-in-Asks-clause-err g c =
+    λ whole part. rw c.in-Asks.is (c.reply_to.ensures.err (g.W.World.state c.args.world.now).known whole)
 
 pub returns-in-Asks-clause-asked : goal.returns-in-Asks-clause-asked
 returns-in-Asks-clause-asked g c =
@@ -139,7 +141,7 @@ returns-in_err-write-in-Reads-clause-asked g c = rw c.in-Reads.is (rw c.deref.en
 
 pub returns-in_ok-write-in-Uses-clause-ok : goal.returns-in_ok-write-in-Uses-clause-ok
 returns-in_ok-write-in-Uses-clause-ok g c =
-    rw (c.in-Uses.is) (record {
+    λ whole part. rw (c.in-Uses.is) (record {
       reply = using_reply c.in-Uses.process;
       early = [];
       late = [];
@@ -155,7 +157,7 @@ pub returns-in_err-write-in-Uses-clause-err : goal.returns-in_err-write-in-Uses-
 returns-in_err-write-in-Uses-clause-err g c =
     let p = err_from_is_err_and c.from_residual-in_err-write-in-Uses.result c.from_residual-in_err-write-in-Uses.ensures.1 in
     let failed = rw (c.as_bytes-in-Uses.ensures.value, c.in_ok-text-in-Uses.ensures) at c.in_err-write-in-Uses.ensures.err in
-    rw (p.1, p.2, failed.0, c.in-Uses.is) (
+    λ whole part. rw (p.1, p.2, failed.0, c.in-Uses.is) (
       failed.1,
       record {
         after = c.args.kept.now;
@@ -183,10 +185,10 @@ pub reply_to_merge-requires-clause-form : goal.reply_to_merge-requires-clause-fo
 reply_to_merge-requires-clause-form g c = λ lifetimes outlive. rw c.in-Merges.is at c.requires.asks
 
 pub returns-in-Merges-clause-ok : goal.returns-in-Merges-clause-ok
-returns-in-Merges-clause-ok g c = rw c.in-Merges.is (c.reply_to_merge.ensures.ok c.args.has_table)
+returns-in-Merges-clause-ok g c = λ whole part. rw c.in-Merges.is (c.reply_to_merge.ensures.ok whole c.args.has_table)
 
 pub returns-in-Merges-clause-err : goal.returns-in-Merges-clause-err
-returns-in-Merges-clause-err g c = rw c.in-Merges.is (c.reply_to_merge.ensures.err c.args.has_table)
+returns-in-Merges-clause-err g c = λ whole part. rw c.in-Merges.is (c.reply_to_merge.ensures.err whole c.args.has_table)
 
 pub returns-in-Merges-clause-asked : goal.returns-in-Merges-clause-asked
 returns-in-Merges-clause-asked g c = rw c.in-Merges.is c.reply_to_merge.ensures.asked
@@ -196,11 +198,11 @@ reply_to_save-requires-clause-form g c = λ lifetimes outlive. rw c.in-Saves.is 
 
 pub returns-in-Saves-clause-ok : goal.returns-in-Saves-clause-ok
 returns-in-Saves-clause-ok g c =
-    rw c.in-Saves.is (c.reply_to_save.ensures.ok (g.W.World.state c.args.world.now).known c.args.has_table)
+    λ whole part. rw c.in-Saves.is (c.reply_to_save.ensures.ok (g.W.World.state c.args.world.now).known whole c.args.has_table part)
 
 pub returns-in-Saves-clause-err : goal.returns-in-Saves-clause-err
 returns-in-Saves-clause-err g c =
-    rw c.in-Saves.is (c.reply_to_save.ensures.err (g.W.World.state c.args.world.now).known c.args.has_table)
+    λ whole part. rw c.in-Saves.is (c.reply_to_save.ensures.err (g.W.World.state c.args.world.now).known whole c.args.has_table part)
 
 pub returns-in-Saves-clause-asked : goal.returns-in-Saves-clause-asked
 returns-in-Saves-clause-asked g c = rw c.in-Saves.is c.reply_to_save.ensures.asked

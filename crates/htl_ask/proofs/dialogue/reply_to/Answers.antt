@@ -11,7 +11,7 @@ use Rattle.htl_ask.proofs.StateOutcomes.{late_refused, not_memory}
 use Rattle.htl_ask.proofs.dialogue.reply_to.Goals as goal
 
 pub returns-in_ok-write-in-Ok-clause-ok : goal.returns-in_ok-write-in-Ok-clause-ok
-returns-in_ok-write-in-Ok-clause-ok g c = λ world.
+returns-in_ok-write-in-Ok-clause-ok g c = λ world whole.
     let kept = c.args.kept.now in
     let complete = c.args.files.now.dialogue.now.setting.complete in
     let answer = c.in-Ok.field-0 in
@@ -32,7 +32,7 @@ returns-in_ok-write-in-Ok-clause-ok g c = λ world.
     }
 
 pub returns-in_ok-write-in-Err-clause-ok : goal.returns-in_ok-write-in-Err-clause-ok
-returns-in_ok-write-in-Err-clause-ok g c = λ world.
+returns-in_ok-write-in-Err-clause-ok g c = λ world whole.
     let other : is_memory c.in-Err.fault ≡ false = sym c.is_memory.ensures ∙ c.if-is_memory.false in
     let has = c.in-Err.ensures (not_memory c.in-Err.fault other) in
     record {
@@ -49,7 +49,7 @@ returns-in_ok-write-in-Err-clause-ok g c = λ world.
     }
 
 pub returns-in_err-write-in-Err-clause-err : goal.returns-in_err-write-in-Err-clause-err
-returns-in_err-write-in-Err-clause-err g c = λ world.
+returns-in_err-write-in-Err-clause-err g c = λ world whole.
     let p = err_from_is_err_and c.from_residual-in_err-write-in-Err.result c.from_residual-in_err-write-in-Err.ensures.1 in
     let failed = c.in_err-write-in-Err.ensures.err in
     let other : is_memory c.in-Err.fault ≡ false = sym c.is_memory.ensures ∙ c.if-is_memory.false in

@@ -10,7 +10,7 @@ pub returns-clause-ok : goal.returns-clause-ok
 returns-clause-ok g c =
     let ended = c.in_ok-ended.ended in
     let files = string_bytes c.args.name.now ∷ [] in
-    λ has_table. record {
+    λ whole has_table. record {
       reply = merging_reply ended;
       early = hear.Reads files ended ∷ [];
       late = [];
@@ -27,7 +27,7 @@ returns-in_err-write-clause-err g c =
     let p = err_from_is_err_and c.from_residual-in_err-write.result c.from_residual-in_err-write.ensures.1 in
     let failed = rw (c.as_bytes.ensures.value, c.in_ok-text.ensures) at c.in_err-write.ensures.err in
     let ended = c.in_ok-ended.ended in
-    λ has_table. rw (p.1, p.2, failed.0) (
+    λ whole has_table. rw (p.1, p.2, failed.0) (
       failed.1,
       record {
         after = c.merge.new.kept;

@@ -9,8 +9,10 @@ use Rattle.htl_ask.proofs.states.reply_to_save.Goals as goal
 pub returns-clause-ok : goal.returns-clause-ok
 returns-clause-ok g c =
     let ended = c.in_ok-ended.ended in
-    let saved = written_file _ c.args.kept.now (string_bytes c.args.name.now) ended (rw c.deref.ensures at c.in_ok-ended.ensures.saved) in
-    λ known has_table. record {
+    λ known whole has_table part.
+    let saved = written_file _ whole part c.args.kept.now (string_bytes c.args.name.now) ended
+    (rw c.deref.ensures at c.in_ok-ended.ensures.saved) in
+    record {
       reply = saving_reply ended;
       early = unsaved_note ended;
       late = [];
@@ -27,8 +29,10 @@ returns-in_err-write-clause-err g c =
     let p = err_from_is_err_and c.from_residual-in_err-write.result c.from_residual-in_err-write.ensures.1 in
     let failed = rw (c.as_bytes.ensures.value, c.in_ok-text.ensures) at c.in_err-write.ensures.err in
     let ended = c.in_ok-ended.ended in
-    let saved = written_file _ c.args.kept.now (string_bytes c.args.name.now) ended (rw c.deref.ensures at c.in_ok-ended.ensures.saved) in
-    λ known has_table. rw (p.1, p.2, failed.0) (
+    λ known whole has_table part.
+    let saved = written_file _ whole part c.args.kept.now (string_bytes c.args.name.now) ended
+    (rw c.deref.ensures at c.in_ok-ended.ensures.saved) in
+    rw (p.1, p.2, failed.0) (
       failed.1,
       record {
         after = c.args.kept.now;

@@ -44,8 +44,8 @@ Arguments:
 
 The new file takes the place of an old one as a whole, also where the machine
 stops in between. The reply, as 'saved bytes=4096', comes once it is on the
-disk. 'merge' reads it, in this dialogue or another one, and 'hleak ask --state'
-begins with it. Only with --fold.
+disk. 'merge' reads it, in this dialogue or another one, and so does --state of
+'hleak ask' and of a question, as 'hleak leaks'. Only with --fold.
 ";
 
 const USE: &str = "\
